@@ -1,0 +1,71 @@
+//! The lists of every layer: they grow at their end and are read by place.
+
+ghost use Rattle.std.specs.Prelude.{◌≡◌, ◌==◌, [], ◌∷◌, ◌++◌, length, slice_get, OnOk, OnErr};
+ghost use Rattle.std.specs.Option.{option_copied};
+
+use std::alloc::{AllocError, Global};
+use std::marker::Model;
+
+/// A list of items, seen by contracts as that list.
+#[derive(Debug, Drop)]
+pub struct ItemList<T> {
+    items: Vec<T>,
+}
+
+impl<T> Model for ItemList<T> {
+    ghost use Rattle.std.specs.Prelude.{List};
+
+    ghost Value = { List T };
+
+    ghost view = { λ l. l.items.items };
+}
+
+impl<T> ItemList<T> {
+    /// The empty list.
+    pub fn new(alloc: Global) -> ItemList<T>
+        ensures { result ≡ [] }
+    {
+        ItemList {
+            items: Vec::new(alloc),
+        }
+    }
+
+    /// How many items there are.
+    pub fn len(&self) -> usize
+        ensures { result ≡ length self.now }
+    {
+        self.items.len()
+    }
+
+    /// Whether there is no item.
+    pub fn is_empty(&self) -> bool
+        ensures { result ≡ (length self.now == 0) }
+    {
+        self.items.is_empty()
+    }
+
+    /// The items in order, lent.
+    pub fn as_slice(&self) -> &[T]
+        ensures { result.now ≡ self.now }
+    {
+        self.items.as_slice()
+    }
+
+    /// The item at a place counted from 0, or None past the end.
+    pub fn get(&self, index: usize) -> Option<&T>
+        ensures { option_copied result ≡ slice_get self.now index }
+    {
+        self.items.as_slice().get(index)
+    }
+}
+
+impl<T: Drop> ItemList<T> {
+    /// Puts the item at the end; without memory the item is dropped and the list stays as it was.
+    pub fn push(&mut self, item: T) -> Result<(), AllocError>
+        ensures pushed { OnOk result (self.new ≡ self.old ++ item ∷ []) }
+        ensures unchanged { OnErr result (self.new ≡ self.old) }
+    {
+        self.items.push(item)?;
+        Ok(())
+    }
+}
