@@ -39,3 +39,14 @@ impl Text {
         self.inner.as_str()
     }
 }
+
+impl From<String> for Text {
+    ghost use Rattle.std.specs.Prelude.{◌≡◌, string_bytes};
+
+    ghost from_gives = { λ string text. text ≡ string_bytes string };
+
+    /// The text with the string's characters, which are not copied.
+    fn from(string: String) -> Text {
+        Text { inner: string }
+    }
+}
