@@ -1,0 +1,4 @@
+pub mod Lines
+pub mod PlainText
+pub mod PlainDraft
+pub mod WellNested

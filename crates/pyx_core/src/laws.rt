@@ -1,0 +1,18 @@
+//! Laws of the definitions, for the proofs of callers.
+
+ghost use Rattle.pyx_core.specs.WellNested.{PlainEventsAreOneElement, PlainEventsAreFew, PlainNamesAreLocal};
+
+/// The events of plain text are those of one element, with others nested well in it.
+pub fn plain_events_are_one_element()
+    ensures { PlainEventsAreOneElement }
+{}
+
+/// Plain text has no more events than bytes.
+pub fn plain_events_are_few()
+    ensures { PlainEventsAreFew }
+{}
+
+/// A name of plain text has a character and no colon.
+pub fn plain_names_are_local()
+    ensures { PlainNamesAreLocal }
+{}
