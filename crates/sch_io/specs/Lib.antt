@@ -1,0 +1,9 @@
+pub mod Calls
+pub mod Counts
+pub mod Files
+pub mod HostShelf
+pub mod MemoryShelf
+pub mod MemorySink
+pub mod NamedFiles
+pub mod Reading
+pub mod Wrote

@@ -1,0 +1,55 @@
+//! A sink over a writer of the host.
+
+ghost use Rattle.std.specs.Prelude.{◌≡◌, None};
+
+use crate::error::Failed;
+use crate::sink::Sink;
+use std::io::Write;
+use std::marker::Model;
+
+/// A sink that writes to the host, as standard output and standard error; seen by contracts as its count of faults.
+///
+/// It tells nothing of the bytes, holds none back, and counts each failure of the host, whatever its cause.
+#[derive(Drop)]
+pub struct HostSink<W> {
+    writer: W,
+    faults: u64,
+}
+
+impl<W> Model for HostSink<W> {
+    ghost use Rattle.std.specs.Prelude.{ℕ};
+
+    ghost Value = { ℕ };
+
+    ghost view = { λ s. s.faults };
+}
+
+impl<W: Write> HostSink<W> {
+    /// A sink over the writer, with no fault so far.
+    pub fn new(writer: W) -> HostSink<W>
+        ensures { result ≡ 0 }
+    {
+        HostSink { writer, faults: 0 }
+    }
+}
+
+impl<W: Write> Sink for HostSink<W> {
+    ghost written = { λ _. None };
+
+    ghost faults = { λ s. s };
+
+    fn write(&mut self, piece: &[u8]) -> Result<usize, Failed> {
+        match self.writer.write(piece) {
+            Ok(n) => {
+                if n == 0 && !piece.is_empty() {
+                    self.faults = self.faults.saturating_add(1);
+                }
+                Ok(n)
+            }
+            Err(_) => {
+                self.faults = self.faults.saturating_add(1);
+                Err(Failed)
+            }
+        }
+    }
+}

@@ -1,0 +1,28 @@
+//! The outside: shelves that files are read from, sinks that bytes are written to, and the calls that move whole
+//! files and whole texts.
+#![tactic(auto)]
+
+mod bytes;
+mod calls;
+mod error;
+mod host_shelf;
+mod host_sink;
+mod memory_shelf;
+mod memory_sink;
+mod reading;
+mod shelf;
+mod sink;
+#[cfg(test)]
+mod tests;
+mod writing;
+
+pub use bytes::Bytes;
+pub use error::{Failed, OpenError, ReadError};
+pub use host_shelf::{HostShelf, STANDARD_INPUT};
+pub use host_sink::HostSink;
+pub use memory_shelf::MemoryShelf;
+pub use memory_sink::MemorySink;
+pub use reading::{MAX_FILE_BYTES, read_all};
+pub use shelf::Shelf;
+pub use sink::Sink;
+pub use writing::{write_all, write_pieces};

@@ -1,0 +1,197 @@
+//! A shelf that keeps its files in memory.
+
+ghost use Rattle.std.specs.Prelude.{◌≡◌, ◌<◌, ◌≤◌, [], ◌∷◌, ◌++◌, length, take, min, map, ◌↔◌, IsTrue, None, Some, OnOk, OnErr, IfOk, IsErrOf, MatchOption, is_err};
+ghost use Rattle.std.specs.FinMap as maps;
+ghost use Rattle.std.specs.Ordering.{nat_cmp};
+ghost use Rattle.std.specs.Cmp.Lexicographic.{slice_cmp};
+ghost use Rattle.std.specs.Io.{ReadsAtMost};
+ghost use Rattle.std.specs.Io.KnownBytes.{ReadConsumes};
+ghost use Rattle.sch_io.specs.Counts.{Rose, CountsTaken};
+ghost use Rattle.sch_io.specs.Files.{Opens};
+ghost use Rattle.sch_io.specs.Calls.{fails_next, made_next};
+ghost use Rattle.sch_io.specs.NamedFiles.{entry_of, content_at};
+
+use crate::calls::Calls;
+use crate::error::{Failed, OpenError};
+use crate::shelf::Shelf;
+use std::alloc::{AllocError, Global};
+use std::marker::Model;
+
+#[derive(Debug, Drop)]
+struct NamedFile {
+    name: String,
+    content: Vec<u8>,
+}
+
+// The place of the open file and how many of its bytes were read.
+#[derive(Clone, Copy, Debug)]
+struct OpenFile {
+    place: usize,
+    at: usize,
+}
+
+/// A shelf in memory, of whose calls of `open` and `read` chosen ones fail.
+///
+/// It keeps the files newest first, and an old content of a name behind the new one, so that `open` looks through
+/// all that were put.
+#[derive(Debug, Drop)]
+pub struct MemoryShelf {
+    alloc: Global,
+    files: Vec<NamedFile>,
+    open_file: Option<OpenFile>,
+    calls: Calls,
+    faults: u64,
+    misses: u64,
+}
+
+impl Model for MemoryShelf {
+    ghost use Rattle.sch_io.specs.MemoryShelf.{Shelved, shelved_code};
+
+    ghost Value = { Shelved };
+
+    ghost coded = { shelved_code };
+
+    ghost use Rattle.sch_io.specs.NamedFiles.{files_of, rest_of, taken_of, IsWithin};
+
+    ghost view = { λ s. record { files = files_of s.files.items; rest = rest_of s.files.items s.open_file; taken = taken_of s.open_file; calls = s.calls; faults = s.faults; misses = s.misses } };
+
+    ghost invariant = { λ s. IsWithin s.files.items s.open_file };
+}
+
+impl MemoryShelf {
+    /// A shelf without files.
+    pub fn new(alloc: Global) -> MemoryShelf
+        ensures { result ≡ record { files = maps.empty; rest = []; taken = 0; calls = record { made = 0; failing = [] }; faults = 0; misses = 0 } }
+    {
+        MemoryShelf {
+            alloc,
+            files: Vec::new(alloc),
+            open_file: None,
+            calls: Calls::new(alloc),
+            faults: 0,
+            misses: 0,
+        }
+    }
+
+    /// Sets the content of the name, in place of an old one; afterwards no file is open.
+    pub fn put(&mut self, name: &str, bytes: &[u8]) -> Result<(), AllocError>
+        ensures put { OnOk result (self.new ≡ record self.old { files = maps.insert self.old.files name.now bytes.now; rest = []; taken = 0 }) }
+        ensures unchanged { OnErr result (self.new ≡ self.old) }
+    {
+        let name = String::from_str(self.alloc, name)?;
+        let content = Vec::from_slice(self.alloc, bytes)?;
+        self.files.insert(0, NamedFile { name, content })?;
+        self.open_file = None;
+        Ok(())
+    }
+
+    /// Lets the call of `open` or `read` of that number fail, the first being 1.
+    pub fn fail_at(&mut self, call: u64) -> Result<(), AllocError>
+        ensures planned { OnOk result (self.new ≡ record self.old { calls = record self.old.calls { failing = self.old.calls.failing ++ call ∷ [] } }) }
+        ensures unchanged { OnErr result (self.new ≡ self.old) }
+    {
+        self.calls.fail_at(call)
+    }
+}
+
+impl Shelf for MemoryShelf {
+    ghost files = { λ s. Some s.files };
+
+    ghost rest = { λ s. Some s.rest };
+
+    ghost taken = { λ s. s.taken };
+
+    ghost faults = { λ s. s.faults };
+
+    ghost misses = { λ s. s.misses };
+
+    /// Fails exactly at the calls given to `fail_at`.
+    fn open(&mut self, name: &str) -> Result<(), OpenError>
+        ensures opened { Opens (Some self.new.files) (Some self.new.rest) name.now result }
+        ensures fresh { self.new.taken ≡ 0 }
+        ensures held { self.new.files ≡ self.old.files }
+        ensures missing { IsErrOf result OpenError.Missing → Rose self.old.misses self.new.misses }
+        ensures failed { IsErrOf result OpenError.Failed → Rose self.old.faults self.new.faults }
+        ensures faults_later { self.old.faults ≤ self.new.faults }
+        ensures misses_later { self.old.misses ≤ self.new.misses }
+        ensures chosen { IsErrOf result OpenError.Failed ↔ IsTrue (fails_next self.old.calls) }
+        ensures no_fault { OnOk result (self.new.faults ≡ self.old.faults) }
+        ensures no_miss { OnOk result (self.new.misses ≡ self.old.misses) }
+        ensures counted { self.new.calls ≡ made_next self.old.calls }
+    {
+        self.open_file = None;
+        if self.calls.next() {
+            self.faults = self.faults.saturating_add(1);
+            return Err(OpenError::Failed);
+        }
+        match place_of(self.files.as_slice(), name) {
+            Some(place) => {
+                self.open_file = Some(OpenFile { place, at: 0 });
+                Ok(())
+            }
+            None => {
+                self.misses = self.misses.saturating_add(1);
+                Err(OpenError::Missing)
+            }
+        }
+    }
+
+    /// Fails exactly at the calls given to `fail_at`; otherwise gives what is left, as far as `buf` goes.
+    fn read(&mut self, buf: &mut [u8]) -> Result<usize, Failed>
+        requires { 0 < length buf.old }
+        ensures bound { ReadsAtMost result buf.new }
+        ensures bytes { ReadConsumes (Some self.old.rest) (Some self.new.rest) result buf.new }
+        ensures taken { CountsTaken self.old.taken self.new.taken result }
+        ensures held { self.new.files ≡ self.old.files }
+        ensures failed { OnErr result (Rose self.old.faults self.new.faults) }
+        ensures faults_later { self.old.faults ≤ self.new.faults }
+        ensures misses_later { self.old.misses ≤ self.new.misses }
+        ensures chosen { is_err result ≡ fails_next self.old.calls }
+        ensures fills { IfOk result (λ n. n ≡ min (length self.old.rest) (length buf.old)) }
+        ensures no_fault { OnOk result (self.new.faults ≡ self.old.faults) }
+        ensures no_miss { self.new.misses ≡ self.old.misses }
+        ensures counted { self.new.calls ≡ made_next self.old.calls }
+    {
+        if self.calls.next() {
+            self.faults = self.faults.saturating_add(1);
+            return Err(Failed);
+        }
+        let Some(open_file) = self.open_file else {
+            return Ok(0);
+        };
+        let Some(file) = self.files.get(open_file.place) else {
+            return Ok(0);
+        };
+        let n = copy_front(&file.content.as_slice()[open_file.at..], buf);
+        self.open_file = Some(OpenFile {
+            place: open_file.place,
+            at: open_file.at + n,
+        });
+        Ok(n)
+    }
+}
+
+// The place of the first file of that name.
+fn place_of(files: &[NamedFile], name: &str) -> Option<usize>
+    ensures { MatchOption result
+        (maps.find (slice_cmp nat_cmp) name.now (map entry_of files.now) ≡ None)
+        (λ place. maps.find (slice_cmp nat_cmp) name.now (map entry_of files.now) ≡ Some (content_at files.now place)) }
+{
+    for (place, file) in files.iter().enumerate() {
+        if name == file.name.as_str() {
+            return Some(place);
+        }
+    }
+    None
+}
+
+// Copies the front of `rest` that fits into `buf`, and answers its length.
+fn copy_front(rest: &[u8], buf: &mut [u8]) -> usize
+    ensures fits { result ≡ min (length rest.now) (length buf.old) }
+    ensures copied { take result buf.new ≡ take result rest.now }
+    ensures same_len { length buf.new ≡ length buf.old }
+{
+    let n = rest.len().min(buf.len());
+    buf[..n].copy_from_slice(&rest[..n]);
+    n
+}
