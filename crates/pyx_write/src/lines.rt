@@ -1,0 +1,78 @@
+//! The lines of PYX.
+
+ghost use Rattle.std.specs.Prelude.{◌++◌, codes};
+ghost use Rattle.sch_io.specs.Wrote.{Wrote, joined};
+ghost use Rattle.pyx_write.specs.Escapes.{escaped};
+ghost use Rattle.pyx_write.specs.Lines.{start_line, attr_line, end_line, chars_line, pi_line, comment_line};
+
+use crate::escapes::write_escaped;
+use sch_io::{Failed, Sink, write_all, write_pieces};
+
+/// Writes the start of an element.
+#[tactic(auto, unfolding(crate::specs::Lines::start_line))]
+pub fn write_start<O: Sink>(sink: &mut O, name: &str) -> Result<(), Failed>
+    ensures { Wrote (O.written sink.old) (O.written sink.new) (O.faults sink.old) (O.faults sink.new) (start_line name.now) result }
+{
+    write_pieces(sink, &["(", name, "\n"])
+}
+
+/// Writes an attribute of the element that was started.
+#[tactic(auto, unfolding(crate::specs::Lines::attr_line))]
+pub fn write_attr<O: Sink>(sink: &mut O, name: &str, value: &str) -> Result<(), Failed>
+    ensures { Wrote (O.written sink.old) (O.written sink.new) (O.faults sink.old) (O.faults sink.new) (attr_line name.now value.now) result }
+{
+    write_line(sink, &["A", name, " "], value)
+}
+
+/// Writes the end of an element.
+#[tactic(auto, unfolding(crate::specs::Lines::end_line))]
+pub fn write_end<O: Sink>(sink: &mut O, name: &str) -> Result<(), Failed>
+    ensures { Wrote (O.written sink.old) (O.written sink.new) (O.faults sink.old) (O.faults sink.new) (end_line name.now) result }
+{
+    write_pieces(sink, &[")", name, "\n"])
+}
+
+/// Writes characters in one line, and nothing for an empty text.
+#[tactic(auto, unfolding(crate::specs::Lines::chars_line))]
+pub fn write_chars<O: Sink>(sink: &mut O, text: &str) -> Result<(), Failed>
+    ensures { Wrote (O.written sink.old) (O.written sink.new) (O.faults sink.old) (O.faults sink.new) (chars_line text.now) result }
+{
+    if text.is_empty() {
+        return Ok(());
+    }
+    write_line(sink, &["-"], text)
+}
+
+/// Writes a processing instruction.
+#[tactic(auto, unfolding(crate::specs::Lines::pi_line))]
+pub fn write_pi<O: Sink>(sink: &mut O, target: &str, body: &str) -> Result<(), Failed>
+    ensures { Wrote (O.written sink.old) (O.written sink.new) (O.faults sink.old) (O.faults sink.new) (pi_line target.now body.now) result }
+{
+    write_line(sink, &["?", target, " "], body)
+}
+
+/// Writes a comment.
+#[tactic(auto, unfolding(crate::specs::Lines::comment_line))]
+pub fn write_comment<O: Sink>(sink: &mut O, text: &str) -> Result<(), Failed>
+    ensures { Wrote (O.written sink.old) (O.written sink.new) (O.faults sink.old) (O.faults sink.new) (comment_line text.now) result }
+{
+    write_line(sink, &["C"], text)
+}
+
+// Writes the pieces of a line's head, and the rest of the line.
+#[tactic(auto, using(sch_io::specs::Wrote::writes))]
+fn write_line<O: Sink>(sink: &mut O, head: &[&str], text: &str) -> Result<(), Failed>
+    ensures { Wrote (O.written sink.old) (O.written sink.new) (O.faults sink.old) (O.faults sink.new) (joined head.now ++ (escaped text.now ++ codes "\n")) result }
+{
+    write_pieces(sink, head)?;
+    write_line_rest(sink, text)
+}
+
+// Writes the text with its escapes, and the line end.
+#[tactic(auto, using(sch_io::specs::Wrote::writes))]
+fn write_line_rest<O: Sink>(sink: &mut O, text: &str) -> Result<(), Failed>
+    ensures { Wrote (O.written sink.old) (O.written sink.new) (O.faults sink.old) (O.faults sink.new) (escaped text.now ++ codes "\n") result }
+{
+    write_escaped(sink, text)?;
+    write_all(sink, b"\n")
+}
