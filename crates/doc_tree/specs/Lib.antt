@@ -1,0 +1,14 @@
+pub mod Lists
+pub mod Table
+pub mod Numbering
+pub mod Names
+pub mod Views
+pub mod Kinds
+pub mod Walks
+pub mod Lines
+pub mod Growth
+pub mod Laws
+pub mod Forest
+pub mod Labels
+pub mod Kept
+pub mod Sound

@@ -1,0 +1,21 @@
+-- Lists of node numbers: membership, how often a number stands in a list, and the last one.
+use Rattle.std.specs.Prelude.{ℕ, ◌+◌, ◌≤◌, ◌==◌, Bool, false, ◌||◌, List, [], ◌∷◌, if◌then◌else◌}
+
+-- whether the number stands in the list
+abbrev pub mem : ℕ → List ℕ → Bool
+mem n [] = false
+mem n (m ∷ ms) = (n == m) || mem n ms
+
+-- how often the number stands in the list
+abbrev pub occurs : ℕ → List ℕ → ℕ
+occurs n [] = 0
+occurs n (m ∷ ms) = (if n == m then 1 else 0) + occurs n ms
+
+-- no number stands in the list twice
+abbrev pub Distinct : List ℕ → Type 0
+Distinct ms = (n : ℕ) → occurs n ms ≤ 1
+
+-- the last number of the list, or the given one where it is empty
+abbrev pub last_or : ℕ → List ℕ → ℕ
+last_or n [] = n
+last_or n (m ∷ ms) = last_or m ms

@@ -1,0 +1,22 @@
+//! The tree of a document by the data model of XPath 1.0 section 5: nodes by number, names by number, document order.
+#![tactic(auto)]
+
+mod append;
+mod ids;
+mod kinds;
+mod laws;
+mod limits;
+mod names;
+mod node;
+mod tree;
+mod walk;
+mod words;
+
+pub use ids::{NameId, NodeId, NodeList};
+pub use kinds::{AppendError, Kind, NewNode};
+pub use limits::{MAX_DEPTH, MAX_LIVE_NODES, MAX_NODE_NUMBERS, MAX_TEXT_BYTES};
+pub use sch_base::Text;
+pub use tree::Tree;
+
+#[cfg(test)]
+mod tests;

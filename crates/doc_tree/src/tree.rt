@@ -1,0 +1,210 @@
+//! The tree, and its reading calls.
+
+ghost use Rattle.std.specs.Prelude.{◌≡◌, ◌<◌, true, length, Some, None, IfOk, IfSome, OnErr, slice_index_or};
+ghost use Rattle.std.specs.Option.{option_copied, option_map};
+ghost use Rattle.doc_tree.specs.Table.{root_alone, kind_of, name_of, parent_of, kids_of, attrs_of, value_of, is_live, numbered};
+ghost use Rattle.doc_tree.specs.Numbering.{Numbered};
+ghost use Rattle.doc_tree.specs.Kinds.{is_document};
+ghost use Rattle.doc_tree.specs.Walks.{order};
+
+use crate::ids::{NameId, NodeId};
+use crate::kinds::Kind;
+use crate::names::NameTable;
+use crate::node::{Node, NodeContent};
+use sch_base::ItemList;
+use std::alloc::{AllocError, Global};
+use std::marker::Model;
+
+/// A document as a tree of numbered nodes (XPath 1.0 section 5), with the names that it has numbered.
+///
+/// Contracts see its table of nodes and its list of names. The calls that ask for a live node say so; the others
+/// answer of a number that isn't live as of a node that holds nothing.
+#[derive(Drop)]
+pub struct Tree {
+    pub(crate) alloc: Global,
+    pub(crate) nodes: Vec<Option<Node>>,
+    pub(crate) names: NameTable,
+    pub(crate) live: u32,
+    pub(crate) text_bytes: usize,
+}
+
+impl Model for Tree {
+    ghost use Rattle.doc_tree.specs.Table.{Contents};
+
+    ghost Value = { Contents };
+
+    ghost use Rattle.doc_tree.specs.Views.{table_seen};
+    ghost use Rattle.doc_tree.specs.Sound.{Sound};
+
+    ghost view = { λ t. record { nodes = table_seen t.names t.nodes.items; names = t.names } };
+
+    ghost invariant = { λ t. Sound t.nodes.items t.names t.live t.text_bytes };
+}
+
+/// The node with a number, None where it was deleted or never made.
+pub(crate) fn node_at(nodes: &[Option<Node>], n: NodeId) -> Option<&Node>
+    ensures { option_copied result ≡ slice_index_or nodes.now n None }
+{
+    match nodes.get(n.index()) {
+        Some(Some(node)) => Some(node),
+        _ => None,
+    }
+}
+
+impl Tree {
+    /// A tree of the root alone.
+    pub fn new(alloc: Global) -> Result<Tree, AllocError>
+        ensures { IfOk result (λ tree. tree ≡ root_alone) }
+    {
+        let mut nodes = Vec::new(alloc);
+        nodes.push(Some(Node {
+            parent: None,
+            depth: 0,
+            kids: ItemList::new(alloc),
+            attributes: ItemList::new(alloc),
+            content: NodeContent::Root,
+        }))?;
+        Ok(Tree {
+            alloc,
+            nodes,
+            names: NameTable::new(alloc),
+            live: 1,
+            text_bytes: 0,
+        })
+    }
+
+    /// The number of a name; a new one takes the next number. Each of its texts is copied where it is new, and
+    /// otherwise only looked up.
+    pub fn name_id(&mut self, prefix: &str, local: &str, uri: &str) -> Result<NameId, AllocError>
+        ensures numbered { IfOk result (λ id. Numbered self.old.names self.new.names (record { prefix = prefix.now; local = local.now; uri = uri.now }) id) }
+        ensures nodes { self.new.nodes ≡ self.old.nodes }
+        ensures unchanged { OnErr result (self.new ≡ self.old) }
+    {
+        self.names.number(self.alloc, prefix, local, uri)
+    }
+
+    /// The root.
+    pub fn root(&self) -> NodeId
+        ensures { result ≡ 0 }
+    {
+        NodeId::from_number(0)
+    }
+
+    /// Whether a node with this number lives in the tree.
+    pub fn contains(&self, n: NodeId) -> bool
+        ensures { result ≡ is_live self.now.nodes n }
+    {
+        node_at(self.nodes.as_slice(), n).is_some()
+    }
+
+    /// How many nodes live, the root and attributes counted.
+    pub fn live_nodes(&self) -> u32
+        ensures { result ≡ length (order self.now.nodes) }
+    {
+        self.live
+    }
+
+    /// The kind of a live node.
+    pub fn kind(&self, n: NodeId) -> Kind
+        requires { is_live self.now.nodes n ≡ true }
+        ensures { kind_of self.now.nodes n ≡ Some result }
+    {
+        match self.kind_if_live(n) {
+            Some(kind) => kind,
+            None => unreachable!(),
+        }
+    }
+
+    /// The kind of a node, None for a number that isn't live.
+    fn kind_if_live(&self, n: NodeId) -> Option<Kind>
+        ensures { result ≡ kind_of self.now.nodes n }
+    {
+        Some(node_at(self.nodes.as_slice(), n)?.content.kind())
+    }
+
+    /// Whether the root has exactly one element kid and no text kid.
+    pub fn is_document(&self) -> bool
+        ensures { result ≡ is_document self.now.nodes }
+    {
+        let mut elements = 0usize;
+        let mut texts = 0usize;
+        for kid in self.kids(self.root()) {
+            match self.kind_if_live(*kid) {
+                Some(Kind::Element) => elements += 1,
+                Some(Kind::Text) => texts += 1,
+                _ => (),
+            }
+        }
+        elements == 1 && texts == 0
+    }
+
+    /// The name of an element, an attribute or a processing instruction.
+    pub fn name(&self, n: NodeId) -> Option<NameId>
+        ensures name { option_map (numbered self.now.names) result ≡ name_of self.now.nodes n }
+        ensures known { IfSome result (λ id. id < length self.now.names) }
+    {
+        node_at(self.nodes.as_slice(), n)?.content.name()
+    }
+
+    /// The prefix of a name, empty where it has none.
+    pub fn prefix_of(&self, name: NameId) -> &str
+        requires { name < length self.now.names }
+        ensures { result.now ≡ (numbered self.now.names name).prefix }
+    {
+        self.names.prefix(name)
+    }
+
+    /// The local part of a name.
+    pub fn local_of(&self, name: NameId) -> &str
+        requires { name < length self.now.names }
+        ensures { result.now ≡ (numbered self.now.names name).local }
+    {
+        self.names.local(name)
+    }
+
+    /// The namespace of a name, empty where it has none.
+    pub fn uri_of(&self, name: NameId) -> &str
+        requires { name < length self.now.names }
+        ensures { result.now ≡ (numbered self.now.names name).uri }
+    {
+        self.names.uri(name)
+    }
+
+    /// The node's parent: of an attribute its element, of the root None.
+    pub fn parent(&self, n: NodeId) -> Option<NodeId>
+        ensures { result ≡ parent_of self.now.nodes n }
+    {
+        node_at(self.nodes.as_slice(), n)?.parent
+    }
+
+    /// The node's kids, in document order.
+    pub fn kids(&self, n: NodeId) -> &[NodeId]
+        ensures { result.now ≡ kids_of self.now.nodes n }
+    {
+        match node_at(self.nodes.as_slice(), n) {
+            Some(node) => node.kids.as_slice(),
+            None => &[],
+        }
+    }
+
+    /// The element's attributes, in document order.
+    pub fn attrs(&self, n: NodeId) -> &[NodeId]
+        ensures { result.now ≡ attrs_of self.now.nodes n }
+    {
+        match node_at(self.nodes.as_slice(), n) {
+            Some(node) => node.attributes.as_slice(),
+            None => &[],
+        }
+    }
+
+    /// The attribute's value, the characters of a text or comment, or a processing instruction's data; empty for the
+    /// root and elements.
+    pub fn value(&self, n: NodeId) -> &str
+        ensures { result.now ≡ value_of self.now.nodes n }
+    {
+        match node_at(self.nodes.as_slice(), n) {
+            Some(node) => node.content.value(),
+            None => "",
+        }
+    }
+}

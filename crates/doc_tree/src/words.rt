@@ -1,0 +1,66 @@
+//! Words, each kept once and numbered in the order of first use.
+
+ghost use Rattle.std.specs.Prelude.{◌≡◌, [], IfOk, OnErr, slice_index_or};
+ghost use Rattle.doc_tree.specs.Numbering.{EachOnce, Numbered};
+
+use indexmap::IndexSet;
+use std::alloc::{AllocError, Global};
+use std::marker::Model;
+
+/// A table of words, seen by contracts as their list.
+#[derive(Drop)]
+pub(crate) struct WordTable {
+    words: IndexSet<String>,
+}
+
+impl Model for WordTable {
+    ghost use Rattle.std.specs.Prelude.{List, ℕ, map};
+    ghost use Rattle.std.specs.String.{string_bytes};
+    ghost use Rattle.doc_tree.specs.Numbering.{EachOnce};
+
+    ghost Value = { List (List ℕ) };
+
+    ghost view = { λ t. map string_bytes t.words.keys };
+
+    ghost invariant = { λ t. EachOnce (map string_bytes t.words.keys) };
+}
+
+impl WordTable {
+    /// A table without words.
+    pub(crate) fn new(alloc: Global) -> WordTable
+        ensures { result ≡ [] }
+    {
+        WordTable {
+            words: IndexSet::new(alloc),
+        }
+    }
+
+    /// No word stands in the table twice.
+    pub(crate) fn laws(&self)
+        ensures { EachOnce self.now }
+    {
+        let _ = &self.words;
+    }
+
+    /// The number of a word, which is copied where it is new.
+    pub(crate) fn number(&mut self, alloc: Global, word: &str) -> Result<usize, AllocError>
+        ensures numbered { IfOk result (λ number. Numbered self.old self.new word.now number) }
+        ensures unchanged { OnErr result (self.new ≡ self.old) }
+    {
+        if let Some(number) = self.words.get_index_of(word) {
+            return Ok(number);
+        }
+        let (number, _) = self.words.insert_full(String::from_str(alloc, word)?)?;
+        Ok(number)
+    }
+
+    /// The word with a number, empty past the end.
+    pub(crate) fn word(&self, number: usize) -> &str
+        ensures { result.now ≡ slice_index_or self.now number [] }
+    {
+        match self.words.get_index(number) {
+            Some(word) => word.as_str(),
+            None => "",
+        }
+    }
+}
