@@ -1,0 +1,6 @@
+pub mod FindingsLemmas
+pub mod LocationLemmas
+pub mod PlaceLemmas
+pub mod PlanLemmas
+pub mod ReportLemmas
+pub mod WriteLemmas

@@ -1,0 +1,137 @@
+-- Places among siblings: how a walk over the kids counts them.
+use Rattle.std.proofs.Common.{◌≡◌, ℕ, zero, suc, ◌+◌, ◌<◌, ◌≤◌, ◌==◌, Bool, true, false, ◌||◌, List, [], ◌∷◌, ◌++◌, length, take, drop, add-one, slice_index_or, if◌then◌else◌, ◌≢◌, ◌⊎◌, ⊎_elim, inl, inr, length-append, slice_set, get_or-set_same, get_or-set_other, refl, ap, sym, ◌∙◌, subst, arith}
+use Rattle.std.proofs.Math.Seq.{take-suc, drop-cons}
+use Rattle.std.proofs.Math.ListN.{take-append-drop}
+use Rattle.std.proofs.lemmas.Bool.{eqb-true, eq-eqb, false_from_ne_true}
+use Rattle.doc_tree.specs.Lists.{mem, occurs, Distinct}
+use Rattle.svrl_out.specs.Locations.{count_of, place_among}
+
+-- a number is itself
+same : (n : ℕ) → (n == n) ≡ true
+same n = eq-eqb n n refl
+
+pub mem-item : (ns : List ℕ) (i d : ℕ) → i < length ns → mem (slice_index_or ns i d) ns ≡ true
+mem-item [] i d less = absurd (omega arith)
+mem-item (n ∷ ns) zero d less = rw (same n) refl
+mem-item (n ∷ ns) (suc i) d less = rw (mem-item ns i d (omega arith)) (or_true (slice_index_or ns i d == n))
+  where
+    or_true : (b : Bool) → b || true ≡ true
+    or_true true = refl
+    or_true false = refl
+
+-- one more in front of a number makes it stand once more
+occurs_one : (n m : ℕ) (ms : List ℕ) → occurs n ms ≤ occurs n (m ∷ ms)
+occurs_one n m ms = by_eq (n == m)
+  where
+    by_eq : (b : Bool) → occurs n ms ≤ (if b then 1 else 0) + occurs n ms
+    by_eq true = omega arith
+    by_eq false = omega arith
+
+-- a number among the first ones stands there
+mem-occurs : (n : ℕ) (ms : List ℕ) → mem n ms ≡ true → 1 ≤ occurs n ms
+mem-occurs n [] is = absurd (cc)
+mem-occurs n (m ∷ ms) is = by_eq (n == m) refl (mem-occurs n ms) is
+  where
+    by_eq : (b : Bool) → (n == m) ≡ b → (mem n ms ≡ true → 1 ≤ occurs n ms) → b || mem n ms ≡ true → 1 ≤ (if b then 1 else 0) + occurs n ms
+    by_eq true e later is = omega arith
+    by_eq false e later is = omega (arith, later is)
+
+occurs-append : (n : ℕ) (xs ys : List ℕ) → occurs n (xs ++ ys) ≡ occurs n xs + occurs n ys
+occurs-append n [] ys = omega arith
+occurs-append n (x ∷ xs) ys = omega (arith, occurs-append n xs ys)
+
+-- where no number stands twice, none of the front stands behind it
+pub not_in_front : (front : List ℕ) (k : ℕ) (back : List ℕ) → Distinct (front ++ k ∷ back) → mem k front ≡ false
+not_in_front front k back once = false_from_ne_true (mem k front) (λ (is : mem k front ≡ true). absurd (omega (arith, once k, occurs-append k front (k ∷ back), mem-occurs k front is, itself k back)))
+  where
+    itself : (k : ℕ) (back : List ℕ) → 1 ≤ occurs k (k ∷ back)
+    itself k back = rw (same k) (omega arith)
+
+pub count_of-append : (passes : ℕ → Bool) (xs ys : List ℕ) → count_of passes (xs ++ ys) ≡ count_of passes xs + count_of passes ys
+count_of-append passes [] ys = omega arith
+count_of-append passes (x ∷ xs) ys = omega (arith, count_of-append passes xs ys)
+
+-- the place of a number that passes is one more than how many pass before it
+pub place_among-at : (passes : ℕ → Bool) (front : List ℕ) (k : ℕ) (back : List ℕ) → mem k front ≡ false → passes k ≡ true → place_among passes k (front ++ k ∷ back) ≡ count_of passes front + 1
+place_among-at passes [] k back apart is = rw (is, same k) (omega arith)
+place_among-at passes (x ∷ front) k back apart is = by_eq (k == x) refl (λ (later : mem k front ≡ false). place_among-at passes front k back later is) apart
+  where
+    swapped : (x k : ℕ) → (k == x) ≡ false → (x == k) ≡ false
+    swapped x k is = false_from_ne_true (x == k) (λ (e : (x == k) ≡ true). let s : (k == x) ≡ true = eq-eqb k x (sym (eqb-true x k e)) in absurd (cc))
+
+    by_eq : (b : Bool) → (k == x) ≡ b → (mem k front ≡ false → place_among passes k (front ++ k ∷ back) ≡ count_of passes front + 1) → b || mem k front ≡ false → place_among passes k (x ∷ front ++ k ∷ back) ≡ count_of passes (x ∷ front) + 1
+    by_eq true e later apart = absurd (cc)
+    by_eq false e later apart = rw (swapped x k e) (omega (arith, later apart))
+
+-- the places when the kids in front were counted
+pub record Counted (passes : ℕ → Bool) (before kids front places : List ℕ) (count : ℕ) : Type 0 where
+  pub counted : count ≡ count_of passes front
+  pub few : count ≤ length front
+  pub placed : (kid : ℕ) → mem kid front ≡ true → passes kid ≡ true → slice_index_or places kid 0 ≡ place_among passes kid kids
+  pub others : (n : ℕ) → mem n front ≡ false → slice_index_or places n 0 ≡ slice_index_or before n 0
+
+pub mem-append : (n : ℕ) (xs ys : List ℕ) → mem n (xs ++ ys) ≡ mem n xs || mem n ys
+mem-append n [] ys = refl
+mem-append n (x ∷ xs) ys = rw (mem-append n xs ys) (joined (n == x) (mem n xs) (mem n ys))
+  where
+    joined : (a b c : Bool) → a || (b || c) ≡ (a || b) || c
+    joined true b c = refl
+    joined false b c = refl
+
+-- the last one, or one before it
+pub mem-last : (n k : ℕ) (front : List ℕ) → mem n (front ++ k ∷ []) ≡ true → (mem n front ≡ true) ⊎ (n ≡ k)
+mem-last n k front is = by (mem n front) (n == k) refl refl (sym (mem-append n front (k ∷ [])) ∙ is)
+  where
+    by : (a b : Bool) → mem n front ≡ a → (n == k) ≡ b → a || (b || false) ≡ true → (mem n front ≡ true) ⊎ (n ≡ k)
+    by true b e f is = inl e
+    by false true e f is = inr (eqb-true n k f)
+    by false false e f is = absurd (cc)
+
+not_mem-last : (n k : ℕ) (front : List ℕ) → mem n (front ++ k ∷ []) ≡ false → (mem n front ≡ false) × (n ≢ k)
+not_mem-last n k front is = by (mem n front) (n == k) refl refl (sym (mem-append n front (k ∷ [])) ∙ is)
+  where
+    by : (a b : Bool) → mem n front ≡ a → (n == k) ≡ b → a || (b || false) ≡ false → (mem n front ≡ false) × (n ≢ k)
+    by true b e f is = absurd (cc)
+    by false true e f is = absurd (cc)
+    by false false e f is = (e, λ (s : n ≡ k). let t : (n == k) ≡ true = eq-eqb n k s in absurd (cc))
+
+apart : (n k : ℕ) (front : List ℕ) → mem n front ≡ true → mem k front ≡ false → n ≢ k
+apart n k front is no_k e = let t : mem k front ≡ true = rw (← e) is in absurd (cc)
+
+-- a kid that does not pass changes nothing
+pub counted-skip : (passes : ℕ → Bool) (before kids front back places : List ℕ) (k count : ℕ) → kids ≡ front ++ k ∷ back → passes k ≡ false →
+    Counted passes before kids front places count → Counted passes before kids (front ++ k ∷ []) places count
+counted-skip passes before kids front back places k count split is so = record {
+  counted = so.counted ∙ sym (count_of-append passes front (k ∷ []) ∙ rw is (omega arith));
+  few = omega (arith, so.few, length-append front (k ∷ []));
+  placed = λ kid there passed. ⊎_elim (λ (e : mem kid front ≡ true). so.placed kid e passed) (λ (e : kid ≡ k). let bad : passes k ≡ true = rw (← e) passed in absurd (cc)) (mem-last kid k front there);
+  others = λ n away. so.others n (not_mem-last n k front away).0;
+}
+
+-- a kid that passes gets the next place
+pub counted-place : (passes : ℕ → Bool) (before kids front back places : List ℕ) (k count : ℕ) → kids ≡ front ++ k ∷ back → Distinct kids → k < length places → passes k ≡ true →
+    Counted passes before kids front places count → Counted passes before kids (front ++ k ∷ []) (slice_set places k (count + 1)) (count + 1)
+counted-place passes before kids front back places k count split once room is so =
+    let no_k : mem k front ≡ false = not_in_front front k back (rw split at once) in
+    let at : place_among passes k kids ≡ count + 1 = rw split (place_among-at passes front k back no_k is ∙ ap (λ (n : ℕ). n + 1) (sym so.counted)) in
+    record {
+      counted = ap (λ (n : ℕ). n + 1) so.counted ∙ sym (count_of-append passes front (k ∷ []) ∙ rw is refl);
+      few = omega (arith, so.few, length-append front (k ∷ []));
+      placed = λ kid there passed. ⊎_elim
+          (λ (e : mem kid front ≡ true). let ne : kid ≢ k = apart kid k front e no_k in rw get_or-set_other (so.placed kid e passed))
+          (λ (e : kid ≡ k). rw (e, get_or-set_same) (sym at))
+          (mem-last kid k front there);
+      others = λ n away. let parts = not_mem-last n k front away in let ne : n ≢ k = parts.1 in rw get_or-set_other (so.others n parts.0);
+    }
+
+-- the item at a place is in the list
+pub mem-at : (ns : List ℕ) (i x : ℕ) → x ≡ slice_index_or ns i x → i < length ns → mem x ns ≡ true
+mem-at ns i x is less = subst (λ (n : ℕ). mem n ns ≡ true) (sym is) (mem-item ns i x less)
+
+-- a list is what stands before a place, the item there, and what is behind it
+pub cut_at : (ns : List ℕ) (i x : ℕ) → x ≡ slice_index_or ns i x → i < length ns → ns ≡ take i ns ++ x ∷ drop (suc i) ns
+cut_at ns i x is less = sym (take-append-drop i ns) ∙ ap (λ (rest : List ℕ). take i ns ++ rest) (drop-cons ns i x less) ∙ ap (λ (n : ℕ). take i ns ++ n ∷ drop (suc i) ns) (sym is)
+
+-- one item more is taken
+pub take-next : (ns : List ℕ) (i x : ℕ) → x ≡ slice_index_or ns i x → i < length ns → take (i + 1) ns ≡ take i ns ++ x ∷ []
+take-next ns i x is less = rw add-one (take-suc ns i x less ∙ ap (λ (n : ℕ). take i ns ++ n ∷ []) (sym is))

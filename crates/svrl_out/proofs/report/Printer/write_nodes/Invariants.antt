@@ -1,0 +1,9 @@
+-- The lines of the nodes so far were written.
+use Rattle.std.proofs.Common.{take, Ok}
+use Rattle.std.specs.List.{flat_map}
+use Rattle.svrl_out.specs.Report.{Reported}
+use Rattle.svrl_out.specs.Printer.{printed_lines}
+use Rattle.svrl_out.proofs.report.Printer.write_nodes.Given as goal
+
+abbrev pub invariant-loop-n : goal.invariant-loop-n
+invariant-loop-n g l = Reported (g.O.Sink.written l.initial.sink) (g.O.Sink.written l.sink) (g.O.Sink.faults l.initial.sink) (g.O.Sink.faults l.sink) (flat_map (printed_lines l.fn.self) (take l.n-index l.nodes)) (Ok tt)
