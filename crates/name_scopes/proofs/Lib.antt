@@ -1,0 +1,4 @@
+pub mod NumberLemmas
+pub mod OpenLemmas
+pub mod AttributeLemmas
+pub mod LoadLemmas

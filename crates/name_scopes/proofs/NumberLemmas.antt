@@ -1,0 +1,63 @@
+-- Numbers of nodes: live ones, new ones, and their places in lists.
+use Rattle.std.proofs.Common.{◌≡◌, ◌≢◌, ℕ, ◌≤◌, Bool, true, false, ◌||◌, eqb, List, [], ◌∷◌, ◌++◌, length, Option, None, Some, is_some, ◌⊎◌, inl, inr, refl, sym, ap, ◌∙◌, true≢false, arith, eq-eqb, eqb-true}
+use Rattle.std.proofs.lemmas.List.{get_or_past}
+use Rattle.doc_tree.specs.declared.kinds.Kind.{Kind}
+use Rattle.doc_tree.specs.Lists.{mem, last_or}
+use Rattle.doc_tree.specs.Table.{Table, Facts, Content, entry_at, content_at, content_of, kind_at, kind_of, is_live}
+
+no-node : (T : Table) (n : ℕ) → length T ≤ n → is_live T n ≡ false
+no-node T n h = ap (λ (node : Option Facts). is_some node) (get_or_past T n None h)
+
+-- a live number is not the next one
+pub is-old : (T : Table) (m n : ℕ) → is_live T m ≡ true → n ≡ length T → m ≢ n
+is-old T m n live is e = true≢false (sym live ∙ no-node T m (omega arith))
+
+entry-live : (node : Option Facts) (c : Content) → content_at node ≡ Some c → is_some node ≡ true
+entry-live None c h = absurd (cc)
+entry-live (Some node) c h = refl
+
+pub content-live : (T : Table) (n : ℕ) (c : Content) → content_of T n ≡ Some c → is_live T n ≡ true
+content-live T n c h = entry-live (entry_at T n) c h
+
+kind-entry : (node : Option Facts) (k : Kind) → kind_at (content_at node) ≡ Some k → is_some node ≡ true
+kind-entry None k h = absurd (cc)
+kind-entry (Some node) k h = refl
+
+pub kind-live : (T : Table) (n : ℕ) (k : Kind) → kind_of T n ≡ Some k → is_live T n ≡ true
+kind-live T n k h = kind-entry (entry_at T n) k h
+
+pub or-true : (b : Bool) → (b || true) ≡ true
+or-true true = refl
+or-true false = refl
+
+pub mem-first : (n : ℕ) (ms : List ℕ) → mem n (n ∷ ms) ≡ true
+mem-first n ms = rw (eq-eqb n n refl) refl
+
+pub mem-second : (n m : ℕ) (ms : List ℕ) → mem n (m ∷ n ∷ ms) ≡ true
+mem-second n m ms = rw (eq-eqb n n refl) (or-true (eqb n m))
+
+mem-either : (b c : Bool) → (b || c) ≡ true → (b ≡ true) ⊎ (c ≡ true)
+mem-either true c h = inl refl
+mem-either false c h = inr h
+
+mem-later : (n m x : ℕ) (ms : List ℕ) → (mem n ms ≡ true) ⊎ (n ≡ m) → (mem n (x ∷ ms) ≡ true) ⊎ (n ≡ m)
+mem-later n m x ms (inl h) = inl (rw h (or-true (eqb n x)))
+mem-later n m x ms (inr e) = inr e
+
+mem-push-at : (n m x : ℕ) (ms : List ℕ) → (mem n (ms ++ m ∷ []) ≡ true → (mem n ms ≡ true) ⊎ (n ≡ m)) →
+    (eqb n x ≡ true) ⊎ (mem n (ms ++ m ∷ []) ≡ true) → (mem n (x ∷ ms) ≡ true) ⊎ (n ≡ m)
+mem-push-at n m x ms more (inl e) = inl (rw e refl)
+mem-push-at n m x ms more (inr h) = mem-later n m x ms (more h)
+
+mem-one : (n m : ℕ) → (eqb n m ≡ true) ⊎ (false ≡ true) → (mem n [] ≡ true) ⊎ (n ≡ m)
+mem-one n m (inl e) = inr (eqb-true n m e)
+mem-one n m (inr e) = inl e
+
+-- a number in a list with one more at its end is in the list or is that one
+pub mem-push : (n m : ℕ) (ms : List ℕ) → mem n (ms ++ m ∷ []) ≡ true → (mem n ms ≡ true) ⊎ (n ≡ m)
+mem-push n m [] h = mem-one n m (mem-either (eqb n m) false h)
+mem-push n m (x ∷ ms) h = mem-push-at n m x ms (mem-push n m ms) (mem-either (eqb n x) (mem n (ms ++ m ∷ [])) h)
+
+pub last-push : (d x : ℕ) (xs : List ℕ) → last_or d (xs ++ x ∷ []) ≡ x
+last-push d x [] = refl
+last-push d x (y ∷ xs) = last-push y x xs
