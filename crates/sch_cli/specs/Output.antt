@@ -1,0 +1,86 @@
+-- What a run writes and how it ends, for each command and each content of the files.
+use Rattle.std.specs.Prelude.{◌≡◌, ℕ, List, [], ◌++◌, codes, Option, None, Some, if◌then◌else◌}
+use Rattle.std.specs.FinMap.{get}
+use Rattle.sch_io.specs.Files.{Files}
+use Rattle.pyx_write.specs.Escapes.{escaped}
+use Rattle.pyx_core.specs.declared.event.Event.{Event}
+use Rattle.doc_tree.specs.Table.{Table}
+use Rattle.name_scopes.specs.PlainTree.{IsTreeOf}
+use Rattle.svrl_out.specs.declared.plan.Rule.{Rule}
+use Rattle.svrl_out.specs.Report.{report}
+use Rattle.sch_cli.specs.declared.status.Status.{Status}
+use Rattle.sch_cli.specs.declared.status.Status.TheVariants.{Clean, Findings, Usage, Missing, NotYet}
+use Rattle.sch_cli.specs.Commands.{Command, expand, validate, command_of}
+use Rattle.sch_cli.specs.FirstSchema.{IsFirstSchema, IsOtherSchema}
+use Rattle.sch_cli.specs.FirstDocument.{IsFirstDocument, IsOtherDocument}
+use Rattle.sch_cli.specs.Found.{finds}
+use Rattle.sch_cli.specs.Outcomes.{outcome_of}
+
+-- the bytes for the output, the line for the error output, and the status
+pub record Output : Type 0 where
+  pub out : List ℕ
+  pub err : List ℕ
+  pub ends : Status
+
+-- a run that writes no report
+abbrev pub stopped : Status → List ℕ → Output
+stopped status line = record { out = []; err = line; ends = status }
+
+-- the lines of the error output; a file's name has the escapes of PYX
+abbrev pub usage_line : List ℕ
+usage_line = codes "sch: usage\n"
+
+abbrev pub not_yet_line : List ℕ
+not_yet_line = codes "sch: not yet\n"
+
+abbrev pub missing_line : List ℕ → List ℕ
+missing_line name = codes "sch: missing: " ++ (escaped name ++ codes "\n")
+
+abbrev pub read_fault_line : List ℕ → List ℕ
+read_fault_line name = codes "sch: read fault: " ++ (escaped name ++ codes "\n")
+
+abbrev pub write_fault_line : List ℕ
+write_fault_line = codes "sch: write fault\n"
+
+abbrev pub memory_line : List ℕ
+memory_line = codes "sch: out of memory\n"
+
+-- the run that came to its end: the report of the tree by the plan
+abbrev pub validated : List Rule → Table → Output
+validated plan T = record {
+  out = report plan T (λ n. Some (outcome_of plan T n));
+  err = [];
+  ends = if finds plan T then Findings else Clean;
+}
+
+-- the named schema is held, and this is its plan
+pub record IsPlanOf (files : Files) (schema : List ℕ) (plan : List Rule) : Type 0 where
+  pub bytes : List ℕ
+  pub held : get files schema ≡ Some bytes
+  pub is_schema : IsFirstSchema bytes plan
+
+-- the output of `validate`: the schema comes before the document, and each may be missing or of another form
+pub data IsValidation (files : Files) (schema document : List ℕ) : Output → Type 0 where
+  no_schema : get files schema ≡ None → IsValidation files schema document (stopped Missing (missing_line schema))
+  other_schema : (bytes : List ℕ) → get files schema ≡ Some bytes → IsOtherSchema bytes →
+      IsValidation files schema document (stopped NotYet not_yet_line)
+  no_document : (plan : List Rule) → IsPlanOf files schema plan → get files document ≡ None →
+      IsValidation files schema document (stopped Missing (missing_line document))
+  other_document : (plan : List Rule) → IsPlanOf files schema plan →
+      (bytes : List ℕ) → get files document ≡ Some bytes → IsOtherDocument bytes →
+      IsValidation files schema document (stopped NotYet not_yet_line)
+  reported : (plan : List Rule) → IsPlanOf files schema plan →
+      (bytes : List ℕ) → get files document ≡ Some bytes →
+      (events : List Event) → IsFirstDocument bytes events → (T : Table) → IsTreeOf events T →
+      IsValidation files schema document (validated plan T)
+
+-- the output of a command; words that are not accepted are none
+abbrev pub IsOutputOf : Option Command → Files → Output → Type 0
+IsOutputOf None files output = output ≡ stopped Usage usage_line
+IsOutputOf (Some (expand schema)) files output = output ≡ stopped NotYet not_yet_line
+IsOutputOf (Some (validate None schema document)) files output = IsValidation files schema document output
+IsOutputOf (Some (validate (Some phase) schema document)) files output = output ≡ stopped NotYet not_yet_line
+
+-- the output of the words over the files
+abbrev pub IsOutput : List (List ℕ) → Files → Output → Type 0
+IsOutput words files output = IsOutputOf (command_of words) files output

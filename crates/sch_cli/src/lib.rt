@@ -1,0 +1,18 @@
+//! The program as a library: `run` carries out the words of a command line over a shelf and two sinks.
+#![tactic(auto)]
+
+mod command;
+mod judged;
+mod outcomes;
+mod program;
+mod schema;
+mod status;
+mod stop;
+#[cfg(test)]
+mod tests;
+mod validation;
+mod words;
+
+pub use program::run;
+pub use status::Status;
+pub use words::Words;

@@ -1,0 +1,88 @@
+//! What stops a run before its report is whole, and what is told of it.
+
+ghost use Rattle.std.specs.Prelude.{◌≡◌, ◌++◌, codes};
+ghost use Rattle.pyx_write.specs.Escapes.{escaped};
+ghost use Rattle.sch_io.specs.Wrote.{Wrote};
+ghost use Rattle.sch_cli.specs.declared.stop.Stop.TheVariants as stops;
+ghost use Rattle.sch_cli.specs.Stops.{line_of, status_of};
+
+use crate::status::Status;
+use pyx_write::write_escaped;
+use sch_base::Text;
+use sch_io::{Failed, Sink, write_all};
+use std::alloc::AllocError;
+
+/// What stops a run before its report is whole.
+#[derive(Clone, Copy, Debug)]
+pub(crate) enum Stop<'w> {
+    /// The words are not accepted.
+    Usage,
+    /// The words or a file are past what the program does so far.
+    NotYet,
+    /// There is no file of that name.
+    Missing { name: &'w Text },
+    /// The file of that name was not read whole.
+    ReadFault { name: &'w Text },
+    /// The report was not written whole.
+    WriteFault,
+    /// Memory ran out.
+    Memory,
+}
+
+impl From<AllocError> for Stop<'_> {
+    ghost from_gives = { λ _ stop. stop ≡ stops.Memory };
+
+    fn from(_refused: AllocError) -> Self {
+        Stop::Memory
+    }
+}
+
+impl Stop<'_> {
+    /// The status of a run that ends so.
+    pub(crate) fn status(&self) -> Status
+        ensures { result ≡ status_of self.now }
+    {
+        match self {
+            Stop::Usage => Status::Usage,
+            Stop::NotYet => Status::NotYet,
+            Stop::Missing { .. } => Status::Missing,
+            Stop::ReadFault { .. } => Status::ReadFault,
+            Stop::WriteFault => Status::WriteFault,
+            Stop::Memory => Status::Memory,
+        }
+    }
+
+    /// Writes its line.
+    pub(crate) fn tell<E: Sink>(&self, err: &mut E) -> Result<(), Failed>
+        ensures { Wrote (E.written err.old) (E.written err.new) (E.faults err.old) (E.faults err.new) (line_of self.now) result }
+    {
+        match self {
+            Stop::Usage => write_all(err, b"sch: usage\n"),
+            Stop::NotYet => write_all(err, b"sch: not yet\n"),
+            Stop::Missing { name } => write_named(err, b"sch: missing: ", name),
+            Stop::ReadFault { name } => write_named(err, b"sch: read fault: ", name),
+            Stop::WriteFault => write_all(err, b"sch: write fault\n"),
+            Stop::Memory => write_all(err, b"sch: out of memory\n"),
+        }
+    }
+}
+
+/// Writes a line that ends with a file's name.
+#[tactic(auto, using(sch_io::specs::Wrote::writes))]
+fn write_named<E: Sink>(err: &mut E, text: &[u8], name: &Text) -> Result<(), Failed>
+    ensures { Wrote (E.written err.old) (E.written err.new) (E.faults err.old) (E.faults err.new)
+        (text.now ++ (escaped name.now ++ codes "\n")) result }
+{
+    write_all(err, text)?;
+    write_name(err, name)
+}
+
+/// Writes a file's name with the escapes of PYX, and the line end.
+#[tactic(auto, using(sch_io::specs::Wrote::writes))]
+fn write_name<E: Sink>(err: &mut E, name: &Text) -> Result<(), Failed>
+    ensures { Wrote (E.written err.old) (E.written err.new) (E.faults err.old) (E.faults err.new)
+        (escaped name.now ++ codes "\n") result }
+{
+    write_escaped(err, name.as_str())?;
+    write_all(err, b"\n")
+}
