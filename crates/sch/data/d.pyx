@@ -1,0 +1,7 @@
+(list
+(item
+Aid 1
+)item
+(item
+)item
+)list

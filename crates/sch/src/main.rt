@@ -1,0 +1,67 @@
+//! `sch` validates XML documents against Schematron schemas (ISO/IEC 19757-3:2016); the library's `run` does the work.
+#![tactic(auto)]
+
+ghost use Rattle.std.specs.Prelude.{◌≡◌};
+ghost use Rattle.sch_cli.specs.declared.status.Status.TheVariants as statuses;
+ghost use Rattle.sch_cli.specs.Output.{memory_line};
+ghost use Rattle.sch_cli.specs.Runs.{Tells};
+
+use sch_cli::{Status, Words, run};
+use sch_io::{HostShelf, HostSink, Sink, write_all};
+use std::alloc::{AllocError, Global};
+use std::env::{Env, FillError};
+use std::process::ExitCode;
+use std::str;
+
+/// Rooms in bytes that a word of the command line is read into, the next where the one before is too small.
+const ROOMS: [usize; 4] = [256, 4_096, 131_072, 16_777_216];
+
+fn main(rt: HostRuntime) -> ExitCode {
+    let mut err = HostSink::new(rt.stderr());
+    let status = match words_of(rt.alloc(), &rt) {
+        Ok(words) => {
+            let mut shelf = HostShelf::new(&rt);
+            let mut out = HostSink::new(rt.stdout());
+            run(rt.alloc(), &words, &mut shelf, &mut out, &mut err)
+        }
+        Err(AllocError) => without_words(&mut err),
+    };
+    ExitCode::from(status.code())
+}
+
+/// Ends a run that has no memory for its words.
+fn without_words<E: Sink>(err: &mut E) -> Status
+    ensures status { result ≡ statuses.Memory }
+    ensures line { Tells (E.written err.old) (E.written err.new) (E.faults err.old) (E.faults err.new) memory_line }
+{
+    let _ = write_all(err, b"sch: out of memory\n");
+    Status::Memory
+}
+
+/// The words behind the program's name; one that is not UTF-8 becomes the empty word.
+fn words_of<R: Env>(alloc: Global, env: &R) -> Result<Words, AllocError> {
+    let mut words = Words::new(alloc);
+    for i in 1..usize::MAX {
+        match bytes_of_word(alloc, env, i)? {
+            Some(bytes) => words.push(str::from_utf8(bytes.as_slice()).unwrap_or(""))?,
+            None => break,
+        }
+    }
+    Ok(words)
+}
+
+/// The bytes of the word at the index, or None past the last word.
+fn bytes_of_word<R: Env>(alloc: Global, env: &R, i: usize) -> Result<Option<Vec<u8>>, AllocError> {
+    for room in ROOMS {
+        let mut bytes = vec![in alloc; 0u8; room]?;
+        match env.arg(i, bytes.as_mut_slice()) {
+            Ok(n) => {
+                bytes.truncate(n);
+                return Ok(Some(bytes));
+            }
+            Err(FillError::NotPresent) => return Ok(None),
+            Err(FillError::TooLong) => {}
+        }
+    }
+    Err(AllocError)
+}
