@@ -1,5 +1,5 @@
 -- Locations: for each node the XPath expression that finds it (ISO/IEC 19757-3, annex on SVRL; XPath 1.0 section 2).
-use Rattle.std.specs.Prelude.{◌≡◌, ℕ, ◌+◌, ◌<◌, ◌==◌, Bool, true, false, length, List, [], ◌∷◌, ◌++◌, Option, None, Some, codes, slice_index_or, if◌then◌else◌}
+use Rattle.std.specs.Prelude.{◌≡◌, ℕ, ◌+◌, ◌<◌, ◌⊎◌, ◌==◌, Bool, true, false, length, List, [], ◌∷◌, ◌++◌, Option, None, Some, codes, slice_index_or, if◌then◌else◌}
 use Rattle.std.specs.Fmt.{decimal}
 use Rattle.doc_tree.specs.declared.kinds.Kind.{Kind}
 use Rattle.doc_tree.specs.declared.kinds.Kind.TheVariants.{Root, Element, Attribute, Text, Comment, Pi}
@@ -38,7 +38,7 @@ kids_of_parent T (Some parent) = kids_of T parent
 abbrev pub place_of : Table → ℕ → ℕ
 place_of T n = place_among (is_element T) n (kids_of_parent T (parent_of T n))
 
--- the step that finds a node from its parent; only elements have one so far
+-- the step that finds an element from its parent; other nodes have none so far
 abbrev pub step_of : Table → ℕ → List ℕ
 step_of T n = if is_element T n then codes "/*[" ++ (decimal (place_of T n) ++ codes "]") else []
 
@@ -50,6 +50,10 @@ steps_of T (n ∷ ns) = steps_of T ns ++ step_of T n
 -- the root is `/`; below it each node adds its step to its parent's location
 abbrev pub location_of : Table → ℕ → List ℕ
 location_of T n = if n == 0 then codes "/" else steps_of T (above T n)
+
+-- the root and elements have a location so far
+abbrev pub HasLocation : Table → ℕ → Type 0
+HasLocation T n = (n ≡ 0) ⊎ (is_element T n ≡ true)
 
 -- the table holds the places of a node's kids
 abbrev pub HoldsKids : Table → List ℕ → ℕ → Type 0

@@ -4,7 +4,7 @@ ghost use Rattle.std.specs.Prelude.{◌≡◌, ℕ, ◌<◌, ◌++◌, Bool, tru
 ghost use Rattle.doc_tree.specs.Lists.{mem, Distinct};
 ghost use Rattle.doc_tree.specs.Table.{is_live};
 ghost use Rattle.doc_tree.specs.Walks.{above, order};
-ghost use Rattle.svrl_out.specs.Locations.{is_element, location_of, steps_of, place_among, HoldsKids, HoldsPlaces, AreBelow, AreLive};
+ghost use Rattle.svrl_out.specs.Locations.{HasLocation, is_element, location_of, steps_of, place_among, HoldsKids, HoldsPlaces, AreBelow, AreLive};
 
 use doc_tree::{Kind, NodeId, Tree};
 use sch_base::Text;
@@ -16,6 +16,7 @@ use std::fmt::Write;
 /// The time grows with the number of nodes.
 pub fn location(alloc: Global, tree: &Tree, n: NodeId) -> Result<Text, AllocError>
     requires live { is_live tree.now.nodes n ≡ true }
+    requires has_one { HasLocation tree.now.nodes n }
     ensures { IfOk result (λ location. location ≡ location_of tree.now.nodes n) }
 {
     let nodes = tree.nodes_in_order(alloc)?;
