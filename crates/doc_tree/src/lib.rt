@@ -2,6 +2,7 @@
 #![tactic(auto)]
 
 mod append;
+mod axes;
 mod ids;
 mod kinds;
 mod laws;
@@ -12,6 +13,7 @@ mod tree;
 mod walk;
 mod words;
 
+pub use axes::{Axis, NodeTest};
 pub use ids::{NameId, NodeId, NodeList};
 pub use kinds::{AppendError, Kind, NewNode};
 pub use limits::{MAX_DEPTH, MAX_LIVE_NODES, MAX_NODE_NUMBERS, MAX_TEXT_BYTES};
