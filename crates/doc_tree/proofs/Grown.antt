@@ -17,7 +17,7 @@ use Rattle.doc_tree.proofs.Places.{ancestors-node, ancestors-attribute}
 use Rattle.doc_tree.proofs.Ways.{parent-live, ancestors-short, climb-more, climb-same, In-live}
 use Rattle.doc_tree.proofs.Growing.{KidGrown, AttributeGrown, whole-kid, whole-attribute, owner-live, parent-kept, length-grown, old-number}
 
-some-top : (xs ys : List ℕ) (n : ℕ) → (xs ++ n ∷ []) ++ ys ≡ [] → ⊥
+pub some-top : (xs ys : List ℕ) (n : ℕ) → (xs ++ n ∷ []) ++ ys ≡ [] → ⊥
 some-top xs ys n h = let e : xs ++ n ∷ [] ≡ [] = append-empty_left (xs ++ n ∷ []) ys h in let f : n ∷ [] ≡ [] = append-empty_right xs (n ∷ []) e in cc
 
 attribute-grown : (T : Table) (C : Path) (c : Content) → Whole T (plug C bare) → Edge C → kind_of T 0 ≡ Some Root → kind_of T (owner C) ≡ Some Element → kids_of T (owner C) ≡ []

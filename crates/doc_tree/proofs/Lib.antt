@@ -12,3 +12,6 @@ pub mod NumberLemmas
 pub mod WordLemmas
 pub mod NameLemmas
 pub mod SoundLemmas
+pub mod DeclareLemmas
+pub mod KeptDeclLemmas
+pub mod ScopeLemmas

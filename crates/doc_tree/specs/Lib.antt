@@ -12,3 +12,6 @@ pub mod Forest
 pub mod Labels
 pub mod Kept
 pub mod Sound
+pub mod Scope
+pub mod Declaring
+pub mod KeptDecls

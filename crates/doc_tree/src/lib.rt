@@ -3,6 +3,7 @@
 
 mod append;
 mod axes;
+mod declarations;
 mod ids;
 mod kinds;
 mod laws;

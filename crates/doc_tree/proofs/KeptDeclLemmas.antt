@@ -1,0 +1,95 @@
+-- The kept nodes with one declaration more.
+use Rattle.std.proofs.Common.{◌≡◌, ℕ, suc, zero, List, [], ◌∷◌, length, get_or, set, Option, None, Some, true, refl, sym, ap, ◌∙◌, subst}
+use Rattle.std.proofs.lemmas.List.{map-set}
+use Rattle.std.specs.Prelude.{Result, Ok, Err, OnOk, OnErr}
+use Rattle.doc_tree.specs.declared.kinds.Kind.TheVariants.{Element}
+use Rattle.doc_tree.specs.declared.node.Node.{Node}
+use Rattle.doc_tree.specs.declared.node.NodeContent.{NodeContent}
+use Rattle.doc_tree.specs.declared.node.NodeContent.TheVariants as kept
+use Rattle.doc_tree.specs.Table.{Table, Name, Contents, kind_of, is_live}
+use Rattle.doc_tree.specs.Walks.{ancestors}
+use Rattle.doc_tree.specs.Kept.{depth_at, NameIsBelow, NamesAreBelow}
+use Rattle.doc_tree.specs.KeptDecls.{content_declaring, kept_declaring_at}
+use Rattle.doc_tree.specs.Views.{content_seen, node_seen, table_seen}
+use Rattle.doc_tree.specs.Scope.{Decl}
+use Rattle.doc_tree.specs.Declaring.{declaring, declaring_at, with_decl, Declared}
+use Rattle.doc_tree.specs.Sound.{Sound}
+use Rattle.doc_tree.proofs.SoundLemmas.{seen-entry}
+use Rattle.doc_tree.proofs.DeclareLemmas.{formed-declared, declared, same-live, same-ancestors, same-order, same-text}
+
+content-declared : (names : List Name) (d : Decl) (c : NodeContent) → content_seen names (content_declaring d c) ≡ declaring d (content_seen names c)
+content-declared names d kept.Root = refl
+content-declared names d (kept.Element id decls) = refl
+content-declared names d (kept.Attribute id value) = refl
+content-declared names d (kept.Text characters) = refl
+content-declared names d (kept.Comment characters) = refl
+content-declared names d (kept.Pi id characters) = refl
+
+node-declared : (names : List Name) (d : Decl) (o : Option Node) → node_seen names (kept_declaring_at d o) ≡ declaring_at d (node_seen names o)
+node-declared names d None = refl
+node-declared names d (Some node) =
+    ap (λ c. Some (record { parent = node.parent; kids = node.kids; attributes = node.attributes; content = c })) (content-declared names d node.content)
+
+name-kept : (count : ℕ) (d : Decl) (c : NodeContent) → NameIsBelow count c → NameIsBelow count (content_declaring d c)
+name-kept count d kept.Root h = h
+name-kept count d (kept.Element id decls) h = h
+name-kept count d (kept.Attribute id value) h = h
+name-kept count d (kept.Text characters) h = h
+name-kept count d (kept.Comment characters) h = h
+name-kept count d (kept.Pi id characters) h = h
+
+names-kept : (count : ℕ) (d : Decl) (nodes : List (Option Node)) (n : ℕ) → NamesAreBelow count nodes → NamesAreBelow count (set nodes n (kept_declaring_at d (get_or nodes n None)))
+names-kept count d [] n k = tt
+names-kept count d (None ∷ nodes) zero k = k
+names-kept count d (Some node ∷ nodes) zero k = (name-kept count d node.content k.0, k.1)
+names-kept count d (None ∷ nodes) (suc n) k = names-kept count d nodes n k
+names-kept count d (Some node ∷ nodes) (suc n) k = (k.0, names-kept count d nodes n k.1)
+
+depth-kept : (d : Decl) (nodes : List (Option Node)) (n m : ℕ) → depth_at (get_or (set nodes n (kept_declaring_at d (get_or nodes n None))) m None) ≡ depth_at (get_or nodes m None)
+depth-kept d [] n m = refl
+depth-kept d (None ∷ nodes) zero zero = refl
+depth-kept d (Some node ∷ nodes) zero zero = refl
+depth-kept d (first ∷ nodes) zero (suc m) = refl
+depth-kept d (first ∷ nodes) (suc n) zero = refl
+depth-kept d (first ∷ nodes) (suc n) (suc m) = depth-kept d nodes n m
+
+module _ (names : List Name) (nodes : List (Option Node)) (n : ℕ) (d : Decl) where
+  table-declared : table_seen names (set nodes n (kept_declaring_at d (get_or nodes n None))) ≡ with_decl (table_seen names nodes) n d
+  table-declared =
+      map-set (node_seen names) nodes n (kept_declaring_at d (get_or nodes n None))
+      ∙ ap (set (table_seen names nodes) n) (node-declared names d (get_or nodes n None) ∙ ap (declaring_at d) (sym (seen-entry names nodes n)))
+
+  -- a sound tree stays so, and has the declaration
+  pub sound-declared : (live bytes : ℕ) → Sound nodes names live bytes → kind_of (table_seen names nodes) n ≡ Some Element →
+      Sound (set nodes n (kept_declaring_at d (get_or nodes n None))) names live bytes
+      × Declared (table_seen names nodes) (table_seen names (set nodes n (kept_declaring_at d (get_or nodes n None)))) n d
+  sound-declared live bytes s kind =
+      let T : Table = table_seen names nodes in
+      let depths : (m : ℕ) → is_live (with_decl T n d) m ≡ true → depth_at (get_or (set nodes n (kept_declaring_at d (get_or nodes n None))) m None) ≡ length (ancestors (with_decl T n d) m) =
+      λ m h. depth-kept d nodes n m ∙ (s.depths m (sym (same-live T n d m) ∙ h) ∙ ap length (sym (same-ancestors T n d m))) in (
+        record {
+          formed = rw table-declared (formed-declared T n d s.formed);
+          known = names-kept (length names) d nodes n s.known;
+          depths = rw table-declared depths;
+          live_is = rw table-declared (s.live_is ∙ ap length (sym (same-order T n d)));
+          bytes_is = rw table-declared (s.bytes_is ∙ sym (same-text T n d));
+        },
+        rw table-declared (declared T n d s.formed kind),
+      )
+
+-- the same, from the parts of a tree
+pub declared-in : (tree : Contents) (names : List Name) (nodes after : List (Option Node)) (live bytes n : ℕ) (d : Decl) → record { nodes = table_seen names nodes; names = names } ≡ tree
+    → Sound nodes names live bytes → after ≡ set nodes n (kept_declaring_at d (get_or nodes n None)) → kind_of tree.nodes n ≡ Some Element
+    → Sound after names live bytes × Declared tree.nodes (table_seen names after) n d
+declared-in tree names nodes after live bytes n d view sound is_after =
+    subst (λ tree. kind_of tree.nodes n ≡ Some Element → Sound after names live bytes × Declared tree.nodes (table_seen names after) n d) view
+    (λ kind. rw is_after (sound-declared names nodes n d live bytes sound kind))
+
+-- the same, for either outcome
+pub declared-or-not : {E : Type 0} (tree : Contents) (names : List Name) (nodes after : List (Option Node)) (live bytes n : ℕ) (d e : Decl) (r : Result (Unit {0}) E) → record { nodes = table_seen names nodes; names = names } ≡ tree
+    → Sound nodes names live bytes → d ≡ e → OnOk r (after ≡ set nodes n (kept_declaring_at d (get_or nodes n None))) → OnErr r (after ≡ nodes) → kind_of tree.nodes n ≡ Some Element
+    → Sound after names live bytes × OnOk r (Declared tree.nodes (table_seen names after) n e)
+declared-or-not tree names nodes after live bytes n d e (Ok x) view sound same ok err kind =
+    let both = declared-in tree names nodes after live bytes n d view sound ok kind in
+    (both.0, subst (Declared tree.nodes (table_seen names after) n) same both.1)
+declared-or-not tree names nodes after live bytes n d e (Err x) view sound same ok err kind = (rw err sound, tt)
