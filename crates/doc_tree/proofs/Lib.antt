@@ -15,3 +15,4 @@ pub mod SoundLemmas
 pub mod DeclareLemmas
 pub mod KeptDeclLemmas
 pub mod ScopeLemmas
+pub mod OrderLemmas

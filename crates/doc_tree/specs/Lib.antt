@@ -5,6 +5,7 @@ pub mod Names
 pub mod Views
 pub mod Kinds
 pub mod Walks
+pub mod Order
 pub mod Lines
 pub mod Growth
 pub mod Laws

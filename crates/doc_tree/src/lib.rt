@@ -4,12 +4,14 @@
 mod append;
 mod axes;
 mod declarations;
+mod before;
 mod ids;
 mod kinds;
 mod laws;
 mod limits;
 mod names;
 mod node;
+mod string_values;
 mod tree;
 mod walk;
 mod words;

@@ -116,7 +116,7 @@ impl Tree {
     }
 
     /// The kind of a node, None for a number that isn't live.
-    fn kind_if_live(&self, n: NodeId) -> Option<Kind>
+    pub(crate) fn kind_if_live(&self, n: NodeId) -> Option<Kind>
         ensures { result ≡ kind_of self.now.nodes n }
     {
         Some(node_at(self.nodes.as_slice(), n)?.content.kind())

@@ -1,0 +1,17 @@
+-- A kid has one ancestor more than its parent, and no node has more than the limit of depth allows.
+use Rattle.std.proofs.Common.{◌≡◌, ℕ, length, sym, ap, ◌∙◌, arith, true, subst, ◌∷◌}
+use Rattle.doc_tree.specs.Lists.{mem}
+use Rattle.doc_tree.specs.Table.{kids_of}
+use Rattle.doc_tree.specs.Walks.{ancestors}
+use Rattle.doc_tree.proofs.ListLemmas.{mem-get}
+use Rattle.doc_tree.proofs.tree.Tree.+push_text_below.Goals as goal
+
+pub push_text_below-requires : goal.push_text_below-requires
+push_text_below-requires t c =
+    let kid : ℕ = c.kid-item.result in
+    let listed : mem kid c.kids-kid-items.result.now ≡ true =
+    subst (λ m. mem m c.kids-kid-items.result.now ≡ true) (sym c.kid-item.is) (mem-get c.kids-kid-items.result.now c.loop-kid.kid-index kid c.loop-kid-test.true) in
+    let member : mem kid (kids_of c.args.self.now.nodes c.args.n) ≡ true = ap (mem kid) (sym c.kids-kid-items.ensures) ∙ listed in
+    let up : ancestors c.args.self.now.nodes kid ≡ c.args.n ∷ ancestors c.args.self.now.nodes c.args.n =
+    c.laws.ensures.ways_up.ancestors_at kid c.args.n (c.laws.ensures.well_formed.kid_parent c.args.n kid member) in
+    (omega (arith, c.decreases, ap length up, c.laws.ensures.ways_up.ancestors_bound kid), tt)

@@ -1,0 +1,119 @@
+//! Which of two nodes comes first in document order.
+
+ghost use Rattle.std.specs.Prelude.{◌≡◌, ◌≢◌, ◌==◌, ℕ, ◌≤◌, ◌++◌, ◌||◌, true, length};
+ghost use Rattle.std.specs.List.{find};
+ghost use Rattle.doc_tree.specs.Lists.{mem};
+ghost use Rattle.doc_tree.specs.Order.{comes_first, is_before, IsUp, Nested};
+ghost use Rattle.doc_tree.specs.Table.{is_live, attrs_of, kids_of};
+ghost use Rattle.doc_tree.specs.Walks.{ancestors, below};
+
+use crate::ids::NodeId;
+use crate::tree::{Tree, node_at};
+
+impl Tree {
+    /// Whether `a` stands before `b` in document order (XPath 1.0 section 5).
+    ///
+    /// Costs the ways up to where the two part, and there the reading of siblings up to the first of the two branches;
+    /// it takes no memory.
+    pub fn is_before(&self, a: NodeId, b: NodeId) -> bool
+        requires a_lives { is_live self.now.nodes a ≡ true }
+        requires b_lives { is_live self.now.nodes b ≡ true }
+        ensures { result ≡ is_before self.now.nodes a b }
+    {
+        self.stands_before(a, b)
+    }
+
+    /// `is_before` by the ways up: the deeper node is lifted to the depth of the other, and where they still differ the
+    /// branches decide.
+    fn stands_before(&self, a: NodeId, b: NodeId) -> bool
+        requires a_lives { is_live self.now.nodes a ≡ true }
+        requires b_lives { is_live self.now.nodes b ≡ true }
+        ensures { result ≡ is_before self.now.nodes a b }
+    {
+        self.laws();
+        let depth_a = self.depth(a);
+        let depth_b = self.depth(b);
+        let branch_a = self.lifted(a, depth_a.saturating_sub(depth_b));
+        let branch_b = self.lifted(b, depth_b.saturating_sub(depth_a));
+        if branch_a == branch_b {
+            depth_a < depth_b
+        } else {
+            self.branch_is_before(branch_a, branch_b)
+        }
+    }
+
+    /// Below a node stand just the node itself and the nodes whose ancestor it is: a law, for the proofs of callers.
+    pub fn nesting(&self)
+        ensures { Nested self.now.nodes }
+    {
+        self.laws();
+    }
+
+    /// How many ancestors a live node has.
+    fn depth(&self, n: NodeId) -> u32
+        requires { is_live self.now.nodes n ≡ true }
+        ensures { result ≡ length (ancestors self.now.nodes n) }
+    {
+        match node_at(self.nodes.as_slice(), n) {
+            Some(node) => node.depth,
+            None => 0,
+        }
+    }
+
+    /// The ancestor of a live node so many levels up, or the node itself for none.
+    fn lifted(&self, n: NodeId, levels: u32) -> NodeId
+        requires lives { is_live self.now.nodes n ≡ true }
+        requires levels { levels ≤ length (ancestors self.now.nodes n) }
+        ensures { IsUp self.now.nodes n levels result }
+    {
+        self.laws();
+        let mut up = n;
+        for _ in 0..levels {
+            if let Some(parent) = self.parent(up) {
+                up = parent;
+            }
+        }
+        up
+    }
+
+    /// Whether what is below `a` stands before what is below `b`, for two nodes at one depth.
+    fn branch_is_before(&self, a: NodeId, b: NodeId) -> bool
+        requires a_lives { is_live self.now.nodes a ≡ true }
+        requires b_lives { is_live self.now.nodes b ≡ true }
+        requires differ { a ≢ b }
+        requires level { length (ancestors self.now.nodes a) ≡ length (ancestors self.now.nodes b) }
+        ensures { (x y : ℕ) → mem x (below self.now.nodes a) ≡ true → mem y (below self.now.nodes b) ≡ true → result ≡ is_before self.now.nodes x y }
+    {
+        self.laws();
+        match (self.parent(a), self.parent(b)) {
+            (Some(p), Some(q)) => {
+                if p == q {
+                    self.sibling_is_before(p, a, b)
+                } else {
+                    self.branch_is_before(p, q)
+                }
+            }
+            _ => unreachable!(),
+        }
+    }
+
+    /// Whether `a` stands before `b` among the attributes and kids of a node.
+    fn sibling_is_before(&self, parent: NodeId, a: NodeId, b: NodeId) -> bool
+        ensures { result ≡ comes_first a b (attrs_of self.now.nodes parent ++ kids_of self.now.nodes parent) }
+    {
+        match first_of(self.attrs(parent), a, b) {
+            Some(first) => first == a,
+            None => match first_of(self.kids(parent), a, b) {
+                Some(first) => first == a,
+                None => false,
+            },
+        }
+    }
+}
+
+/// The first of the nodes that is `a` or `b`.
+fn first_of(nodes: &[NodeId], a: NodeId, b: NodeId) -> Option<NodeId>
+    ensures { result ≡ find (λ n. (n == a) || (n == b)) nodes.now }
+{
+    nodes.iter().copied().find(|n| *n == a || *n == b)
+}
