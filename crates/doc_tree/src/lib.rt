@@ -3,8 +3,9 @@
 
 mod append;
 mod axes;
-mod declarations;
 mod before;
+mod cell;
+mod declarations;
 mod ids;
 mod kinds;
 mod laws;
@@ -17,6 +18,7 @@ mod walk;
 mod words;
 
 pub use axes::{Axis, NodeTest};
+pub use cell::Cell;
 pub use ids::{NameId, NodeId, NodeList};
 pub use kinds::{AppendError, Kind, NewNode};
 pub use limits::{MAX_DEPTH, MAX_LIVE_NODES, MAX_NODE_NUMBERS, MAX_TEXT_BYTES};
