@@ -84,7 +84,7 @@ impl Tree {
         }
         match self.nearest(n, prefix) {
             Some(uri) => Some(uri),
-            None => undeclared(prefix),
+            None => undeclared_namespace(prefix),
         }
     }
 
@@ -197,7 +197,7 @@ fn declared<'a>(decls: &'a [Decl], prefix: &str) -> Option<&'a str>
 }
 
 /// The namespace of a prefix without a declaration: none for the empty one, and another isn't in scope.
-fn undeclared(prefix: &str) -> Option<&'static str>
+pub fn undeclared_namespace(prefix: &str) -> Option<&'static str>
     ensures { option_copied result ≡ undeclared prefix.now }
 {
     if prefix.is_empty() { Some("") } else { None }
@@ -205,7 +205,7 @@ fn undeclared(prefix: &str) -> Option<&'static str>
 
 /// Whether a prefix is `xmlns`, which is never in scope.
 #[tactic(auto, unfolding(crate::specs::Scope::xmlns_prefix))]
-fn is_xmlns(prefix: &str) -> bool
+pub fn is_xmlns(prefix: &str) -> bool
     ensures { result ≡ bytes_eq prefix.now xmlns_prefix }
 {
     prefix == "xmlns"
@@ -213,7 +213,7 @@ fn is_xmlns(prefix: &str) -> bool
 
 /// Whether a prefix is `xml`, which is always in scope.
 #[tactic(auto, unfolding(crate::specs::Scope::xml_prefix))]
-fn is_xml(prefix: &str) -> bool
+pub fn is_xml(prefix: &str) -> bool
     ensures { result ≡ bytes_eq prefix.now xml_prefix }
 {
     prefix == "xml"
@@ -221,7 +221,7 @@ fn is_xml(prefix: &str) -> bool
 
 /// The namespace of the prefix `xml`.
 #[tactic(auto, unfolding(crate::specs::Scope::xml_namespace))]
-fn xml_namespace() -> &'static str
+pub fn xml_namespace() -> &'static str
     ensures { result.now ≡ xml_namespace }
 {
     "http://www.w3.org/XML/1998/namespace"

@@ -19,11 +19,14 @@ mod words;
 
 pub use axes::{Axis, NodeTest};
 pub use cell::Cell;
+pub use declarations::{is_xml, is_xmlns, undeclared_namespace, xml_namespace};
 pub use ids::{NameId, NodeId, NodeList};
 pub use kinds::{AppendError, Kind, NewNode};
 pub use limits::{MAX_DEPTH, MAX_LIVE_NODES, MAX_NODE_NUMBERS, MAX_TEXT_BYTES};
+pub use names::NameTable;
 pub use sch_base::Text;
 pub use tree::Tree;
+pub use words::WordTable;
 
 #[cfg(test)]
 mod tests;

@@ -21,7 +21,7 @@ pub(crate) struct NameKey {
 
 /// The names of a tree, seen by contracts as their list. A word that several names share is kept once.
 #[derive(Drop)]
-pub(crate) struct NameTable {
+pub struct NameTable {
     words: WordTable,
     keys: IndexSet<NameKey>,
 }
@@ -42,7 +42,7 @@ impl Model for NameTable {
 
 impl NameTable {
     /// A table without names.
-    pub(crate) fn new(alloc: Global) -> NameTable
+    pub fn new(alloc: Global) -> NameTable
         ensures { result ≡ [] }
     {
         NameTable {
@@ -52,14 +52,14 @@ impl NameTable {
     }
 
     /// No name stands in the table twice.
-    pub(crate) fn laws(&self)
+    pub fn laws(&self)
         ensures { EachOnce self.now }
     {
         self.words.laws();
     }
 
     /// The number of a name; a new one takes the next number.
-    pub(crate) fn number(
+    pub fn number(
         &mut self,
         alloc: Global,
         prefix: &str,

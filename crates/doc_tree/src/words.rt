@@ -1,6 +1,6 @@
 //! Words, each kept once and numbered in the order of first use.
 
-ghost use Rattle.std.specs.Prelude.{◌≡◌, [], IfOk, OnErr, slice_index_or};
+ghost use Rattle.std.specs.Prelude.{◌≡◌, ◌≢◌, ℕ, [], Some, IfOk, IfSome, IfNone, OnErr, slice_get, slice_index_or};
 ghost use Rattle.doc_tree.specs.Numbering.{EachOnce, Numbered};
 
 use indexmap::IndexSet;
@@ -9,7 +9,7 @@ use std::marker::Model;
 
 /// A table of words, seen by contracts as their list.
 #[derive(Drop)]
-pub(crate) struct WordTable {
+pub struct WordTable {
     words: IndexSet<String>,
 }
 
@@ -27,7 +27,7 @@ impl Model for WordTable {
 
 impl WordTable {
     /// A table without words.
-    pub(crate) fn new(alloc: Global) -> WordTable
+    pub fn new(alloc: Global) -> WordTable
         ensures { result ≡ [] }
     {
         WordTable {
@@ -36,14 +36,14 @@ impl WordTable {
     }
 
     /// No word stands in the table twice.
-    pub(crate) fn laws(&self)
+    pub fn laws(&self)
         ensures { EachOnce self.now }
     {
         let _ = &self.words;
     }
 
     /// The number of a word, which is copied where it is new.
-    pub(crate) fn number(&mut self, alloc: Global, word: &str) -> Result<usize, AllocError>
+    pub fn number(&mut self, alloc: Global, word: &str) -> Result<usize, AllocError>
         ensures numbered { IfOk result (λ number. Numbered self.old self.new word.now number) }
         ensures unchanged { OnErr result (self.new ≡ self.old) }
     {
@@ -54,8 +54,16 @@ impl WordTable {
         Ok(number)
     }
 
+    /// The number of a word, None where it isn't in the table.
+    pub fn find(&self, word: &str) -> Option<usize>
+        ensures found { IfSome result (λ number. slice_get self.now number ≡ Some word.now) }
+        ensures absent { IfNone result ((number : ℕ) → slice_get self.now number ≢ Some word.now) }
+    {
+        self.words.get_index_of(word)
+    }
+
     /// The word with a number, empty past the end.
-    pub(crate) fn word(&self, number: usize) -> &str
+    pub fn word(&self, number: usize) -> &str
         ensures { result.now ≡ slice_index_or self.now number [] }
     {
         match self.words.get_index(number) {
