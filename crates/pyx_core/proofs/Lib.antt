@@ -1,7 +1,15 @@
+pub mod CutLemmas
 pub mod DraftLemmas
+pub mod FeedLemmas
+pub mod JudgeLemmas
 pub mod LineLemmas
+pub mod LineTableLemmas
 pub mod NestLemmas
 pub mod PlainLemmas
 pub mod PlainRun
+pub mod ReaderLemmas
 pub mod SeenLemmas
+pub mod StandingLemmas
+pub mod TellingLemmas
 pub mod FewLemmas
+pub mod Undoing

@@ -1,4 +1,13 @@
+pub mod Before
+pub mod Cutting
+pub mod Escapes
+pub mod Feeding
 pub mod Lines
+pub mod LineTable
+pub mod Nesting
 pub mod PlainText
 pub mod PlainDraft
+pub mod Reading
+pub mod Standing
+pub mod Telling
 pub mod WellNested

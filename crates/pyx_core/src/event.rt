@@ -29,3 +29,15 @@ pub enum Event {
 
 /// The events of a document, in the order of its text.
 pub type EventList = ItemList<Event>;
+
+/// An event and its place.
+#[derive(Debug, Drop)]
+pub struct Located {
+    /// The line where the event begins, counted from 1; for characters that of the first character line that isn't
+    /// empty.
+    pub line: u64,
+    pub event: Event,
+}
+
+/// Events and their places, in the order of the text.
+pub type LocatedList = ItemList<Located>;

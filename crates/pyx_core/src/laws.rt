@@ -1,5 +1,6 @@
 //! Laws of the definitions, for the proofs of callers.
 
+ghost use Rattle.pyx_core.specs.Escapes.{EscapesAreUndone, EscapesHoldNoLineEnd};
 ghost use Rattle.pyx_core.specs.WellNested.{PlainEventsAreOneElement, PlainEventsAreFew, PlainNamesAreLocal};
 
 /// The events of plain text are those of one element, with others nested well in it.
@@ -15,4 +16,14 @@ pub fn plain_events_are_few()
 /// A name of plain text has a character and no colon.
 pub fn plain_names_are_local()
     ensures { PlainNamesAreLocal }
+{}
+
+/// To undo the escapes of an escaped text gives the text.
+pub fn unescaped_undoes_escaped()
+    ensures { EscapesAreUndone }
+{}
+
+/// An escaped text is within one line.
+pub fn escaped_holds_no_line_end()
+    ensures { EscapesHoldNoLineEnd }
 {}

@@ -1,13 +1,30 @@
 //! PYX text: the lines in which documents, schemas and reports come and go, and the events that they give.
 #![tactic(auto)]
 
+mod begun;
+mod escapes;
 mod event;
+mod fault;
 mod laws;
+mod line;
+mod lines;
+mod mode;
 mod plain;
+mod reader;
+mod reading;
+mod whole;
 
-pub use event::{Attr, AttrList, Event, EventList};
-pub use laws::{plain_events_are_few, plain_events_are_one_element, plain_names_are_local};
+pub use escapes::unescape;
+pub use event::{Attr, AttrList, Event, EventList, Located, LocatedList};
+pub use fault::{FeedError, PyxFault, PyxKind};
+pub use laws::{
+    escaped_holds_no_line_end, plain_events_are_few, plain_events_are_one_element,
+    plain_names_are_local, unescaped_undoes_escaped,
+};
+pub use mode::Mode;
 pub use plain::{is_plain_name, plain_events};
+pub use reader::Reader;
+pub use whole::{Front, read_events, read_front};
 
 #[cfg(test)]
 mod tests;

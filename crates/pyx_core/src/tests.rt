@@ -1,6 +1,6 @@
 //! Outside examples: texts and the events that they give.
 
-use super::{Event, EventList, plain_events};
+use super::{Event, EventList, plain_events, unescape};
 use std::test::Fail;
 
 /// The events, each in a line of its own, for comparison.
@@ -97,5 +97,21 @@ fn plain_depth_limit(rt: HostRuntime) -> Result<(), Fail> {
     let deeper = nested(&rt, 257)?;
     assert!(rt; plain_events(rt.alloc(), deepest.as_bytes())?.is_some());
     assert!(rt; plain_events(rt.alloc(), deeper.as_bytes())?.is_none());
+    Ok(())
+}
+
+#[test]
+fn escapes_undone(rt: HostRuntime) -> Result<(), Fail> {
+    for (text, wanted) in [
+        ("", ""),
+        ("plain", "plain"),
+        ("a\\nb", "a\nb"),
+        ("\\t\\r\\\\n", "\t\r\\n"),
+        ("\\\\\\n", "\\\n"),
+        ("\\é\\x", "\\é\\x"),
+        ("end\\", "end\\"),
+    ] {
+        assert_eq!(rt; unescape(rt.alloc(), text)?.as_str(), wanted, "of {text}");
+    }
     Ok(())
 }

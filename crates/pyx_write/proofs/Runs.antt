@@ -2,7 +2,7 @@
 use Rattle.std.proofs.Common.{◌≡◌, ℕ, suc, ◌+◌, ◌-◌, ◌<◌, ◌≤◌, List, [], ◌∷◌, ◌++◌, length, get_or, take, drop, Option, Result, Ok, Err, IsErr, refl, sym, ap, ◌∙◌, subst, arith, add-one, append_assoc, append-nil, length-drop, take-append-drop, get_or-drop}
 use Rattle.std.proofs.Math.Seq.{take-suc, take-length}
 use Rattle.sch_io.specs.Wrote.{Wrote, wrote_then, wrote_stopped}
-use Rattle.pyx_write.specs.Escapes.{escape_of, escaped}
+use Rattle.pyx_core.specs.Escapes.{escape_of, escaped}
 
 pub escaped-append : (xs ys : List ℕ) → escaped (xs ++ ys) ≡ escaped xs ++ escaped ys
 escaped-append [] ys = refl

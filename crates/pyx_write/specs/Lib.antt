@@ -1,2 +1,2 @@
-pub mod Escapes
+pub use Rattle.pyx_core.specs.Escapes
 pub mod Lines

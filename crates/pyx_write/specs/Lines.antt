@@ -1,6 +1,6 @@
 -- The lines of PYX as they are written, each with its line end.
 use Rattle.std.specs.Prelude.{ℕ, List, [], ◌∷◌, ◌++◌, codes}
-use Rattle.pyx_write.specs.Escapes.{escaped}
+use Rattle.pyx_core.specs.Escapes.{escaped}
 
 -- the start of an element
 unfoldable pub start_line : List ℕ → List ℕ

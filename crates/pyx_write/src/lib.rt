@@ -2,11 +2,9 @@
 #![tactic(auto)]
 
 mod escapes;
-mod laws;
 mod lines;
 #[cfg(test)]
 mod tests;
 
-pub use escapes::{unescape, write_escaped};
-pub use laws::{escaped_holds_no_line_end, unescaped_undoes_escaped};
+pub use escapes::write_escaped;
 pub use lines::{write_attr, write_chars, write_comment, write_end, write_pi, write_start};

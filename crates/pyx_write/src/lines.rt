@@ -2,7 +2,7 @@
 
 ghost use Rattle.std.specs.Prelude.{◌++◌, codes};
 ghost use Rattle.sch_io.specs.Wrote.{Wrote, joined};
-ghost use Rattle.pyx_write.specs.Escapes.{escaped};
+ghost use Rattle.pyx_core.specs.Escapes.{escaped};
 ghost use Rattle.pyx_write.specs.Lines.{start_line, attr_line, end_line, chars_line, pi_line, comment_line};
 
 use crate::escapes::write_escaped;

@@ -1,8 +1,7 @@
-//! Lines and escapes written, and escapes undone.
+//! Lines and escapes written.
 
 use crate::{
-    unescape, write_attr, write_chars, write_comment, write_end, write_escaped, write_pi,
-    write_start,
+    write_attr, write_chars, write_comment, write_end, write_escaped, write_pi, write_start,
 };
 use sch_io::{Failed, MemorySink};
 use std::test::Fail;
@@ -37,16 +36,5 @@ fn escapes(rt: HostRuntime) -> Result<(), Fail> {
     let mut sink = MemorySink::with_room(rt.alloc(), 20)?;
     assert_eq!(rt; write_escaped(&mut sink, "a\n\t\r\\b\n"), Ok(()));
     assert_eq!(rt; sink.written(), b"a\\n\\t\\r\\\\b\\n".as_slice());
-    for (text, wanted) in [
-        ("", ""),
-        ("plain", "plain"),
-        ("a\\nb", "a\nb"),
-        ("\\t\\r\\\\n", "\t\r\\n"),
-        ("\\\\\\n", "\\\n"),
-        ("\\é\\x", "\\é\\x"),
-        ("end\\", "end\\"),
-    ] {
-        assert_eq!(rt; unescape(rt.alloc(), text)?.as_str(), wanted, "of {text}");
-    }
     Ok(())
 }

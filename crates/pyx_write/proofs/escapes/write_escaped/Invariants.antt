@@ -1,7 +1,7 @@
 use Rattle.std.proofs.Common.{◌≤◌, take, Ok}
 use Rattle.sch_io.specs.Wrote.{Wrote}
 use Rattle.sch_io.specs.declared.error.Failed.{Failed}
-use Rattle.pyx_write.specs.Escapes.{escaped}
+use Rattle.pyx_core.specs.Escapes.{escaped}
 use Rattle.pyx_write.proofs.Runs.{IsPlainRun}
 use Rattle.pyx_write.proofs.escapes.write_escaped.Given as goal
 

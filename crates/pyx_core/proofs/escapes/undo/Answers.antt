@@ -1,7 +1,7 @@
 use Rattle.std.proofs.Common.{sym, ◌∙◌, ap, length}
-use Rattle.pyx_write.proofs.Undoing.{kept_backslash, kept_at_end}
-use Rattle.pyx_write.proofs.escapes.undo.Goals as goal
-use Rattle.pyx_write.proofs.escapes.undo.Goals.{in-Some+in_default-meaning, in_default}
+use Rattle.pyx_core.proofs.Undoing.{kept_backslash, kept_at_end}
+use Rattle.pyx_core.proofs.escapes.undo.Goals as goal
+use Rattle.pyx_core.proofs.escapes.undo.Goals.{in-Some+in_default-meaning, in_default}
 
 pub returns-clause-undone : goal.returns-clause-undone
 returns-clause-undone c =

@@ -6,7 +6,7 @@ use Rattle.std.proofs.lemmas.Str.{encode_ascii, inside_one, len_utf8_bounds, len
 use Rattle.std.specs.Char.{encode_utf8, len_utf8}
 use Rattle.std.proofs.lemmas.Bool.Decides.{nat_tests}
 use Rattle.std.proofs.lemmas.List.Elements.{All-nil, All-cons, All-append}
-use Rattle.pyx_write.specs.Escapes.{escape_of, escaped, undone, unescaped, unescaped_after}
+use Rattle.pyx_core.specs.Escapes.{escape_of, escaped, undone, unescaped, unescaped_after}
 
 -- one byte written and undone
 undone_byte : (byte : ℕ) (rest : List ℕ) → unescaped (escape_of byte ++ rest) ≡ byte ∷ unescaped rest

@@ -1,8 +1,8 @@
 use Rattle.std.proofs.Common.{lit<, None, Some, sym, ◌∙◌, ap, ◌++◌, string_bytes, rules}
 use Rattle.std.proofs.lemmas.Result.{IfOk-weaker}
 use Rattle.std.proofs.lemmas.Str.Pattern.{split_once_first}
-use Rattle.pyx_write.proofs.Undoing.{unescaped_more, unescaped_whole}
-use Rattle.pyx_write.proofs.escapes.unescape.Goals as goal
+use Rattle.pyx_core.proofs.Undoing.{unescaped_more, unescaped_whole}
+use Rattle.pyx_core.proofs.escapes.unescape.Goals as goal
 
 pub loop-run-preserved : goal.loop-run-preserved
 loop-run-preserved c =
@@ -16,5 +16,4 @@ loop-run-preserved c =
 pub returns : goal.returns
 returns c =
     let whole = unescaped_whole c.loop-run.rest.now (split_once_first 92 c.loop-run.rest.now None c.in_default.ensures.cases (lit< tt)) in
-    IfOk-weaker c.copy.result _ _
-    (λ t e. e ∙ c.as_str.ensures.value ∙ c.in_ok-push_str-3.ensures.bytes ∙ ap (λ l. string_bytes c.loop-run.plain ++ l) (sym whole) ∙ sym c.loop-run.invariant.1) c.copy.ensures
+    c.from.ensures ∙ c.in_ok-push_str-3.ensures.bytes ∙ ap (λ l. string_bytes c.loop-run.plain ++ l) (sym whole) ∙ sym c.loop-run.invariant.1

@@ -1,0 +1,12 @@
+use Rattle.std.proofs.Common.{◌++◌}
+use Rattle.pyx_core.specs.Reading.{judge}
+use Rattle.pyx_core.proofs.StandingLemmas.{takes_none}
+use Rattle.pyx_core.proofs.CutLemmas.{few_ended}
+use Rattle.pyx_core.proofs.JudgeLemmas.{count_good}
+use Rattle.pyx_core.proofs.lines.Lines.take_joined.Goals as goal
+
+pub returns-in_err-extend_from_slice-clause-reads : goal.returns-in_err-extend_from_slice-clause-reads
+returns-in_err-extend_from_slice-clause-reads c = λ mode taken before reads number.
+    takes_none c.args.self.now.reading mode taken before
+    (judge mode before (c.args.self.now.half.items ++ c.args.bytes.now)) c.from_residual.result reads
+    c.from_residual.ensures.0

@@ -1,5 +1,0 @@
-use Rattle.pyx_write.proofs.Undoing.{no_line_end}
-use Rattle.pyx_write.proofs.laws.escaped_holds_no_line_end.Goals as goal
-
-pub returns : goal.returns
-returns c = no_line_end
