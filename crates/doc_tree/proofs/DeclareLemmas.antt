@@ -371,6 +371,7 @@ declared T n d formed kind =
     record {
       table = refl;
       decls = new-decls T n d at;
+      content = λ name decls h. new-content T n d (record { name = name; decls = decls; is = h });
       same_name = same-name T n d n;
       same_length = same-length T n d;
       same_live = same-live T n d;

@@ -1,7 +1,7 @@
 -- How a declaration changes a tree: its element has one declaration more, the last of them.
 use Rattle.std.specs.Prelude.{◌≡◌, ◌≢◌, ℕ, true, List, [], ◌∷◌, ◌++◌, length, Option, None, Some, slice_set}
 use Rattle.std.specs.List.{flat_map}
-use Rattle.doc_tree.specs.Table.{Table, Facts, Content, root, element, attribute, text, comment, instruction, entry_at, parent_of, kids_of, attrs_of, content_of, kind_of, name_of, decls_of, value_of, is_live, AllLive}
+use Rattle.doc_tree.specs.Table.{Table, Name, Facts, Content, root, element, attribute, text, comment, instruction, entry_at, parent_of, kids_of, attrs_of, content_of, kind_of, name_of, decls_of, value_of, is_live, AllLive}
 use Rattle.doc_tree.specs.Walks.{order, above, ancestors, is_open, text_bytes}
 use Rattle.doc_tree.specs.Lines.{Line, declares, lines, closing}
 use Rattle.doc_tree.specs.Scope.{Decl, scope_at}
@@ -36,6 +36,7 @@ pub record Declared (T U : Table) (n : ℕ) (decl : Decl) : Type 0 where
   pub table : U ≡ with_decl T n decl
   -- the element's declarations
   pub decls : decls_of U n ≡ decls_of T n ++ decl ∷ []
+  pub content : (name : Name) (decls : List Decl) → content_of T n ≡ Some (element name decls) → content_of U n ≡ Some (element name (decls ++ decl ∷ []))
   pub same_name : name_of U n ≡ name_of T n
   -- all else stays
   pub same_length : length U ≡ length T
