@@ -1,0 +1,4 @@
+pub mod Sets
+pub mod SlotLemmas
+pub mod Outcomes
+pub mod Runs

@@ -1,0 +1,6 @@
+pub mod Outcome
+pub mod Recorded
+pub mod Running
+pub mod Settling
+pub mod Slots
+pub mod Laws
