@@ -1,5 +1,6 @@
 -- Steps of runs: how the run of a part makes a run of the whole.
-use Rattle.std.proofs.Common.{◌≡◌, ℕ, ◌+◌, List, [], ◌∷◌, ◌++◌, refl, sym, ◌∙◌, ap, subst, append_assoc, append-nil, add-zero, Result, Ok, Err, arith}
+use Rattle.std.proofs.Common.{◌≡◌, ℕ, suc, ◌+◌, ◌<◌, ◌≤◌, length, get_or, drop, drop-cons, add-one, List, [], ◌∷◌, ◌++◌, refl, sym, ◌∙◌, ap, subst, append_assoc, append-nil, add-zero, Result, Ok, Err, arith}
+use Rattle.std.proofs.lemmas.List.{drop_all}
 use Rattle.xp_outcome.specs.Outcome.{Read, Outcome, done, fault, behind, follow, bind, visit, visits, reading, all_reading}
 use Rattle.xp_outcome.specs.Recorded.{Recorded, note, note_all}
 use Rattle.xp_outcome.specs.Running.{Stop, faulted, no_memory, Answered, Faulted, CutShort, Ran, Onto}
@@ -168,3 +169,22 @@ module _ {F X A B C : Type 0} (act : ℕ → X → Outcome F A) (piece : ℕ →
   pub gather_end : (acc : List B) (i : ℕ) {now : Recorded} {after : ℕ} → Onto m held before (gathering act piece next acc i []) now after →
       Onto m held before (next acc) now after
   gather_end acc i h = onto_alike (gathering_end act piece next acc i) h
+
+-- the recorder and the count may be given by other terms
+pub onto_moved : {F A : Type 0} {m k : Outcome F A} {held now moved : Recorded} {before after gone : ℕ} → moved ≡ now → gone ≡ after →
+    Onto m held before k now after → Onto m held before k moved gone
+onto_moved {m = m} {k = k} {held = held} {now = now} {moved = moved} {before = before} {after = after} {gone = gone} r s h =
+    subst (λ n. Onto m held before k moved n) (sym s) (subst (λ o. Onto m held before k o after) (sym r) h)
+
+pub ran_moved : {F A : Type 0} {m : Outcome F A} {r : Result A (Stop F)} {held from now moved : Recorded} {before start after gone : ℕ} →
+    from ≡ held → moved ≡ now → start ≡ before → gone ≡ after → Ran m r held now before after → Ran m r from moved start gone
+ran_moved {m = m} {r = r} {held = held} {from = from} {now = now} {moved = moved} {before = before} {start = start} {after = after} {gone = gone} a b c d h =
+    subst (λ n. Ran m r from moved start n) (sym d)
+    (subst (λ n. Ran m r from moved n after) (sym c) (subst (λ o. Ran m r from o before after) (sym b) (subst (λ o. Ran m r o now before after) (sym a) h)))
+
+-- what a loop over a list has before it: an item and the rest, or nothing
+pub next_item : {X : Type 0} (xs : List X) (i : ℕ) (x : X) → i < length xs → x ≡ get_or xs i x → drop i xs ≡ x ∷ drop (i + 1) xs
+next_item xs i x below is = drop-cons xs i x below ∙ ap (λ y. y ∷ drop (suc i) xs) (sym is) ∙ ap (λ k. x ∷ drop k xs) (sym (add-one i))
+
+pub no_item : {X : Type 0} (xs : List X) (i : ℕ) → length xs ≤ i → drop i xs ≡ []
+no_item xs i past = drop_all i xs past

@@ -22,6 +22,11 @@ done v = record { answer = Ok v; reads = []; work = 0 }
 unfoldable pub fault : {F A : Type 0} → F → Outcome F A
 fault f = record { answer = Err f; reads = []; work = 0 }
 
+-- what is computed with no read and no visit
+abbrev pub given : {F A : Type 0} → Result A F → Outcome F A
+given (Ok v) = done v
+given (Err f) = fault f
+
 -- some reads and visits more, before the rest
 unfoldable pub behind : {F A : Type 0} → List Read → ℕ → Outcome F A → Outcome F A
 behind xs n m = record { answer = m.answer; reads = xs ++ m.reads; work = n + m.work }
