@@ -96,7 +96,7 @@ differs : (a b : ℕ) → b < a → nat_eq a b ≡ false
 differs a b less = grind (arith, nat_tests)
 
 -- bytes past ASCII stand in no escape
-past_ascii : (byte : ℕ) → 128 ≤ byte → undone byte ≡ 92 ∷ byte ∷ []
+pub past_ascii : (byte : ℕ) → 128 ≤ byte → undone byte ≡ 92 ∷ byte ∷ []
 past_ascii byte high =
     let a : nat_eq byte 110 ≡ false = differs byte 110 (omega arith) in
     let b : nat_eq byte 116 ≡ false = differs byte 116 (omega arith) in

@@ -11,3 +11,4 @@ pub mod Reading
 pub mod Standing
 pub mod Telling
 pub mod WellNested
+pub mod Written

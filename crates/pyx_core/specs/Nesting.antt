@@ -1,7 +1,7 @@
 -- How the events of a text nest: those of a document (XML 1.0, section 2.1), or of one item of a document.
 use Rattle.std.specs.Prelude.{◌≡◌, ◌≢◌, ℕ, Bool, true, false, ◌&&◌, ◌||◌, List, [], ◌∷◌, ◌++◌, map, None}
 use Rattle.std.specs.List.{list_all}
-use Rattle.std.specs.Str.{chars}
+use Rattle.std.specs.Str.{chars, is_utf8}
 use Rattle.sch_base.specs.Characters.{is_xml_char}
 use Rattle.pyx_core.specs.declared.event.Attr.{Attr}
 use Rattle.pyx_core.specs.declared.event.Event.{Event}
@@ -38,17 +38,25 @@ after mode place (Comment text) =
 abbrev pub HasRoom : Place → Type 0
 HasRoom place = (is_nil place.opened && place.begun) ≡ false
 
--- the text is made of Chars: XML 1.0, section 2.2
+-- the bytes are UTF-8 and spell Chars: XML 1.0, section 2.2
 abbrev pub of_chars : List ℕ → Bool
-of_chars text = list_all is_xml_char (chars text)
+of_chars text = is_utf8 text && list_all is_xml_char (chars text)
+
+-- a QName: Namespaces in XML 1.0, section 4
+abbrev pub is_name : List ℕ → Bool
+is_name text = of_chars text && is_qname text
+
+-- the target of a processing instruction
+abbrev pub is_pi_name : List ℕ → Bool
+is_pi_name text = of_chars text && is_target text
 
 abbrev pub is_attr : Attr → Bool
-is_attr attr = is_qname attr.name && of_chars attr.value
+is_attr attr = is_name attr.name && of_chars attr.value
 
 -- an element begins
 pub record StartFits (place : Place) (name : List ℕ) (attrs : List Attr) : Type 0 where
   pub room : HasRoom place
-  pub named : is_qname name ≡ true
+  pub named : is_name name ≡ true
   pub attributes : list_all is_attr attrs ≡ true
 
 -- characters, of which there is at least one: in a document inside an element, and never behind characters
@@ -62,7 +70,7 @@ pub record CharsFit (mode : Mode) (place : Place) (text : List ℕ) : Type 0 whe
 -- a processing instruction
 pub record PiFits (mode : Mode) (place : Place) (target body : List ℕ) : Type 0 where
   pub room : is_fragment mode ≡ true → HasRoom place
-  pub named : is_target target ≡ true
+  pub named : is_pi_name target ≡ true
   pub made : of_chars body ≡ true
 
 -- a comment

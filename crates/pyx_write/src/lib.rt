@@ -2,9 +2,11 @@
 #![tactic(auto)]
 
 mod escapes;
+mod event;
 mod lines;
 #[cfg(test)]
 mod tests;
 
 pub use escapes::write_escaped;
+pub use event::write_event;
 pub use lines::{write_attr, write_chars, write_comment, write_end, write_pi, write_start};

@@ -3,13 +3,13 @@
 ghost use Rattle.std.specs.Prelude.{◌++◌, codes};
 ghost use Rattle.sch_io.specs.Wrote.{Wrote, joined};
 ghost use Rattle.pyx_core.specs.Escapes.{escaped};
-ghost use Rattle.pyx_write.specs.Lines.{start_line, attr_line, end_line, chars_line, pi_line, comment_line};
+ghost use Rattle.pyx_core.specs.Written.{start_line, attr_line, end_line, chars_line, pi_line, comment_line};
 
 use crate::escapes::write_escaped;
 use sch_io::{Failed, Sink, write_all, write_pieces};
 
 /// Writes the start of an element.
-#[tactic(auto, unfolding(crate::specs::Lines::start_line))]
+#[tactic(auto, unfolding(pyx_core::specs::Written::start_line))]
 pub fn write_start<O: Sink>(sink: &mut O, name: &str) -> Result<(), Failed>
     ensures { Wrote (O.written sink.old) (O.written sink.new) (O.faults sink.old) (O.faults sink.new) (start_line name.now) result }
 {
@@ -17,7 +17,7 @@ pub fn write_start<O: Sink>(sink: &mut O, name: &str) -> Result<(), Failed>
 }
 
 /// Writes an attribute of the element that was started.
-#[tactic(auto, unfolding(crate::specs::Lines::attr_line))]
+#[tactic(auto, unfolding(pyx_core::specs::Written::attr_line))]
 pub fn write_attr<O: Sink>(sink: &mut O, name: &str, value: &str) -> Result<(), Failed>
     ensures { Wrote (O.written sink.old) (O.written sink.new) (O.faults sink.old) (O.faults sink.new) (attr_line name.now value.now) result }
 {
@@ -25,7 +25,7 @@ pub fn write_attr<O: Sink>(sink: &mut O, name: &str, value: &str) -> Result<(), 
 }
 
 /// Writes the end of an element.
-#[tactic(auto, unfolding(crate::specs::Lines::end_line))]
+#[tactic(auto, unfolding(pyx_core::specs::Written::end_line))]
 pub fn write_end<O: Sink>(sink: &mut O, name: &str) -> Result<(), Failed>
     ensures { Wrote (O.written sink.old) (O.written sink.new) (O.faults sink.old) (O.faults sink.new) (end_line name.now) result }
 {
@@ -33,7 +33,7 @@ pub fn write_end<O: Sink>(sink: &mut O, name: &str) -> Result<(), Failed>
 }
 
 /// Writes characters in one line, and nothing for an empty text.
-#[tactic(auto, unfolding(crate::specs::Lines::chars_line))]
+#[tactic(auto, unfolding(pyx_core::specs::Written::chars_line))]
 pub fn write_chars<O: Sink>(sink: &mut O, text: &str) -> Result<(), Failed>
     ensures { Wrote (O.written sink.old) (O.written sink.new) (O.faults sink.old) (O.faults sink.new) (chars_line text.now) result }
 {
@@ -44,7 +44,7 @@ pub fn write_chars<O: Sink>(sink: &mut O, text: &str) -> Result<(), Failed>
 }
 
 /// Writes a processing instruction.
-#[tactic(auto, unfolding(crate::specs::Lines::pi_line))]
+#[tactic(auto, unfolding(pyx_core::specs::Written::pi_line))]
 pub fn write_pi<O: Sink>(sink: &mut O, target: &str, body: &str) -> Result<(), Failed>
     ensures { Wrote (O.written sink.old) (O.written sink.new) (O.faults sink.old) (O.faults sink.new) (pi_line target.now body.now) result }
 {
@@ -52,7 +52,7 @@ pub fn write_pi<O: Sink>(sink: &mut O, target: &str, body: &str) -> Result<(), F
 }
 
 /// Writes a comment.
-#[tactic(auto, unfolding(crate::specs::Lines::comment_line))]
+#[tactic(auto, unfolding(pyx_core::specs::Written::comment_line))]
 pub fn write_comment<O: Sink>(sink: &mut O, text: &str) -> Result<(), Failed>
     ensures { Wrote (O.written sink.old) (O.written sink.new) (O.faults sink.old) (O.faults sink.new) (comment_line text.now) result }
 {
