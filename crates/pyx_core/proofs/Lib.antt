@@ -1,6 +1,7 @@
 pub mod CutLemmas
 pub mod DraftLemmas
 pub mod EscapeLemmas
+pub mod EventCountLemmas
 pub mod FeedLemmas
 pub mod JudgeLemmas
 pub mod LineLemmas

@@ -5,7 +5,6 @@ use Rattle.std.specs.Option.{is_some}
 use Rattle.std.specs.Str.{chars, is_utf8, str_eq_ignore_ascii_case}
 use Rattle.sch_base.specs.Characters.{is_xml_char}
 use Rattle.sch_base.specs.Names.{is_ncname, split_qname}
-use Rattle.pyx_core.specs.declared.event.Attr.{Attr}
 use Rattle.pyx_core.specs.declared.fault.PyxKind.{PyxKind}
 use Rattle.pyx_core.specs.declared.fault.PyxKind.TheVariants.{NotUtf8, BadChar, UnknownLine, EntityLine, BadName}
 use Rattle.pyx_core.specs.declared.line.Line.{Line}

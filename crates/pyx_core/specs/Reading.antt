@@ -1,5 +1,5 @@
 -- The events of a text, and its first fault.
-use Rattle.std.specs.Prelude.{◌≡◌, ℕ, suc, List, [], ◌∷◌, ◌++◌, length, Option, None, Some, Result, Ok, Err}
+use Rattle.std.specs.Prelude.{◌≡◌, ℕ, suc, List, [], ◌∷◌, ◌++◌, length, ◌≤◌, Option, None, Some, Result, Ok, Err}
 use Rattle.std.specs.Option.{option_to_list}
 use Rattle.pyx_core.specs.declared.event.Located.{Located}
 use Rattle.pyx_core.specs.declared.fault.PyxFault.{PyxFault}
@@ -115,3 +115,7 @@ pub record CompletedStays (mode : Mode) (bytes more : List ℕ) : Type 0 where
 
 abbrev pub CompletedEventsStay : Type 0
 CompletedEventsStay = (mode : Mode) (bytes more : List ℕ) → CompletedStays mode bytes more
+
+-- a text has no more events than bytes
+abbrev pub EventsAreFew : Type 0
+EventsAreFew = (mode : Mode) (bytes : List ℕ) → length (events_of mode bytes) ≤ length bytes

@@ -2,7 +2,7 @@
 
 ghost use Rattle.pyx_core.specs.Escapes.{EscapesAreUndone, EscapesHoldNoLineEnd};
 ghost use Rattle.pyx_core.specs.Nesting.{EventsNest};
-ghost use Rattle.pyx_core.specs.Reading.{FaultsStay, CompletedEventsStay};
+ghost use Rattle.pyx_core.specs.Reading.{FaultsStay, CompletedEventsStay, EventsAreFew};
 ghost use Rattle.pyx_core.specs.Written.{WrittenIsReadBack};
 ghost use Rattle.pyx_core.specs.WellNested.{PlainEventsAreOneElement, PlainEventsAreFew, PlainNamesAreLocal};
 
@@ -49,4 +49,9 @@ pub fn events_nest()
 /// Events that are written as lines are read back from them.
 pub fn written_is_read_back()
     ensures { WrittenIsReadBack }
+{}
+
+/// A text has no more events than bytes.
+pub fn events_are_few()
+    ensures { EventsAreFew }
 {}

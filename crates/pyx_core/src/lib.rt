@@ -18,7 +18,7 @@ pub use escapes::unescape;
 pub use event::{Attr, AttrList, Event, EventList, Located, LocatedList};
 pub use fault::{FeedError, PyxFault, PyxKind};
 pub use laws::{
-    completed_events_stay, escaped_holds_no_line_end, events_nest, faults_stay,
+    completed_events_stay, escaped_holds_no_line_end, events_are_few, events_nest, faults_stay,
     plain_events_are_few, plain_events_are_one_element, plain_names_are_local,
     unescaped_undoes_escaped, written_is_read_back,
 };
