@@ -1,7 +1,7 @@
 //! The functions that an expression may call.
 
 ghost use Rattle.std.specs.Prelude.{◌≡◌};
-ghost use Rattle.xp_typed.specs.WellTyped.{result_type, takes, wants_nodes};
+ghost use Rattle.xp_typed.specs.WellTyped.{result_type, takes, wants_nodes, may_call};
 
 use crate::operators::ValueType;
 
@@ -120,5 +120,15 @@ impl Function {
                 | Function::NamespaceUri
                 | Function::Name
         )
+    }
+
+    /// Whether an expression may call the function: a pattern calls no `current`.
+    pub fn may_be_called(self, in_pattern: bool) -> bool
+        ensures { result ≡ may_call in_pattern self }
+    {
+        match self {
+            Function::Current => !in_pattern,
+            _ => true,
+        }
     }
 }

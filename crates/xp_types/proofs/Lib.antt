@@ -1,0 +1,6 @@
+mod ScopeLemmas
+mod Giving
+mod Looping
+mod TypingViews
+mod Sound
+mod PatternLooping

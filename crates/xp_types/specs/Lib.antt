@@ -1,0 +1,5 @@
+pub mod Scope
+pub mod FunctionNames
+pub mod Checked
+pub mod Typing
+pub mod ChainParts

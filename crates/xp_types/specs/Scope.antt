@@ -1,0 +1,47 @@
+-- What is in scope where an expression stands: XPath 1.0, section 1, and ISO/IEC 19757-3, section 6.
+use Rattle.std.specs.Prelude.{ℕ, Bool, List, [], ◌∷◌, Option, None, Some, if◌then◌else◌, codes, String}
+use Rattle.std.specs.String.{string_bytes}
+use Rattle.std.specs.Str.{bytes_eq}
+use Rattle.std.specs.declared.alloc.Global.{Global}
+use Rattle.xp_typed.specs.declared.operators.ValueType.{ValueType}
+use Rattle.xp_types.specs.declared.env.Variable.{Variable}
+
+-- a prefix and the namespace that it stands for
+pub record Binding : Type 0 where
+  pub prefix : List ℕ
+  pub uri : List ℕ
+
+-- a variable: its name, the slot of its value, the type of that
+pub record Named : Type 0 where
+  pub name : List ℕ
+  pub place : ℕ
+  pub type : ValueType
+
+pub record Scope : Type 0 where
+  pub in_pattern : Bool
+  pub prefixes : List Binding
+  pub variables : List Named
+
+-- the namespace to which a prefix is bound
+abbrev pub bound : List Binding → List ℕ → Option (List ℕ)
+bound [] prefix = None
+bound (b ∷ bs) prefix = if bytes_eq prefix b.prefix then Some b.uri else bound bs prefix
+
+abbrev pub xml_namespace : List ℕ
+xml_namespace = codes "http://www.w3.org/XML/1998/namespace"
+
+-- the namespace of a prefix; `xml` is always bound: Namespaces in XML 1.0, section 3
+abbrev pub namespace_of : Scope → List ℕ → Option (List ℕ)
+namespace_of S prefix = if bytes_eq prefix (codes "xml") then Some xml_namespace else bound S.prefixes prefix
+
+-- the slot and the type of a variable
+abbrev pub variable_of : List Named → List ℕ → Option Variable
+variable_of [] name = None
+variable_of (v ∷ vs) name = if bytes_eq name v.name then Some (record { slot = v.place; ty = v.type }) else variable_of vs name
+
+-- what an entry of a table of the program is seen as
+abbrev pub binding_of : String Global × List ℕ → Binding
+binding_of e = record { prefix = string_bytes e.0; uri = e.1 }
+
+abbrev pub variable_in : String Global × Variable → Named
+variable_in e = record { name = string_bytes e.0; place = e.1.slot; type = e.1.ty }

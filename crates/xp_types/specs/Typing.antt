@@ -1,0 +1,209 @@
+-- The types of expressions and of match patterns, or the first fault: XPath 1.0, sections 2 to 4, and XSLT 1.0,
+-- section 5.2. Parts are checked in the order in which they begin in the text.
+use Rattle.std.specs.Prelude.{ℕ, ◌+◌, ◌-◌, ◌*◌, pos, Bool, true, false, List, [], ◌∷◌, Option, None, Some, Ok, if◌then◌else◌, nat_le, ◌==◌, fold, suc, codes}
+use Rattle.std.specs.List.{list_any}
+use Rattle.doc_tree.specs.declared.axes.Axis.{Axis}
+use Rattle.doc_tree.specs.declared.axes.Axis.TheVariants as axes
+use Rattle.doc_tree.specs.declared.axes.NodeTest.{NodeTest}
+use Rattle.doc_tree.specs.declared.axes.NodeTest.TheVariants as tests
+use Rattle.xp_tree.specs.declared.terms.Level.TheVariants as levels
+use Rattle.xp_tree.specs.declared.terms.Operator.{Operator}
+use Rattle.xp_tree.specs.declared.terms.Operator.TheVariants as operators
+use Rattle.xp_tree.specs.declared.terms.AxisName.{AxisName}
+use Rattle.xp_tree.specs.declared.terms.AxisName.TheVariants as names
+use Rattle.xp_tree.specs.declared.terms.StepTest.{StepTest}
+use Rattle.xp_tree.specs.declared.terms.StepTest.TheVariants as written
+use Rattle.xp_tree.specs.declared.pattern.PatternStart.{PatternStart}
+use Rattle.xp_tree.specs.declared.pattern.PatternStart.TheVariants as starts
+use Rattle.xp_tree.specs.Tree.{Tree, PathStart, Steps, Operands, Trees, chain, negated, path, filtered, variable, literal, number, call, root, here, from, no_steps, step, no_operands, operand, no_trees, tree, offset_of}
+use Rattle.xp_tree.specs.PatternTree.{PathTree, StepTree}
+use Rattle.xp_typed.specs.declared.operators.ValueType.{ValueType}
+use Rattle.xp_typed.specs.declared.operators.ValueType.TheVariants as types
+use Rattle.xp_typed.specs.declared.operators.Comparison.{Comparison}
+use Rattle.xp_typed.specs.declared.operators.Comparison.TheVariants as comparisons
+use Rattle.xp_typed.specs.declared.operators.ArithOp.{ArithOp}
+use Rattle.xp_typed.specs.declared.operators.ArithOp.TheVariants as ariths
+use Rattle.xp_typed.specs.declared.function.Function.{Function}
+use Rattle.xp_typed.specs.TypedTree.{TypedTree, TypedPlace, TypedSteps, Comparands, Combinands, TypedTrees, TypedPatternStepTree, TypedPathTree, disjunction, conjunction, comparison, arithmetic, negation, union, location, selection, slot, text, whole, application, at_root, at_context, at_nodes, no_more_steps, typed_step, no_comparands, comparand, no_combinands, combinand, no_typed, typed}
+use Rattle.xp_typed.specs.WellTyped.{type_of, takes, wants_nodes, may_call}
+use Rattle.xp_types.specs.declared.env.Variable.{Variable}
+use Rattle.xp_types.specs.declared.faults.TypeKind.TheVariants as kinds
+use Rattle.xp_types.specs.Scope.{Scope, namespace_of, variable_of}
+use Rattle.xp_types.specs.FunctionNames.{function_named, is_left_out}
+use Rattle.xp_types.specs.Checked.{Checked, after, fault}
+
+-- the value of digits: XPath 1.0, section 3.5
+abbrev pub decimal : List ℕ → ℕ
+decimal digits = fold (λ value digit. 10 * value + (digit - 48)) 0 digits
+
+abbrev pub has_point : List ℕ → Bool
+has_point digits = list_any (λ c. c == 46) digits
+
+-- a whole number that isn't too large
+abbrev pub number_typed : List ℕ → ℕ → Checked TypedTree
+number_typed digits offset =
+    if has_point digits then fault (kinds.Refused (codes "fraction")) offset
+    else (if nat_le (decimal digits) 9007199254740991 then Ok (whole (pos (decimal digits))) else fault kinds.NumberTooLarge offset)
+
+-- a node-set, where that is wanted
+abbrev pub node_set_at : ValueType → ℕ → TypedTree → Checked TypedTree
+node_set_at types.NodeSet offset t = Ok t
+node_set_at _ offset t = fault kinds.NodeSetWanted offset
+
+abbrev pub wanted : Bool → ℕ → TypedTree → Checked TypedTree
+wanted true offset t = node_set_at (type_of t) offset t
+wanted false offset t = Ok t
+
+abbrev pub comparison_of : Operator → Comparison
+comparison_of operators.NotEqual = comparisons.NotEqual
+comparison_of operators.Less = comparisons.Less
+comparison_of operators.AtMost = comparisons.AtMost
+comparison_of operators.Greater = comparisons.Greater
+comparison_of operators.AtLeast = comparisons.AtLeast
+comparison_of _ = comparisons.Equal
+
+-- division is refused
+abbrev pub arith_of : Operator → ℕ → Checked ArithOp
+arith_of operators.Div offset = fault (kinds.Refused (codes "div")) offset
+arith_of operators.Minus offset = Ok ariths.Minus
+arith_of operators.Times offset = Ok ariths.Times
+arith_of operators.Mod offset = Ok ariths.Mod
+arith_of _ offset = Ok ariths.Plus
+
+-- the namespace axis is refused
+abbrev pub axis_of : AxisName → ℕ → Checked Axis
+axis_of names.Ancestor offset = Ok axes.Ancestor
+axis_of names.AncestorOrSelf offset = Ok axes.AncestorOrSelf
+axis_of names.Attribute offset = Ok axes.Attribute
+axis_of names.Child offset = Ok axes.Child
+axis_of names.Descendant offset = Ok axes.Descendant
+axis_of names.DescendantOrSelf offset = Ok axes.DescendantOrSelf
+axis_of names.Following offset = Ok axes.Following
+axis_of names.FollowingSibling offset = Ok axes.FollowingSibling
+axis_of names.Namespace offset = fault (kinds.Refused (codes "namespace")) offset
+axis_of names.Parent offset = Ok axes.Parent
+axis_of names.Preceding offset = Ok axes.Preceding
+axis_of names.PrecedingSibling offset = Ok axes.PrecedingSibling
+axis_of names.SelfNode offset = Ok axes.SelfNode
+
+-- the namespace of a name test's prefix
+abbrev pub known : Option (List ℕ) → ℕ → Checked (List ℕ)
+known (Some uri) offset = Ok uri
+known None offset = fault kinds.UnknownPrefix offset
+
+-- a node test with its prefix resolved; a name without a prefix has no namespace: XPath 1.0, section 2.3
+abbrev pub resolved : Scope → StepTest → ℕ → Checked NodeTest
+resolved S written.Star offset = Ok tests.Star
+resolved S (written.InPrefix prefix) offset = after (known (namespace_of S prefix) offset) (λ uri. Ok (tests.InNamespace uri))
+resolved S (written.Named None local) offset = Ok (tests.Named [] local)
+resolved S (written.Named (Some prefix) local) offset = after (known (namespace_of S prefix) offset) (λ uri. Ok (tests.Named uri local))
+resolved S written.Node offset = Ok tests.Any
+resolved S written.Chars offset = Ok tests.Text
+resolved S written.Comment offset = Ok tests.Comment
+resolved S written.Pi offset = Ok tests.Pi
+resolved S (written.PiNamed target) offset = Ok (tests.PiNamed target)
+
+abbrev pub variable_typed : Option Variable → ℕ → Checked TypedTree
+variable_typed (Some v) offset = Ok (slot v.slot v.ty)
+variable_typed None offset = fault kinds.UnknownVariable offset
+
+-- the function that a call names, where it may be called with so many arguments
+abbrev pub function_called : Scope → List ℕ → ℕ → ℕ → Option Function → Checked Function
+function_called S name offset count (Some f) =
+    if may_call S.in_pattern f then (if takes f count then Ok f else fault kinds.Arity offset) else fault (kinds.Refused name) offset
+function_called S name offset count None = if is_left_out name then fault (kinds.Refused name) offset else fault kinds.UnknownFunction offset
+
+-- a name with a prefix is refused
+abbrev pub called : Scope → List ℕ → ℕ → ℕ → Checked Function
+called S name offset count =
+    if list_any (λ c. c == 58) name then fault (kinds.Refused name) offset else function_called S name offset count (function_named name)
+
+abbrev pub number_of_trees : Trees → ℕ
+number_of_trees no_trees = 0
+number_of_trees (tree e es) = suc (number_of_trees es)
+
+abbrev mutual
+  -- the typed tree of an expression, or its first fault
+  pub typing : Scope → Tree → Checked TypedTree
+  typing S (chain levels.Or offset first rest) = after (typing S first) (λ t. after (operands_typed S false rest) (λ ts. Ok (disjunction (typed t ts))))
+  typing S (chain levels.And offset first rest) = after (typing S first) (λ t. after (operands_typed S false rest) (λ ts. Ok (conjunction (typed t ts))))
+  typing S (chain levels.Equal offset first rest) = after (typing S first) (λ t. after (comparands_typed S rest) (λ cs. Ok (comparison t cs)))
+  typing S (chain levels.Rel offset first rest) = after (typing S first) (λ t. after (comparands_typed S rest) (λ cs. Ok (comparison t cs)))
+  typing S (chain levels.Sum offset first rest) = after (typing S first) (λ t. after (combinands_typed S rest) (λ cs. Ok (arithmetic t cs)))
+  typing S (chain levels.Prod offset first rest) = after (typing S first) (λ t. after (combinands_typed S rest) (λ cs. Ok (arithmetic t cs)))
+  typing S (chain levels.Union offset first rest) =
+      after (after (typing S first) (wanted true (offset_of first))) (λ t. after (operands_typed S true rest) (λ ts. Ok (union (typed t ts))))
+  typing S (negated offset count e) = after (typing S e) (λ t. Ok (negation count t))
+  typing S (path offset start steps) = after (place_typed S start) (λ place. after (steps_typed S steps) (λ ss. Ok (location place ss)))
+  typing S (filtered offset base predicates) =
+      after (after (typing S base) (wanted true (offset_of base))) (λ b. after (all_typed S false predicates) (λ ps. Ok (selection b ps)))
+  typing S (variable offset name) = variable_typed (variable_of S.variables name) offset
+  typing S (literal offset value) = Ok (text value)
+  typing S (number offset digits) = number_typed digits offset
+  typing S (call offset name args) =
+      after (called S name offset (number_of_trees args)) (λ f. after (all_typed S (wants_nodes f) args) (λ ts. Ok (application f ts)))
+
+  pub place_typed : Scope → PathStart → Checked TypedPlace
+  place_typed S root = Ok at_root
+  place_typed S here = Ok at_context
+  place_typed S (from base) = after (after (typing S base) (wanted true (offset_of base))) (λ t. Ok (at_nodes t))
+
+  pub steps_typed : Scope → Steps → Checked TypedSteps
+  steps_typed S no_steps = Ok no_more_steps
+  steps_typed S (step offset axis test test_offset predicates rest) =
+      after (axis_of axis offset) (λ a. after (resolved S test test_offset) (λ n. after (all_typed S false predicates) (λ ps. after (steps_typed S rest) (λ ss. Ok (typed_step a n ps ss)))))
+
+  -- the later operands of a chain, node-sets where these are wanted
+  pub operands_typed : Scope → Bool → Operands → Checked TypedTrees
+  operands_typed S nodes no_operands = Ok no_typed
+  operands_typed S nodes (operand operator at e rest) =
+      after (after (typing S e) (wanted nodes (offset_of e))) (λ t. after (operands_typed S nodes rest) (λ ts. Ok (typed t ts)))
+
+  pub comparands_typed : Scope → Operands → Checked Comparands
+  comparands_typed S no_operands = Ok no_comparands
+  comparands_typed S (operand operator at e rest) = after (typing S e) (λ t. after (comparands_typed S rest) (λ cs. Ok (comparand (comparison_of operator) t cs)))
+
+  pub combinands_typed : Scope → Operands → Checked Combinands
+  combinands_typed S no_operands = Ok no_combinands
+  combinands_typed S (operand operator at e rest) =
+      after (arith_of operator at) (λ o. after (typing S e) (λ t. after (combinands_typed S rest) (λ cs. Ok (combinand o t cs))))
+
+  -- expressions in a list, node-sets where these are wanted
+  pub all_typed : Scope → Bool → Trees → Checked TypedTrees
+  all_typed S nodes no_trees = Ok no_typed
+  all_typed S nodes (tree e es) = after (after (typing S e) (wanted nodes (offset_of e))) (λ t. after (all_typed S nodes es) (λ ts. Ok (typed t ts)))
+
+-- the operands of a chain, the first one and the others
+abbrev pub chain_typed : Scope → Bool → Tree → Operands → Checked TypedTrees
+chain_typed S nodes first rest =
+    after (after (typing S first) (wanted nodes (offset_of first))) (λ t. after (operands_typed S nodes rest) (λ ts. Ok (typed t ts)))
+
+abbrev pub comparison_typed : Scope → Tree → Operands → Checked TypedTree
+comparison_typed S first rest = after (typing S first) (λ t. after (comparands_typed S rest) (λ cs. Ok (comparison t cs)))
+
+abbrev pub arithmetic_typed : Scope → Tree → Operands → Checked TypedTree
+arithmetic_typed S first rest = after (typing S first) (λ t. after (combinands_typed S rest) (λ cs. Ok (arithmetic t cs)))
+
+abbrev pub pattern_axis : Bool → Axis
+pattern_axis true = axes.Attribute
+pattern_axis false = axes.Child
+
+-- `id` and `key` are refused: XSLT 1.0, section 5.2
+abbrev pub pattern_start : PatternStart → ℕ → Checked Bool
+pattern_start starts.Here offset = Ok false
+pattern_start starts.Root offset = Ok true
+pattern_start (starts.Id value) offset = fault (kinds.Refused (codes "id")) offset
+pattern_start (starts.Key name value) offset = fault (kinds.Refused (codes "key")) offset
+
+abbrev pub pattern_steps_typed : Scope → List StepTree → Checked (List TypedPatternStepTree)
+pattern_steps_typed S [] = Ok []
+pattern_steps_typed S (s ∷ ss) =
+    after (resolved S s.test s.test_offset) (λ n. after (all_typed S false s.predicates)
+    (λ ps. after (pattern_steps_typed S ss) (λ rest. Ok (record { join = s.join; axis = pattern_axis s.is_attribute; test = n; predicates = ps } ∷ rest))))
+
+-- the typed trees of a pattern's path patterns, or its first fault
+abbrev pub pattern_typing : Scope → List PathTree → Checked (List TypedPathTree)
+pattern_typing S [] = Ok []
+pattern_typing S (p ∷ ps) =
+    after (pattern_start p.start p.offset) (λ from_root. after (pattern_steps_typed S p.steps)
+    (λ steps. after (pattern_typing S ps) (λ rest. Ok (record { from_root = from_root; steps = steps } ∷ rest))))

@@ -1,0 +1,15 @@
+//! The types of expressions and of match patterns: names are resolved against a schema's prefixes and variables, or
+//! the first fault is found.
+#![tactic(auto)]
+
+mod checks;
+mod env;
+mod faults;
+mod names;
+mod patterns;
+mod terms;
+mod typing;
+
+pub use checks::{check, check_pattern};
+pub use env::Env;
+pub use faults::{CheckError, TypeFault, TypeKind};

@@ -1,0 +1,165 @@
+//! The types of expressions, part by part.
+//!
+//! Costs time linear in the expression's size.
+
+ghost use Rattle.xp_tree.specs.View.{tree_of, start_of, trees_seen, steps_seen};
+ghost use Rattle.xp_tree.specs.Tree.{offset_of};
+ghost use Rattle.xp_typed.specs.TypedView.{typed_tree_of, place_of, typed_seen, typed_steps_seen};
+ghost use Rattle.xp_types.specs.ChainParts.{first_in, rest_in};
+ghost use Rattle.xp_types.specs.Checked.{Gives, after};
+ghost use Rattle.xp_types.specs.Typing.{typing, wanted, all_typed, chain_typed, comparison_typed, arithmetic_typed, place_typed, steps_typed};
+
+use crate::env::Env;
+use crate::faults::CheckError;
+use crate::terms::{
+    arith_of, as_wanted, axis_of, called, comparison_of, offset_of, resolve, type_number,
+    type_variable,
+};
+use sch_base::Text;
+use std::alloc::Global;
+use xp_tree::{Chain, Expr, Start, Step};
+use xp_typed::{Combined, Compared, TypedExpr, TypedStart, TypedStep};
+
+/// The typed tree of an expression.
+#[cycle(typing)]
+pub(crate) fn type_expr(alloc: Global, expr: &Expr, env: &Env) -> Result<TypedExpr, CheckError>
+    ensures { Gives (typing env.now (tree_of expr.now)) typed_tree_of result }
+{
+    match expr {
+        Expr::Or(chain) => Ok(TypedExpr::disjunction(type_chain(alloc, chain, env, false)?)),
+        Expr::And(chain) => Ok(TypedExpr::conjunction(type_chain(alloc, chain, env, false)?)),
+        Expr::Equal(chain) => type_comparison(alloc, chain, env),
+        Expr::Rel(chain) => type_comparison(alloc, chain, env),
+        Expr::Sum(chain) => type_arithmetic(alloc, chain, env),
+        Expr::Prod(chain) => type_arithmetic(alloc, chain, env),
+        Expr::Union(chain) => Ok(TypedExpr::union(type_chain(alloc, chain, env, true)?)),
+        Expr::Neg { count, operand, .. } => {
+            let operand = type_expr(alloc, operand, env)?;
+            Ok(TypedExpr::negation(*count, Box::new(alloc, operand)?))
+        }
+        Expr::Path { start, steps, .. } => {
+            let place = type_start(alloc, start, env)?;
+            Ok(TypedExpr::location(place, type_steps(alloc, steps, env)?))
+        }
+        Expr::Filter {
+            base,
+            predicates,
+            ..
+        } => {
+            let base = type_operand(alloc, base, env, true)?;
+            let predicates = type_list(alloc, predicates, env, false)?;
+            Ok(TypedExpr::selection(Box::new(alloc, base)?, predicates))
+        }
+        Expr::Variable { offset, name } => type_variable(name, *offset, env),
+        Expr::Literal { value, .. } => Ok(TypedExpr::literal(Text::copy(alloc, value.as_str())?)),
+        Expr::Number { offset, digits } => type_number(alloc, digits, *offset),
+        Expr::Call { offset, name, args } => {
+            let function = called(alloc, name, *offset, args.len(), env)?;
+            let args = type_list(alloc, args, env, function.wants_nodes())?;
+            Ok(TypedExpr::call(function, args))
+        }
+    }
+}
+
+/// An operand, a node-set where one is wanted.
+#[cycle(typing)]
+fn type_operand(alloc: Global, expr: &Expr, env: &Env, nodes: bool) -> Result<TypedExpr, CheckError>
+    ensures { Gives (after (typing env.now (tree_of expr.now)) (wanted nodes (offset_of (tree_of expr.now)))) typed_tree_of result }
+{
+    let typed = type_expr(alloc, expr, env)?;
+    as_wanted(typed, offset_of(expr), nodes)
+}
+
+/// Expressions in a list, node-sets where these are wanted.
+#[cycle(typing)]
+pub(crate) fn type_list(
+    alloc: Global,
+    exprs: &[Expr],
+    env: &Env,
+    nodes: bool,
+) -> Result<Vec<TypedExpr>, CheckError>
+    ensures { Gives (all_typed env.now nodes (trees_seen exprs.now)) (λ v. typed_seen v.items) result }
+{
+    let mut typed = Vec::new(alloc);
+    for expr in exprs {
+        typed.push(type_operand(alloc, expr, env, nodes)?)?;
+    }
+    Ok(typed)
+}
+
+/// The operands of a chain, node-sets where these are wanted.
+#[cycle(typing)]
+fn type_chain(
+    alloc: Global,
+    chain: &Chain,
+    env: &Env,
+    nodes: bool,
+) -> Result<Vec<TypedExpr>, CheckError>
+    ensures { Gives (chain_typed env.now nodes (first_in chain.now) (rest_in chain.now)) (λ v. typed_seen v.items) result }
+{
+    let mut typed = Vec::new(alloc);
+    typed.push(type_operand(alloc, &chain.first, env, nodes)?)?;
+    for operand in &chain.rest {
+        typed.push(type_operand(alloc, &operand.expr, env, nodes)?)?;
+    }
+    Ok(typed)
+}
+
+/// Comparisons of one level.
+#[cycle(typing)]
+fn type_comparison(alloc: Global, chain: &Chain, env: &Env) -> Result<TypedExpr, CheckError>
+    ensures { Gives (comparison_typed env.now (first_in chain.now) (rest_in chain.now)) typed_tree_of result }
+{
+    let first = Box::new(alloc, type_expr(alloc, &chain.first, env)?)?;
+    let mut compared = Vec::new(alloc);
+    for operand in &chain.rest {
+        let expr = type_expr(alloc, &operand.expr, env)?;
+        compared.push(Compared::new(comparison_of(operand.operator), expr))?;
+    }
+    Ok(TypedExpr::comparison(first, compared))
+}
+
+/// Operators on numbers of one level.
+#[cycle(typing)]
+fn type_arithmetic(alloc: Global, chain: &Chain, env: &Env) -> Result<TypedExpr, CheckError>
+    ensures { Gives (arithmetic_typed env.now (first_in chain.now) (rest_in chain.now)) typed_tree_of result }
+{
+    let first = Box::new(alloc, type_expr(alloc, &chain.first, env)?)?;
+    let mut combined = Vec::new(alloc);
+    for operand in &chain.rest {
+        let operator = arith_of(alloc, operand.operator, operand.offset)?;
+        let expr = type_expr(alloc, &operand.expr, env)?;
+        combined.push(Combined::new(operator, expr))?;
+    }
+    Ok(TypedExpr::arithmetic(first, combined))
+}
+
+/// Where a path begins.
+#[cycle(typing)]
+fn type_start(alloc: Global, start: &Start, env: &Env) -> Result<TypedStart, CheckError>
+    ensures { Gives (place_typed env.now (start_of start.now)) place_of result }
+{
+    match start {
+        Start::Root => Ok(TypedStart::at_root()),
+        Start::Here => Ok(TypedStart::at_context()),
+        Start::From(base) => {
+            let base = type_operand(alloc, base, env, true)?;
+            Ok(TypedStart::from_nodes(Box::new(alloc, base)?))
+        }
+    }
+}
+
+/// The steps of a path.
+#[cycle(typing)]
+fn type_steps(alloc: Global, steps: &[Step], env: &Env) -> Result<Vec<TypedStep>, CheckError>
+    ensures { Gives (steps_typed env.now (steps_seen steps.now)) (λ v. typed_steps_seen v.items) result }
+{
+    let mut typed = Vec::new(alloc);
+    for step in steps {
+        let axis = axis_of(alloc, step.axis, step.offset)?;
+        let test = resolve(alloc, &step.test, step.test_offset, env)?;
+        let predicates = type_list(alloc, &step.predicates, env, false)?;
+        typed.push(TypedStep::new(axis, test, predicates))?;
+    }
+    Ok(typed)
+}
