@@ -1,5 +1,5 @@
 -- A text that comes in pieces, line by line.
-use Rattle.std.proofs.Common.{◌≡◌, ℕ, zero, suc, ◌+◌, ◌<◌, ◌≤◌, ◌-◌, ◌^◌, Bool, true, false, List, [], ◌∷◌, ◌++◌, length, take, drop, get_or, Option, None, Some, Result, Ok, Err, MatchResult, arith, refl, sym, ◌∙◌, ap, subst, append_assoc, add-one, length-append, length-drop}
+use Rattle.std.proofs.Common.{◌≡◌, ℕ, suc, ◌+◌, ◌<◌, ◌-◌, true, false, List, [], ◌∷◌, ◌++◌, length, take, drop, get_or, Option, None, Some, Result, Ok, Err, arith, refl, sym, ◌∙◌, ap, add-one, length-append, length-drop}
 use Rattle.std.specs.Result.{IsErr}
 use Rattle.std.specs.declared.alloc.AllocError.{AllocError}
 use Rattle.std.proofs.lemmas.Result.{MatchResult-from_err}
@@ -10,11 +10,11 @@ use Rattle.pyx_core.specs.declared.line.Line.{Line}
 use Rattle.pyx_core.specs.declared.lines.Lines.{Lines}
 use Rattle.pyx_core.specs.declared.mode.Mode.{Mode}
 use Rattle.pyx_core.specs.declared.reading.Reading.{Reading}
-use Rattle.pyx_core.specs.Before.{closed, completed_by, lacking}
-use Rattle.pyx_core.specs.Cutting.{StandsAt, Cuts, Keeps, FedTo, Finished, fault_if}
+use Rattle.pyx_core.specs.Before.{closed, lacking}
+use Rattle.pyx_core.specs.Cutting.{StandsAt, Cuts, Keeps, FedTo, fault_if}
 use Rattle.pyx_core.specs.Lines.{is_line_end, ended_lines, unended}
-use Rattle.pyx_core.specs.Reading.{Judged, judge, judged, and_then, sound, faulty, so_far, in_all, completed, fault_so_far, fault_of, events_of, events_unless, events_before_fault, fault_in, or_lacking, end_fault, ended}
-use Rattle.pyx_core.specs.Standing.{Reads, Takes, EndsWith, Ends, Has, Drops}
+use Rattle.pyx_core.specs.Reading.{Judged, judge, judged, and_then, sound, so_far, in_all, completed, fault_of, events_unless, events_before_fault, fault_in, or_lacking, end_fault, ended}
+use Rattle.pyx_core.specs.Standing.{Takes, EndsWith, Ends, Has}
 use Rattle.pyx_core.specs.Telling.{IsFront}
 use Rattle.pyx_core.proofs.CutLemmas.{has_end, none_ended, all_left, left_none, ended_append, left_append, any_none, half_ended, half_left, few_ended}
 use Rattle.pyx_core.proofs.JudgeLemmas.{judged_behind, closed_front, front_trans, count_good}

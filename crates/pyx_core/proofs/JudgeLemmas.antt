@@ -1,5 +1,5 @@
 -- Lines judged in turn.
-use Rattle.std.proofs.Common.{◌≡◌, ℕ, zero, suc, ◌+◌, ◌<◌, ◌≤◌, List, [], ◌∷◌, ◌++◌, length, Option, None, Some, Result, Ok, Err, arith, refl, sym, ◌∙◌, ap, append_assoc}
+use Rattle.std.proofs.Common.{◌≡◌, ℕ, suc, ◌+◌, List, [], ◌∷◌, ◌++◌, length, Option, None, Some, Result, Ok, Err, arith, refl, sym, ◌∙◌, ap, append_assoc}
 use Rattle.std.proofs.lemmas.List.{append-nil}
 use Rattle.pyx_core.specs.declared.event.Located.{Located}
 use Rattle.pyx_core.specs.declared.fault.PyxFault.{PyxFault}
@@ -7,9 +7,8 @@ use Rattle.pyx_core.specs.declared.fault.PyxKind.{PyxKind}
 use Rattle.pyx_core.specs.declared.line.Line.{Line}
 use Rattle.pyx_core.specs.declared.mode.Mode.{Mode}
 use Rattle.pyx_core.specs.Before.{closed, completed_by}
-use Rattle.pyx_core.specs.Reading.{Judged, judge, judged, and_then, sound, faulty, fault_in}
+use Rattle.pyx_core.specs.Reading.{Judged, judge, judged, and_then, sound, fault_in}
 use Rattle.pyx_core.specs.Telling.{IsFront}
-use Rattle.pyx_core.proofs.TellingLemmas.{front_more}
 
 -- lines behind others are judged where no fault came before
 abbrev pub unless_fault : Mode → List Line → Option PyxFault → List (List ℕ) → Judged

@@ -1,5 +1,5 @@
 -- Names have no byte that stands for another thing in a line.
-use Rattle.std.proofs.Common.{◌≡◌, ℕ, zero, suc, ◌+◌, ◌<◌, ◌≤◌, ⊎_elim, Bool, true, false, ◌&&◌, ◌||◌, cond, nat_eq, List, [], ◌∷◌, ◌++◌, length, get_or, Option, None, Some, arith, refl, sym, ◌∙◌, ap, subst}
+use Rattle.std.proofs.Common.{◌≡◌, ℕ, suc, ◌<◌, ◌≤◌, ⊎_elim, Bool, true, false, cond, nat_eq, List, [], ◌∷◌, ◌++◌, length, get_or, Option, None, arith, refl, sym, ◌∙◌, ap}
 use Rattle.std.specs.Prelude.{IsUtf8}
 use Rattle.std.specs.List.{list_any, list_all, position_or_len, before_first, after_first}
 use Rattle.std.specs.Option.{is_some}
@@ -10,7 +10,7 @@ use Rattle.std.proofs.lemmas.Bool.Decides.{nat_tests}
 use Rattle.std.proofs.lemmas.Grind.{common_steps}
 use Rattle.std.proofs.lemmas.Str.{encodes-chars, NoCharPasses-byte}
 use Rattle.sch_base.specs.Characters.{is_name_start, is_name_char}
-use Rattle.sch_base.specs.Names.{is_ncname, is_ncname_of, is_colon, split_at_colon, split_qname}
+use Rattle.sch_base.specs.Names.{is_ncname, is_ncname_of, is_colon}
 use Rattle.pyx_core.specs.LineTable.{is_qname, is_space}
 use Rattle.pyx_core.specs.Nesting.{of_chars}
 use Rattle.pyx_core.proofs.TextLemmas.{both, utf8_of, front_ascii, behind_front, cut_at}

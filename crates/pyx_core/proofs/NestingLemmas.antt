@@ -1,8 +1,8 @@
 -- The events of lines nest.
-use Rattle.std.proofs.Common.{◌≡◌, ◌≢◌, ℕ, suc, ◌<◌, ◌≤◌, ⊎_elim, Bool, true, false, ◌&&◌, ◌||◌, ◌==◌, not, cond, List, [], ◌∷◌, ◌++◌, length, map, Option, None, Some, Result, Ok, Err, arith, refl, sym, ◌∙◌, ap, subst, append_assoc}
-use Rattle.std.specs.List.{list_any, list_all, before_first, after_first}
+use Rattle.std.proofs.Common.{◌≡◌, ◌≢◌, ℕ, suc, ◌<◌, ◌≤◌, ⊎_elim, Bool, true, false, ◌&&◌, ◌||◌, ◌==◌, not, cond, List, [], ◌∷◌, ◌++◌, length, Option, None, Some, Result, Ok, Err, arith, refl, sym, ◌∙◌, ap, append_assoc}
+use Rattle.std.specs.List.{list_all, after_first}
 use Rattle.std.specs.Option.{option_to_list}
-use Rattle.std.specs.Str.{chars, is_utf8, bytes_eq}
+use Rattle.std.specs.Str.{chars, is_utf8}
 use Rattle.std.proofs.Math.Bool.{or-true, and-true}
 use Rattle.std.proofs.lemmas.Str.{IsUtf8-nil, chars-nil}
 use Rattle.pyx_core.specs.Lines.{ended_lines, unended}
@@ -11,21 +11,21 @@ use Rattle.std.proofs.lemmas.Bool.{cases_lt}
 use Rattle.std.proofs.lemmas.Bool.Decides.{nat_tests}
 use Rattle.std.proofs.lemmas.Slice.Eq.{bytes_eq-Decides}
 use Rattle.std.proofs.lemmas.List.{append-nil, map-append}
-use Rattle.sch_base.specs.Characters.{is_xml_char, is_whitespace}
+use Rattle.sch_base.specs.Characters.{is_xml_char}
 use Rattle.pyx_core.specs.declared.event.Attr.{Attr}
 use Rattle.pyx_core.specs.declared.event.Event.{Event}
 use Rattle.pyx_core.specs.declared.event.Event.TheVariants as event
 use Rattle.pyx_core.specs.declared.event.Located.{Located}
 use Rattle.pyx_core.specs.declared.fault.PyxKind.{PyxKind}
-use Rattle.pyx_core.specs.declared.fault.PyxKind.TheVariants.{BadName, UnknownLine, BadChar, NotUtf8}
+use Rattle.pyx_core.specs.declared.fault.PyxKind.TheVariants.{BadName, UnknownLine}
 use Rattle.pyx_core.specs.declared.line.Line.{Line}
 use Rattle.pyx_core.specs.declared.line.Line.TheVariants.{Skipped, Start, Attribute, End, Chars, Pi, Comment}
 use Rattle.pyx_core.specs.declared.mode.Mode.{Mode}
 use Rattle.pyx_core.specs.declared.mode.Mode.TheVariants.{Document, Fragment}
-use Rattle.pyx_core.specs.Before.{is_nil, is_fragment, outer, open_names, at_top, is_innermost, takes_attribute, makes_item, has_item, is_second, located, is_outside, kept, attr_onto, with_attr, begin_text, text_onto, with_text, pending, is_chars, is_text, but_text, completed_by, closed, misplaced, lacking}
+use Rattle.pyx_core.specs.Before.{is_nil, is_fragment, outer, open_names, at_top, is_innermost, takes_attribute, has_item, is_second, located, is_outside, kept, attr_onto, with_attr, begin_text, text_onto, with_text, pending, is_chars, is_text, but_text, closed, misplaced, lacking}
 use Rattle.pyx_core.specs.LineTable.{is_qname, is_target, is_space, name_part, text_part, start_line, end_line, attribute_line, pi_line, chars_line, comment_line, marked_line, text_line, line_of}
-use Rattle.pyx_core.specs.Nesting.{Place, start, after, HasRoom, of_chars, is_name, is_pi_name, is_attr, StartFits, CharsFit, PiFits, CommentFits, Fits, Nest, place_after, IsEnd, bare, EventsNest}
-use Rattle.pyx_core.specs.Reading.{Judged, unless, placed, judge, judged, and_then, ended, so_far, in_all, completed, events_of, fault_of, or_lacking, end_fault}
+use Rattle.pyx_core.specs.Nesting.{Place, start, after, of_chars, is_name, is_pi_name, is_attr, CharsFit, Fits, Nest, place_after, IsEnd, bare, EventsNest}
+use Rattle.pyx_core.specs.Reading.{unless, placed, judge, judged, and_then, ended, so_far, in_all, completed, events_of, fault_of, or_lacking, end_fault}
 use Rattle.pyx_core.proofs.TextLemmas.{both, and, of_chars_append, behind_ascii, parts_made, made_of}
 use Rattle.pyx_core.proofs.EscapeLemmas.{unescaped_made}
 use Rattle.pyx_core.proofs.StandingLemmas.{begins, begins_takes, is_start}

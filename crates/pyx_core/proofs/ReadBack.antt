@@ -1,9 +1,7 @@
 -- The text of events is read back.
-use Rattle.std.proofs.Common.{◌≡◌, ◌≢◌, ℕ, suc, Bool, true, false, ◌&&◌, ◌||◌, not, cond, nat_eq, List, [], ◌∷◌, ◌++◌, length, map, Option, None, Some, refl, sym, ◌∙◌, ap, append_assoc}
-use Rattle.std.specs.List.{list_any, list_all}
+use Rattle.std.proofs.Common.{◌≡◌, ◌≢◌, ℕ, Bool, true, false, not, cond, nat_eq, List, [], ◌∷◌, ◌++◌, map, refl, sym, ◌∙◌, ap}
+use Rattle.std.specs.List.{list_all}
 use Rattle.std.specs.Option.{option_to_list}
-use Rattle.std.proofs.lemmas.Grind.{common_steps}
-use Rattle.std.proofs.Common.{arith}
 use Rattle.std.proofs.lemmas.List.{append-nil}
 use Rattle.pyx_core.specs.declared.event.Attr.{Attr}
 use Rattle.pyx_core.specs.declared.event.Event.{Event}
@@ -11,17 +9,16 @@ use Rattle.pyx_core.specs.declared.event.Event.TheVariants as event
 use Rattle.pyx_core.specs.declared.line.Line.{Line}
 use Rattle.pyx_core.specs.declared.line.Line.TheVariants.{Skipped}
 use Rattle.pyx_core.specs.declared.mode.Mode.{Mode}
-use Rattle.pyx_core.specs.Before.{is_nil, open_names, at_top, has_item, pending, closed, lacking}
+use Rattle.pyx_core.specs.Before.{open_names, has_item, pending, closed}
 use Rattle.pyx_core.specs.Escapes.{escape_of, escaped}
 use Rattle.pyx_core.specs.LineTable.{is_qname, is_target}
-use Rattle.pyx_core.specs.Lines.{ended_lines, unended}
 use Rattle.pyx_core.specs.Nesting.{Place, start, after, of_chars, is_name, is_pi_name, is_attr, Fits, Nest, place_after, IsEnd, bare}
-use Rattle.pyx_core.specs.Reading.{Judged, judge, judged, sound, ended, in_all, events_of, fault_of, or_lacking, end_fault}
-use Rattle.pyx_core.specs.Written.{event_lines, text_of, Gives, WrittenIsReadBack}
+use Rattle.pyx_core.specs.Reading.{judged, sound, ended, in_all, events_of, or_lacking}
+use Rattle.pyx_core.specs.Written.{text_of, Gives, WrittenIsReadBack}
 use Rattle.pyx_core.proofs.CutLemmas.{has_end, any_none}
 use Rattle.pyx_core.proofs.NameBytes.{line_end_no_name, ncname_without, qname_without}
-use Rattle.pyx_core.proofs.NestingLemmas.{place_of, events_nest, empty_made}
-use Rattle.pyx_core.proofs.ReplayLemmas.{Replays, raws, replay_all, line_is, judge_good, name_of, named_after}
+use Rattle.pyx_core.proofs.NestingLemmas.{events_nest, empty_made}
+use Rattle.pyx_core.proofs.ReplayLemmas.{raws, replay_all, line_is, judge_good, name_of, named_after}
 use Rattle.pyx_core.proofs.TextLemmas.{both, and, utf8_of}
 use Rattle.pyx_core.proofs.WrittenLemmas.{joined, joined_append, joined_ends, are_lines, raw, attr_raw, event_text}
 

@@ -1,6 +1,5 @@
 -- What a reader that was fed tells.
-use Rattle.std.proofs.Common.{◌≡◌, ℕ, List, [], ◌∷◌, ◌++◌, Option, None, Some, Result, Ok, Err, refl, sym, ◌∙◌, ap, append_assoc}
-use Rattle.std.specs.Option.{option_to_list}
+use Rattle.std.proofs.Common.{◌≡◌, ℕ, List, [], ◌∷◌, Option, None, Some, Result, Ok, Err, sym, ◌∙◌, ap}
 use Rattle.std.specs.declared.alloc.AllocError.{AllocError}
 use Rattle.pyx_core.specs.declared.event.Located.{Located}
 use Rattle.pyx_core.specs.declared.fault.FeedError.{FeedError}
@@ -9,9 +8,9 @@ use Rattle.pyx_core.specs.declared.fault.PyxFault.{PyxFault}
 use Rattle.pyx_core.specs.declared.mode.Mode.{Mode}
 use Rattle.pyx_core.specs.declared.reader.Reader.{Reader}
 use Rattle.pyx_core.specs.Before.{closed}
-use Rattle.pyx_core.specs.Cutting.{Keeps, Fed, Finished, StandsAt}
-use Rattle.pyx_core.specs.Feeding.{waiting, IsStopped, Reads, Stops, Wants, Refuses, Feeds, Done, Finishes, error_of, stops, answer_of, IfFault, ReadsAll}
-use Rattle.pyx_core.specs.Reading.{so_far, completed, fault_so_far, or_lacking, fault_of, events_of, events_unless, events_before_fault}
+use Rattle.pyx_core.specs.Cutting.{Keeps, Fed, Finished}
+use Rattle.pyx_core.specs.Feeding.{waiting, Reads, Refuses, Feeds, Finishes, error_of, stops, answer_of, IfFault, ReadsAll}
+use Rattle.pyx_core.specs.Reading.{so_far, completed, fault_so_far, or_lacking, fault_of, events_unless, events_before_fault}
 use Rattle.pyx_core.specs.Lines.{ended_lines, unended}
 use Rattle.pyx_core.proofs.JudgeLemmas.{judged_stopped}
 

@@ -1,10 +1,8 @@
 -- The lines of events, read one event after the other.
-use Rattle.std.proofs.Common.{◌≡◌, ◌≢◌, ℕ, suc, ◌+◌, ◌<◌, ◌≤◌, Bool, true, false, ◌&&◌, ◌||◌, not, cond, nat_eq, List, [], ◌∷◌, ◌++◌, length, map, Option, None, Some, Result, Ok, Err, arith, refl, sym, ◌∙◌, ap, subst, append_assoc}
-use Rattle.std.specs.Prelude.{encode_utf8_all}
-use Rattle.std.specs.List.{list_any, list_all, before_first, after_first}
+use Rattle.std.proofs.Common.{◌≡◌, ◌≢◌, ℕ, suc, ◌<◌, Bool, true, false, ◌&&◌, not, cond, List, [], ◌∷◌, ◌++◌, length, map, Option, None, Some, Ok, arith, refl, sym, ◌∙◌, ap, append_assoc}
+use Rattle.std.specs.List.{list_all}
 use Rattle.std.specs.Option.{option_to_list}
-use Rattle.std.specs.Str.{chars, is_utf8, bytes_eq}
-use Rattle.std.proofs.Math.Bool.{or-true}
+use Rattle.std.specs.Str.{is_utf8}
 use Rattle.std.proofs.lemmas.List.{append-nil}
 use Rattle.std.proofs.lemmas.Slice.Eq.{bytes_eq-Decides}
 use Rattle.sch_base.specs.Characters.{is_xml_char}
@@ -12,19 +10,18 @@ use Rattle.pyx_core.specs.declared.event.Attr.{Attr}
 use Rattle.pyx_core.specs.declared.event.Event.{Event}
 use Rattle.pyx_core.specs.declared.event.Event.TheVariants as event
 use Rattle.pyx_core.specs.declared.event.Located.{Located}
-use Rattle.pyx_core.specs.declared.fault.PyxKind.{PyxKind}
-use Rattle.pyx_core.specs.declared.fault.PyxKind.TheVariants.{SecondRoot, AttributePlace, WrongEnd, BadName}
+use Rattle.pyx_core.specs.declared.fault.PyxKind.TheVariants.{SecondRoot, AttributePlace, WrongEnd}
 use Rattle.pyx_core.specs.declared.line.Line.{Line}
-use Rattle.pyx_core.specs.declared.line.Line.TheVariants.{Skipped, Start, Attribute, End, Chars, Pi, Comment}
+use Rattle.pyx_core.specs.declared.line.Line.TheVariants.{Start, Attribute, End, Chars, Pi, Comment}
 use Rattle.pyx_core.specs.declared.mode.Mode.{Mode}
 use Rattle.pyx_core.specs.declared.mode.Mode.TheVariants.{Document, Fragment}
-use Rattle.pyx_core.specs.Before.{is_nil, is_fragment, outer, open_names, at_top, is_innermost, takes_attribute, has_item, makes_item, is_second, located, is_outside, kept, with_attr, begin_text, text_onto, with_text, pending, is_chars, is_text, but_text, closed, misplaced, lacking}
-use Rattle.pyx_core.specs.Escapes.{escaped, unescaped}
-use Rattle.pyx_core.specs.LineTable.{is_qname, is_target, is_space, name_part, text_part, text_line, line_of}
-use Rattle.pyx_core.specs.Nesting.{Place, start, after, of_chars, is_name, is_pi_name, is_attr, CharsFit, Fits, Nest, place_after, IsEnd, bare}
-use Rattle.pyx_core.specs.Reading.{Judged, judge, judged, and_then, sound, ended}
+use Rattle.pyx_core.specs.Before.{is_nil, is_fragment, outer, open_names, at_top, is_innermost, takes_attribute, has_item, is_second, located, is_outside, kept, with_attr, begin_text, text_onto, with_text, pending, is_chars, is_text, but_text, closed, misplaced}
+use Rattle.pyx_core.specs.Escapes.{escaped}
+use Rattle.pyx_core.specs.LineTable.{is_qname, is_target, text_line, line_of}
+use Rattle.pyx_core.specs.Nesting.{Place, after, of_chars, is_name, is_pi_name, is_attr, CharsFit, Fits, Nest, place_after, bare}
+use Rattle.pyx_core.specs.Reading.{judge, judged, ended}
 use Rattle.pyx_core.proofs.EscapeLemmas.{escaped_made, spelled, one_low}
-use Rattle.pyx_core.proofs.NameBytes.{holds, space_no_name, ncname_without, qname_without, before_space, after_space}
+use Rattle.pyx_core.proofs.NameBytes.{space_no_name, ncname_without, qname_without, before_space, after_space}
 use Rattle.pyx_core.proofs.NestingLemmas.{place_of, bare_append, open_item}
 use Rattle.pyx_core.proofs.StandingLemmas.{begins, begins_takes}
 use Rattle.pyx_core.proofs.TextLemmas.{both, and, utf8_of, of_chars_append}

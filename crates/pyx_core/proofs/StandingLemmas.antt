@@ -1,5 +1,5 @@
 -- Facts on lines in their context.
-use Rattle.std.proofs.Common.{◌≡◌, ℕ, suc, ◌≤◌, ◌-◌, ◌+◌, Bool, true, false, cond, List, [], ◌∷◌, ◌++◌, length, length-append, take, Option, None, Some, Result, Ok, Err, arith, refl, sym, ◌∙◌, ap}
+use Rattle.std.proofs.Common.{◌≡◌, ℕ, suc, ◌-◌, ◌+◌, Bool, true, false, cond, List, [], ◌∷◌, length, length-append, take, Option, None, Some, Result, Ok, Err, arith, refl, ◌∙◌, ap}
 use Rattle.std.proofs.lemmas.Grind.{common_steps}
 use Rattle.pyx_core.specs.declared.event.Event.{Event}
 use Rattle.pyx_core.specs.declared.event.Event.TheVariants as event
@@ -19,7 +19,7 @@ use Rattle.std.proofs.Math.Seq.{take-append_seam, take-nil}
 use Rattle.pyx_core.specs.declared.reading.Reading.{Reading}
 use Rattle.pyx_core.specs.declared.begun.Begun.{Begun}
 use Rattle.pyx_core.specs.declared.begun.Begun.TheVariants as begun
-use Rattle.pyx_core.specs.Before.{is_nil, outer, open_names, has_item, closed, completed_by, lacking, takes_attribute, pending, is_outside, kept, attr_onto, with_attr, begin_text, text_onto, with_text}
+use Rattle.pyx_core.specs.Before.{outer, open_names, has_item, closed, completed_by, lacking, takes_attribute, pending, is_outside, kept, attr_onto, with_attr, begin_text, text_onto, with_text}
 use Rattle.pyx_core.specs.Standing.{piled, Reads, Settles, Takes, EndsWith, Ends}
 use Rattle.pyx_core.specs.Telling.{shown, Goes}
 

@@ -2,13 +2,11 @@
 use Rattle.std.proofs.Common.{◌≡◌, ℕ, List, [], ◌∷◌, ◌++◌, Option, None, Some, refl, sym, ◌∙◌, ap, append_assoc}
 use Rattle.std.specs.Option.{option_to_list}
 use Rattle.std.proofs.lemmas.List.{append-nil}
-use Rattle.pyx_core.specs.declared.event.Located.{Located}
 use Rattle.pyx_core.specs.declared.fault.PyxFault.{PyxFault}
-use Rattle.pyx_core.specs.declared.line.Line.{Line}
 use Rattle.pyx_core.specs.declared.mode.Mode.{Mode}
 use Rattle.pyx_core.specs.Before.{closed, pending}
 use Rattle.pyx_core.specs.Lines.{ended_lines, unended}
-use Rattle.pyx_core.specs.Reading.{Judged, judged, so_far, in_all, completed, events_of, FaultStays, FaultsStay, CompletedStays, CompletedEventsStay}
+use Rattle.pyx_core.specs.Reading.{Judged, judged, so_far, in_all, completed, FaultsStay, CompletedEventsStay}
 use Rattle.pyx_core.specs.Telling.{IsFront}
 use Rattle.pyx_core.proofs.CutLemmas.{ended_append}
 use Rattle.pyx_core.proofs.JudgeLemmas.{judged_stopped, judged_append, unless_fault, closed_front}

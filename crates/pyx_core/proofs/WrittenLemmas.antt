@@ -1,36 +1,15 @@
 -- The lines of events are read back.
-use Rattle.std.proofs.Common.{◌≡◌, ◌≢◌, ℕ, suc, ◌+◌, ◌<◌, ◌≤◌, ⊎_elim, Bool, true, false, ◌&&◌, ◌||◌, not, cond, nat_eq, List, [], ◌∷◌, ◌++◌, length, map, Option, None, Some, Result, Ok, Err, arith, refl, sym, ◌∙◌, ap, subst, append_assoc}
-use Rattle.std.specs.List.{list_any, list_all, before_first, after_first}
-use Rattle.std.specs.Option.{option_to_list}
-use Rattle.std.specs.Str.{chars, is_utf8, bytes_eq}
-use Rattle.std.proofs.Math.Bool.{or-true}
-use Rattle.std.proofs.lemmas.Grind.{common_steps}
+use Rattle.std.proofs.Common.{◌≡◌, ◌≢◌, ℕ, Bool, true, false, not, List, [], ◌∷◌, ◌++◌, map, refl, sym, ◌∙◌, ap, append_assoc}
+use Rattle.std.specs.List.{list_all}
 use Rattle.std.proofs.lemmas.List.{append-nil}
-use Rattle.std.proofs.lemmas.Slice.Eq.{bytes_eq-Decides}
-use Rattle.std.proofs.lemmas.Str.{IsUtf8-nil, chars-nil, chars-IsAscii}
-use Rattle.sch_base.specs.Characters.{is_xml_char}
 use Rattle.pyx_core.specs.declared.event.Attr.{Attr}
 use Rattle.pyx_core.specs.declared.event.Event.{Event}
 use Rattle.pyx_core.specs.declared.event.Event.TheVariants as event
-use Rattle.pyx_core.specs.declared.event.Located.{Located}
-use Rattle.pyx_core.specs.declared.fault.PyxKind.{PyxKind}
-use Rattle.pyx_core.specs.declared.line.Line.{Line}
-use Rattle.pyx_core.specs.declared.line.Line.TheVariants.{Skipped, Start, Attribute, End, Chars, Pi, Comment}
-use Rattle.pyx_core.specs.declared.mode.Mode.{Mode}
-use Rattle.pyx_core.specs.declared.mode.Mode.TheVariants.{Document, Fragment}
-use Rattle.pyx_core.specs.Before.{is_nil, is_fragment, outer, open_names, at_top, is_innermost, takes_attribute, has_item, is_second, located, is_outside, kept, with_attr, begin_text, text_onto, with_text, pending, is_chars, is_text, but_text, closed, misplaced, lacking}
-use Rattle.pyx_core.specs.Escapes.{escaped, unescaped}
-use Rattle.pyx_core.specs.LineTable.{is_qname, is_target, is_space, name_part, text_part, text_line, line_of}
-use Rattle.pyx_core.specs.Lines.{is_line_end, ended_lines, unended}
-use Rattle.pyx_core.specs.Nesting.{Place, start, after, of_chars, is_name, is_pi_name, is_attr, Fits, Nest, place_after, IsEnd, bare}
-use Rattle.pyx_core.specs.Reading.{Judged, judge, judged, and_then, sound, ended, so_far, in_all, events_of, fault_of, or_lacking, end_fault}
-use Rattle.pyx_core.specs.Written.{start_line, attr_line, end_line, chars_line, pi_line, comment_line, attr_lines, event_lines, text_of, Gives, WrittenIsReadBack}
-use Rattle.pyx_core.proofs.CutLemmas.{has_end, half_ended, half_left, any_none}
-use Rattle.pyx_core.proofs.EscapeLemmas.{escaped_made}
-use Rattle.pyx_core.proofs.NameBytes.{holds, space_no_name, line_end_no_name, ncname_without, qname_without, before_space, after_space}
-use Rattle.pyx_core.proofs.NestingLemmas.{place_of, bare_append, events_nest}
-use Rattle.pyx_core.proofs.TextLemmas.{both, and, utf8_of, made_of, ascii_utf8, of_chars_append}
-use Rattle.pyx_core.proofs.Undoing.{unescaped-escaped, no_line_end}
+use Rattle.pyx_core.specs.Escapes.{escaped}
+use Rattle.pyx_core.specs.Lines.{ended_lines, unended}
+use Rattle.pyx_core.specs.Written.{start_line, attr_line, end_line, chars_line, pi_line, comment_line, attr_lines, event_lines}
+use Rattle.pyx_core.proofs.CutLemmas.{has_end, half_ended, half_left}
+use Rattle.pyx_core.proofs.TextLemmas.{both}
 
 -- lines that end, as one text
 abbrev pub joined : List (List ℕ) → List ℕ

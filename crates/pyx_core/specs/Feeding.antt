@@ -1,5 +1,5 @@
 -- A text that is fed to a reader in pieces.
-use Rattle.std.specs.Prelude.{◌≡◌, ℕ, List, [], ◌∷◌, ◌++◌, Option, None, Some, Result, Ok, Err, MatchResult}
+use Rattle.std.specs.Prelude.{◌≡◌, ℕ, List, ◌++◌, Option, None, Some, Result, Ok, Err, MatchResult}
 use Rattle.pyx_core.specs.declared.event.Located.{Located}
 use Rattle.pyx_core.specs.declared.fault.FeedError.{FeedError}
 use Rattle.pyx_core.specs.declared.fault.FeedError.TheVariants.{Fault, Memory}

@@ -8,7 +8,6 @@ use Rattle.pyx_core.specs.declared.event.Event.{Event}
 use Rattle.pyx_core.specs.declared.event.Event.TheVariants.{Start, End, Chars, Pi, Comment}
 use Rattle.pyx_core.specs.declared.event.Located.{Located}
 use Rattle.pyx_core.specs.declared.mode.Mode.{Mode}
-use Rattle.pyx_core.specs.declared.mode.Mode.TheVariants.{Document, Fragment}
 use Rattle.pyx_core.specs.Before.{is_nil, is_fragment, outer}
 use Rattle.pyx_core.specs.LineTable.{is_qname, is_target}
 use Rattle.pyx_core.specs.Reading.{completed, events_of, fault_of}

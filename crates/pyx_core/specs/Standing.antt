@@ -5,7 +5,7 @@ use Rattle.pyx_core.specs.declared.fault.PyxKind.{PyxKind}
 use Rattle.pyx_core.specs.declared.line.Line.{Line}
 use Rattle.pyx_core.specs.declared.mode.Mode.{Mode}
 use Rattle.pyx_core.specs.declared.reading.Reading.{Reading}
-use Rattle.pyx_core.specs.Before.{open_names, has_item, pending, closed, completed_by, lacking}
+use Rattle.pyx_core.specs.Before.{open_names, has_item, pending, closed, lacking}
 use Rattle.pyx_core.specs.Reading.{ended}
 use Rattle.pyx_core.specs.Telling.{IsFront, Tells}
 

@@ -1,5 +1,5 @@
 -- What the events that are kept tell of the lines that were read.
-use Rattle.std.specs.Prelude.{◌≡◌, List, [], ◌∷◌, ◌++◌, Option, None, Some, Result, MatchResult, string_bytes}
+use Rattle.std.specs.Prelude.{◌≡◌, List, ◌++◌, Option, None, Some, Result, MatchResult, string_bytes}
 use Rattle.pyx_core.specs.declared.begun.Begun.{Begun}
 use Rattle.pyx_core.specs.declared.begun.Begun.TheVariants.{Nothing, Element, Text}
 use Rattle.pyx_core.specs.declared.begun.Events.{Events}

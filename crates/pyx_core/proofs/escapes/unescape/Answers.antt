@@ -1,5 +1,4 @@
 use Rattle.std.proofs.Common.{lit<, None, Some, sym, ◌∙◌, ap, ◌++◌, string_bytes, rules}
-use Rattle.std.proofs.lemmas.Result.{IfOk-weaker}
 use Rattle.std.proofs.lemmas.Str.Pattern.{split_once_first}
 use Rattle.pyx_core.proofs.Undoing.{unescaped_more, unescaped_whole}
 use Rattle.pyx_core.proofs.escapes.unescape.Goals as goal

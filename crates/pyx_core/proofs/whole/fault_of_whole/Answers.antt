@@ -1,4 +1,4 @@
-use Rattle.std.proofs.Common.{sym, ◌∙◌, ap}
+use Rattle.std.proofs.Common.{sym, ◌∙◌}
 use Rattle.pyx_core.proofs.ReaderLemmas.{events_before}
 use Rattle.pyx_core.proofs.whole.fault_of_whole.Goals as goal
 

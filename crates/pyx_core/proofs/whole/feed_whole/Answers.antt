@@ -1,6 +1,5 @@
-use Rattle.std.proofs.Common.{◌≡◌, ◌<◌, length, [], Err, sym, ◌∙◌, ap, arith}
+use Rattle.std.proofs.Common.{◌<◌, length, [], arith}
 use Rattle.std.proofs.lemmas.Result.{err_from_is_err_and}
-use Rattle.pyx_core.specs.Feeding.{ReadsAll}
 use Rattle.pyx_core.proofs.ReaderLemmas.{refused, read_all}
 use Rattle.pyx_core.proofs.whole.feed_whole.Goals as goal
 

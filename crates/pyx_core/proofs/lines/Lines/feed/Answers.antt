@@ -1,8 +1,6 @@
 -- Each line is taken or stops the reading, and the rest is kept.
-use Rattle.std.proofs.Common.{ℕ, List, ◌++◌, refl, arith}
+use Rattle.std.proofs.Common.{◌++◌, refl, arith}
 use Rattle.std.proofs.lemmas.Result.{MatchResult-from_err}
-use Rattle.pyx_core.specs.declared.event.Located.{Located}
-use Rattle.pyx_core.specs.declared.mode.Mode.{Mode}
 use Rattle.pyx_core.proofs.FeedLemmas.{FirstLine, feeds_start, feeds_line, feeds_fault, feeds_memory, feeds_end, feeds_none}
 use Rattle.pyx_core.proofs.lines.Lines.feed.Goals as goal
 

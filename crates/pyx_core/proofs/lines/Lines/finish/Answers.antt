@@ -1,6 +1,5 @@
-use Rattle.std.proofs.Common.{◌≡◌, suc, length, ◌∙◌, sym, arith}
+use Rattle.std.proofs.Common.{◌≡◌, suc, length, arith}
 use Rattle.std.proofs.lemmas.Result.{MatchResult-from_err}
-use Rattle.pyx_core.specs.Lines.{unended}
 use Rattle.pyx_core.proofs.CutLemmas.{few_ended}
 use Rattle.pyx_core.specs.Lines.{ended_lines}
 use Rattle.std.proofs.Common.{[]}

@@ -1,8 +1,6 @@
 use Rattle.std.proofs.Common.{◌++◌}
 use Rattle.pyx_core.specs.Reading.{judge}
 use Rattle.pyx_core.proofs.StandingLemmas.{takes_none}
-use Rattle.pyx_core.proofs.CutLemmas.{few_ended}
-use Rattle.pyx_core.proofs.JudgeLemmas.{count_good}
 use Rattle.pyx_core.proofs.lines.Lines.take_joined.Goals as goal
 
 pub returns-in_err-extend_from_slice-clause-reads : goal.returns-in_err-extend_from_slice-clause-reads

@@ -1,4 +1,4 @@
-use Rattle.std.proofs.Common.{◌≡◌, ◌++◌, suc, length, ◌∙◌, sym, refl, arith}
+use Rattle.std.proofs.Common.{◌≡◌, ◌++◌, suc, length, refl, arith}
 use Rattle.pyx_core.specs.Reading.{judge}
 use Rattle.pyx_core.proofs.FeedLemmas.{cuts_ok, cuts_err}
 use Rattle.pyx_core.proofs.lines.Lines.take_line.Goals as goal

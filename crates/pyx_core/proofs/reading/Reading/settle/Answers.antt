@@ -1,6 +1,6 @@
 -- Each line leaves its traces.
-use Rattle.std.proofs.Common.{◌≡◌, length, vec_len, ◌∷◌, [], ◌++◌, sym, ◌∙◌, ap, refl, arith}
-use Rattle.pyx_core.specs.Before.{open_names, kept}
+use Rattle.std.proofs.Common.{◌≡◌, length, vec_len, ◌∷◌, [], ◌++◌, ◌∙◌, ap, refl, arith}
+use Rattle.pyx_core.specs.Before.{open_names}
 use Rattle.pyx_core.proofs.StandingLemmas.{settles, popped}
 use Rattle.pyx_core.proofs.reading.Reading.settle.Goals as goal
 
