@@ -1,0 +1,5 @@
+pub mod Steps
+pub mod Drives
+pub mod Completes
+pub mod Back
+pub mod Finds

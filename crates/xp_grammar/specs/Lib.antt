@@ -1,0 +1,4 @@
+pub mod Parts
+pub mod Grammar
+pub mod Faults
+pub mod Machine

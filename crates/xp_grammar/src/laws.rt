@@ -1,0 +1,8 @@
+//! Laws of the definitions, for the proofs of callers.
+
+ghost use Rattle.xp_grammar.specs.Faults.{EachSpellingBegins};
+
+/// The tokens before any place of an expression begin an expression.
+pub fn each_spelling_begins()
+    ensures { EachSpellingBegins }
+{}

@@ -1,0 +1,9 @@
+pub mod NameLemmas
+pub mod Exits
+pub mod ListLemmas
+pub mod Failing
+pub mod Tests
+pub mod Chains
+pub mod Paths
+pub mod Primaries
+pub mod Wholes

@@ -1,0 +1,95 @@
+use Rattle.std.proofs.Common.{◌≤◌, suc, ◌+◌, ◌*◌, length}
+use Rattle.xp_tree.specs.View.{tree_of}
+use Rattle.xp_grammar.specs.Machine.{Ending}
+use Rattle.xp_parse.specs.Parsing.{Settled, Quiet, rank, IsClosed, OperandsSoFar, StepsSoFar, PredicatesSoFar, ArgumentsSoFar, weight}
+use Rattle.xp_parse.proofs.parser.Parser.+parser.Given as goal
+
+abbrev pub decreases-arguments : goal.decreases-arguments
+decreases-arguments l = length l.self.now.rest * 32 + 21
+
+abbrev pub decreases-call : goal.decreases-call
+decreases-call l = length l.self.now.rest * 32 + 1
+
+abbrev pub decreases-chain : goal.decreases-chain
+decreases-chain l = length l.self.now.rest * 32 + weight l.level + 1
+
+abbrev pub decreases-filter : goal.decreases-filter
+decreases-filter l = length l.self.now.rest * 32 + 3
+
+abbrev pub decreases-from_anywhere : goal.decreases-from_anywhere
+decreases-from_anywhere l = length l.self.now.rest * 32 + 4
+
+abbrev pub decreases-from_filter : goal.decreases-from_filter
+decreases-from_filter l = length l.self.now.rest * 32 + 4
+
+abbrev pub decreases-from_here : goal.decreases-from_here
+decreases-from_here l = length l.self.now.rest * 32 + 4
+
+abbrev pub decreases-from_root : goal.decreases-from_root
+decreases-from_root l = length l.self.now.rest * 32 + 4
+
+abbrev pub decreases-in_parens : goal.decreases-in_parens
+decreases-in_parens l = length l.self.now.rest * 32 + 1
+
+abbrev pub decreases-more_arguments : goal.decreases-more_arguments
+decreases-more_arguments l = length l.self.now.rest * 32
+
+abbrev pub decreases-more_steps : goal.decreases-more_steps
+decreases-more_steps l = length l.self.now.rest * 32
+
+abbrev pub decreases-operand : goal.decreases-operand
+decreases-operand l = length l.self.now.rest * 32 + weight l.level
+
+abbrev pub decreases-operands : goal.decreases-operands
+decreases-operands l = length l.self.now.rest * 32
+
+abbrev pub decreases-path : goal.decreases-path
+decreases-path l = length l.self.now.rest * 32 + 5
+
+abbrev pub decreases-predicates : goal.decreases-predicates
+decreases-predicates l = length l.self.now.rest * 32
+
+abbrev pub decreases-primary : goal.decreases-primary
+decreases-primary l = length l.self.now.rest * 32 + 2
+
+abbrev pub decreases-signed : goal.decreases-signed
+decreases-signed l = length l.self.now.rest * 32 + 8
+
+abbrev pub decreases-step : goal.decreases-step
+decreases-step l = length l.self.now.rest * 32 + 2
+
+abbrev pub decreases-steps : goal.decreases-steps
+decreases-steps l = length l.self.now.rest * 32 + 3
+
+abbrev pub decreases-tested : goal.decreases-tested
+decreases-tested l = length l.self.now.rest * 32 + 1
+
+abbrev pub invariant-more_arguments-loop-self : goal.invariant-more_arguments-loop-self
+invariant-more_arguments-loop-self l = (length l.self.rest ≤ length l.initial.self.rest) ×
+    ((e : Ending) → Settled e l.initial.self.rest → Quiet 0 l.initial.self.rest →
+    ArgumentsSoFar 64 l.depth e (tree_of l.fn.first) l.initial.self.rest l.self.rest l.found.items)
+
+abbrev pub decreases-more_arguments-loop-self : goal.decreases-more_arguments-loop-self
+decreases-more_arguments-loop-self l = length l.self.rest
+
+abbrev pub invariant-more_steps-loop-found : goal.invariant-more_steps-loop-found
+invariant-more_steps-loop-found l = (length l.self.rest ≤ length l.initial.self.rest) ×
+    ((e : Ending) → IsClosed e l.initial.self.rest →
+    StepsSoFar 64 l.depth e l.initial.found.items l.initial.self.rest l.self.rest l.found.items)
+
+abbrev pub decreases-more_steps-loop-found : goal.decreases-more_steps-loop-found
+decreases-more_steps-loop-found l = length l.self.rest
+
+abbrev pub invariant-operands-loop-operator : goal.invariant-operands-loop-operator
+invariant-operands-loop-operator l = (length l.self.rest ≤ length l.initial.self.rest) ×
+    ((e : Ending) → Settled e l.initial.self.rest → Quiet (suc (rank l.level)) l.initial.self.rest →
+    OperandsSoFar 64 l.level l.depth e l.initial.self.rest l.self.rest l.found.items)
+
+abbrev pub decreases-operands-loop-operator : goal.decreases-operands-loop-operator
+decreases-operands-loop-operator l = length l.self.rest
+
+abbrev pub invariant-predicates-loop-found : goal.invariant-predicates-loop-found
+invariant-predicates-loop-found l = PredicatesSoFar 64 l.depth l.initial.self.rest l.self.rest l.found.items
+
+abbrev pub decreases-predicates-loop-found : goal.decreases-predicates-loop-found
+decreases-predicates-loop-found l = length l.self.rest

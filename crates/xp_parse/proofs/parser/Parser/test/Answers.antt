@@ -1,0 +1,35 @@
+use Rattle.std.proofs.Common.{sym, ap, ◌∙◌}
+use Rattle.xp_grammar.specs.declared.token.Token.TheVariants as token
+use Rattle.xp_parse.proofs.Failing.{stuck_at_end, stuck_at_first, first_same, took_of}
+use Rattle.xp_parse.proofs.Tests.{star_read, prefix_read, name_read, node_read, no_test}
+use Rattle.xp_parse.proofs.parser.Parser.test.Goals as goal
+
+pub returns-in_default : goal.returns-in_default
+returns-in_default c = record { stuck = λ _ k room. stuck_at_end _ _ k _ c.in_default.ensures tt }
+
+pub returns-in-Star : goal.returns-in-Star
+returns-in-Star c =
+    let f = first_same _ _ _ c.in-Star.is c.in-Some.ensures in
+    star_read _ _ (took_of _ _ _ f (c.advance.ensures f.placed f.rest f.is))
+
+pub returns-in_ok-prefix-in-PrefixStar : goal.returns-in_ok-prefix-in-PrefixStar
+returns-in_ok-prefix-in-PrefixStar c =
+    let f = first_same _ _ _ (c.in-PrefixStar.is ∙ ap token.PrefixStar (sym (c.in_ok-prefix-in-PrefixStar.ensures ∙ c.as_str.ensures))) c.in-Some.ensures in
+    prefix_read _ _ _ (took_of _ _ _ f (c.advance-in-PrefixStar.ensures f.placed f.rest f.is))
+
+pub returns-in_ok-name_test-in-Name : goal.returns-in_ok-name_test-in-Name
+returns-in_ok-name_test-in-Name c =
+    let f = first_same _ _ _ (c.in-Name.is ∙ ap token.Name (sym c.as_str-in-Name.ensures)) c.in-Some.ensures in
+    name_read _ _ _ _ c.in_ok-name_test-in-Name.ensures (took_of _ _ _ f (c.advance-in-Name.ensures f.placed f.rest f.is))
+
+pub returns-in-NodeType : goal.returns-in-NodeType
+returns-in-NodeType c =
+    let f = first_same _ _ _ c.in-NodeType.is c.in-Some.ensures in
+    node_read _ _ _ _ _ (took_of _ _ _ f (c.advance-in-NodeType.ensures f.placed f.rest f.is)) c.typed.ensures
+
+pub returns-in_default-first : goal.returns-in_default-first
+returns-in_default-first c = record {
+  stuck = λ _ k room.
+      stuck_at_first _ _ k _ c.in-Some.first.now c.in-Some.ensures
+      (no_test k c.in-Some.first.now c.in_default-first.not-Star c.in_default-first.not-PrefixStar c.in_default-first.not-Name c.in_default-first.not-NodeType);
+}

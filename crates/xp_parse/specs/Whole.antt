@@ -1,0 +1,30 @@
+-- Whole expressions, and their first faults.
+use Rattle.std.specs.Prelude.{◌≡◌, ℕ, Bool, true, false, List}
+use Rattle.xp_tree.specs.Tree.{Tree}
+use Rattle.xp_grammar.specs.declared.token.Placed.{Placed}
+use Rattle.xp_grammar.specs.declared.fault.SyntaxFault.{SyntaxFault}
+use Rattle.xp_grammar.specs.declared.fault.SyntaxKind.TheVariants as kind
+use Rattle.xp_grammar.specs.Grammar.{Derives}
+use Rattle.xp_grammar.specs.Faults.{IsFirstFault}
+use Rattle.xp_parse.specs.declared.stop.Stop.{Stop}
+use Rattle.xp_parse.specs.declared.error.ParseError.{ParseError}
+use Rattle.xp_parse.specs.declared.error.ParseError.TheVariants as error
+use Rattle.xp_parse.specs.Parsing.{IsNoMemory}
+
+-- the tokens are the whole text, and spell an expression with this tree
+pub record IsWhole (whole : Bool) (tokens : List Placed) (e : Tree) : Type 0 where
+  pub to_the_end : whole ≡ true
+  pub spells : Derives 64 tokens e
+
+-- the answer is the first fault, unless memory ran out
+abbrev pub Faults : ℕ → List Placed → Bool → ℕ → ParseError → Type 0
+Faults limit tokens whole end error.Memory = Unit {0}
+Faults limit tokens whole end (error.Fault f) = IsFirstFault limit tokens whole end f.kind f.offset
+
+abbrev pub OnlyIfNoMemory : Stop → Type 0 → Type 0
+OnlyIfNoMemory why P = IsNoMemory why → P
+
+-- the fault where the tokens end
+abbrev pub at_end_fault : Bool → ℕ → SyntaxFault
+at_end_fault true end = record { kind = kind.Unexpected; offset = end }
+at_end_fault false end = record { kind = kind.BadToken; offset = end }

@@ -1,0 +1,17 @@
+//! The parser of XPath 1.0 expressions over their tokens.
+#![tactic(auto)]
+
+mod cursor;
+mod error;
+mod join;
+mod parser;
+mod primary;
+mod steps;
+mod stop;
+mod whole;
+mod words;
+
+pub use error::ParseError;
+pub use parser::Parser;
+pub use stop::Stop;
+pub use whole::parse_tokens;

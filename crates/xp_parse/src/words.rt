@@ -1,0 +1,171 @@
+//! Single tokens that have to stand at a place.
+
+ghost use Rattle.std.specs.Prelude.{◌≡◌, MatchResult, MatchOption, IsTrue, ◌↔◌};
+ghost use Rattle.xp_grammar.specs.declared.token.Token.TheVariants as token;
+ghost use Rattle.xp_grammar.specs.Parts.{level_of};
+ghost use Rattle.xp_tree.specs.declared.terms.Operator.TheVariants as operator;
+ghost use Rattle.xp_parse.specs.Places.{Took, Refused, StandsFirst, IsOperatorOf, NoOperatorOf, is_step_token, is_at_step};
+
+use crate::cursor::Cursor;
+use crate::stop::Stop;
+use xp_grammar::Token;
+use xp_tree::{Level, Operator};
+
+/// The level of the chains that an operator joins (XPath 1.0, sections 3.3 to 3.5).
+pub(crate) fn level_of(operator: Operator) -> Level
+    ensures { result ≡ level_of operator }
+{
+    match operator {
+        Operator::Or => Level::Or,
+        Operator::And => Level::And,
+        Operator::Equal | Operator::NotEqual => Level::Equal,
+        Operator::Less | Operator::AtMost | Operator::Greater | Operator::AtLeast => Level::Rel,
+        Operator::Plus | Operator::Minus => Level::Sum,
+        Operator::Times | Operator::Div | Operator::Mod => Level::Prod,
+        Operator::Union => Level::Union,
+    }
+}
+
+/// Whether a step may begin with the token (XPath 1.0, section 2.1).
+pub(crate) fn begins_step(token: &Token) -> bool
+    ensures { result ≡ is_step_token token.now }
+{
+    matches!(
+        token,
+        Token::Dot
+            | Token::DoubleDot
+            | Token::At
+            | Token::Axis(_)
+            | Token::Star
+            | Token::PrefixStar(_)
+            | Token::Name(_)
+            | Token::NodeType(_)
+    )
+}
+
+impl<'t, 'a> Cursor<'t, 'a> {
+    /// Takes `(`.
+    pub(crate) fn open_paren(&mut self) -> Result<(), Stop>
+        ensures { MatchResult result (λ _. Took token.OpenParen self.old self.new) (Refused token.OpenParen self.old self.new) }
+    {
+        let Some(first) = self.token() else {
+            return Err(Stop::Unexpected);
+        };
+        match first {
+            Token::OpenParen => {
+                self.advance();
+                Ok(())
+            }
+            _ => Err(Stop::Unexpected),
+        }
+    }
+
+    /// Takes `)`.
+    pub(crate) fn close_paren(&mut self) -> Result<(), Stop>
+        ensures { MatchResult result (λ _. Took token.CloseParen self.old self.new) (Refused token.CloseParen self.old self.new) }
+    {
+        let Some(first) = self.token() else {
+            return Err(Stop::Unexpected);
+        };
+        match first {
+            Token::CloseParen => {
+                self.advance();
+                Ok(())
+            }
+            _ => Err(Stop::Unexpected),
+        }
+    }
+
+    /// Takes `]`.
+    pub(crate) fn close_bracket(&mut self) -> Result<(), Stop>
+        ensures { MatchResult result (λ _. Took token.CloseBracket self.old self.new) (Refused token.CloseBracket self.old self.new) }
+    {
+        let Some(first) = self.token() else {
+            return Err(Stop::Unexpected);
+        };
+        match first {
+            Token::CloseBracket => {
+                self.advance();
+                Ok(())
+            }
+            _ => Err(Stop::Unexpected),
+        }
+    }
+
+    /// Takes `::`.
+    pub(crate) fn colons(&mut self) -> Result<(), Stop>
+        ensures { MatchResult result (λ _. Took token.DoubleColon self.old self.new) (Refused token.DoubleColon self.old self.new) }
+    {
+        let Some(first) = self.token() else {
+            return Err(Stop::Unexpected);
+        };
+        match first {
+            Token::DoubleColon => {
+                self.advance();
+                Ok(())
+            }
+            _ => Err(Stop::Unexpected),
+        }
+    }
+
+    /// Whether `[` stands at the place.
+    pub(crate) fn at_bracket(&self) -> bool
+        ensures { StandsFirst token.OpenBracket self.now result }
+    {
+        match self.token() {
+            Some(first) => matches!(first, Token::OpenBracket),
+            None => false,
+        }
+    }
+
+    /// Whether `)` stands at the place.
+    pub(crate) fn at_close(&self) -> bool
+        ensures { StandsFirst token.CloseParen self.now result }
+    {
+        match self.token() {
+            Some(first) => matches!(first, Token::CloseParen),
+            None => false,
+        }
+    }
+
+    /// Whether `,` stands at the place.
+    pub(crate) fn at_comma(&self) -> bool
+        ensures { StandsFirst token.Comma self.now result }
+    {
+        match self.token() {
+            Some(first) => matches!(first, Token::Comma),
+            None => false,
+        }
+    }
+
+    /// Whether a minus sign stands at the place.
+    pub(crate) fn at_minus(&self) -> bool
+        ensures { StandsFirst (token.Operator operator.Minus) self.now result }
+    {
+        match self.token() {
+            Some(first) => matches!(first, Token::Operator(Operator::Minus)),
+            None => false,
+        }
+    }
+
+    /// Whether a step may begin at the place.
+    pub(crate) fn at_step(&self) -> bool
+        ensures { result ≡ is_at_step self.now }
+    {
+        match self.token() {
+            Some(first) => begins_step(first),
+            None => false,
+        }
+    }
+
+    /// The operator at the place, if its chains are those of the level.
+    pub(crate) fn operator_of(&self, level: Level) -> Option<Operator>
+        ensures { MatchOption result (NoOperatorOf level self.now) (λ o. IsOperatorOf level o self.now) }
+    {
+        let first = self.token()?;
+        match first {
+            Token::Operator(operator) if level_of(*operator) == level => Some(*operator),
+            _ => None,
+        }
+    }
+}
