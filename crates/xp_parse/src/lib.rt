@@ -15,3 +15,6 @@ pub use error::ParseError;
 pub use parser::Parser;
 pub use stop::Stop;
 pub use whole::parse_tokens;
+
+#[cfg(test)]
+mod tests;
