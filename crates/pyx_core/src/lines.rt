@@ -41,6 +41,13 @@ fn fault_in(line: u64, kind: Option<PyxKind>) -> Option<PyxFault>
     }
 }
 
+/// Keeps what came behind the last line end.
+fn keep(half: &mut Vec<u8>, rest: &[u8]) -> Result<(), AllocError>
+    ensures { OnOk result (half.new.items ≡ half.old.items ++ rest.now) }
+{
+    half.extend_from_slice(rest)
+}
+
 impl Lines {
     pub fn new(alloc: Global, mode: Mode) -> Lines
         ensures { Keeps result mode [] [] }
@@ -98,7 +105,7 @@ impl Lines {
             }
             rest = after;
         }
-        self.half.extend_from_slice(rest)?;
+        keep(&mut self.half, rest)?;
         Ok(None)
     }
 

@@ -52,14 +52,14 @@ loop-end-preserved c = λ mode fed taken keeps few.
     feeds_line c.loop-end.self c.take_line.new.self mode taken (fed ++ c.args.piece.now) c.loop-end.rest.now _ _ _ on first
     (rw c.in_default-2.is at (c.in_ok-fault.ensures mode taken on.before on.half on.stands (omega (arith, on.few))))
 
-pub returns-in_err-extend_from_slice : goal.returns-in_err-extend_from_slice
-returns-in_err-extend_from_slice c = λ mode fed taken keeps few.
+pub returns-in_err-keep : goal.returns-in_err-keep
+returns-in_err-keep c = λ mode fed taken keeps few.
     let on = c.loop-end.invariant mode fed taken keeps few in
-    MatchResult-from_err c.from_residual-in_err-extend_from_slice.result _ _ c.from_residual-in_err-extend_from_slice.ensures.0
+    MatchResult-from_err c.from_residual-in_err-keep.result _ _ c.from_residual-in_err-keep.ensures.0
     (λ _. feeds_none c.loop-end.self mode taken (fed ++ c.args.piece.now) c.loop-end.rest.now on)
 
 pub returns : goal.returns
 returns c = λ mode fed taken keeps few.
     let on = c.loop-end.invariant mode fed taken keeps few in
     feeds_end c.loop-end.self _ mode taken (fed ++ c.args.piece.now) c.loop-end.rest.now on
-    (λ k less. c.in_default.ensures k (omega arith) less) refl refl c.in_ok-extend_from_slice.ensures.items
+    (λ k less. c.in_default.ensures k (omega arith) less) refl refl c.in_ok-keep.ensures
