@@ -2,3 +2,17 @@ pub mod NumberLemmas
 pub mod OpenLemmas
 pub mod AttributeLemmas
 pub mod LoadLemmas
+pub mod BindingLemmas
+pub mod TagLemmas
+pub mod OpenElements
+pub mod ScopeGrowth
+pub mod TellLemmas
+pub mod TextLemmas
+pub mod TagFacts
+pub mod StartLemmas
+pub mod BeginLemmas
+pub mod StepLemmas
+pub mod LeafLemmas
+pub mod LoadStart
+pub mod TextBound
+pub mod WholeLemmas

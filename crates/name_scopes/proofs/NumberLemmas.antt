@@ -1,9 +1,10 @@
 -- Numbers of nodes: live ones, new ones, and their places in lists.
-use Rattle.std.proofs.Common.{◌≡◌, ◌≢◌, ℕ, ◌≤◌, Bool, true, false, ◌||◌, eqb, List, [], ◌∷◌, ◌++◌, length, Option, None, Some, is_some, ◌⊎◌, inl, inr, refl, sym, ap, ◌∙◌, true≢false, arith, eq-eqb, eqb-true}
+use Rattle.std.proofs.Common.{◌≡◌, ◌≢◌, ℕ, zero, suc, slice_get, ◌≤◌, Bool, true, false, ◌||◌, eqb, List, [], ◌∷◌, ◌++◌, length, Option, None, Some, is_some, ◌⊎◌, inl, inr, refl, sym, ap, ◌∙◌, true≢false, arith, eq-eqb, eqb-true}
 use Rattle.std.proofs.lemmas.List.{get_or_past}
 use Rattle.doc_tree.specs.declared.kinds.Kind.{Kind}
+use Rattle.doc_tree.specs.Kinds.{holds_kids}
 use Rattle.doc_tree.specs.Lists.{mem, last_or}
-use Rattle.doc_tree.specs.Table.{Table, Facts, Content, entry_at, content_at, content_of, kind_at, kind_of, is_live}
+use Rattle.doc_tree.specs.Table.{Table, Facts, Name, Content, entry_at, content_at, content_of, kind_at, kind_of, is_live, numbered}
 
 no-node : (T : Table) (n : ℕ) → length T ≤ n → is_live T n ≡ false
 no-node T n h = ap (λ (node : Option Facts). is_some node) (get_or_past T n None h)
@@ -61,3 +62,28 @@ mem-push n m (x ∷ ms) h = mem-push-at n m x ms (mem-push n m ms) (mem-either (
 pub last-push : (d x : ℕ) (xs : List ℕ) → last_or d (xs ++ x ∷ []) ≡ x
 last-push d x [] = refl
 last-push d x (y ∷ xs) = last-push y x xs
+
+pub mem-behind : (n m : ℕ) (ms : List ℕ) → mem n ms ≡ true → mem n (m ∷ ms) ≡ true
+mem-behind n m ms h = rw h (or-true (eqb n m))
+
+-- two numbers are equal or not
+pub eq_or : (m n : ℕ) → (m ≡ n) ⊎ (m ≢ n)
+eq_or m n = by (eqb m n) refl
+  where
+    by : (b : Bool) → eqb m n ≡ b → (m ≡ n) ⊎ (m ≢ n)
+    by true e = inl (eqb-true m n e)
+    by false e = inr (λ same. true≢false (sym (eq-eqb m n same) ∙ e))
+
+-- the name with a number
+pub numbered-is : (names : List Name) (id : ℕ) (name : Name) → slice_get names id ≡ Some name → numbered names id ≡ name
+numbered-is [] id name h = absurd (cc)
+numbered-is (x ∷ names) zero name h = cc
+numbered-is (x ∷ names) (suc id) name h = numbered-is names id name h
+
+-- what holds kids is live
+pub holder-live : (T : Table) (n : ℕ) → holds_kids (kind_of T n) ≡ true → is_live T n ≡ true
+holder-live T n h = by (entry_at T n) h
+  where
+    by : (o : Option Facts) → holds_kids (kind_at (content_at o)) ≡ true → is_some o ≡ true
+    by None e = absurd (true≢false (sym e))
+    by (Some node) e = refl

@@ -1,2 +1,10 @@
 pub mod PlainTree
 pub mod Loading
+pub mod QNames
+pub mod Declarations
+pub mod Scoping
+pub mod ScopedTree
+pub mod DocFaults
+pub mod Bindings
+pub mod Building
+pub mod Loaded

@@ -1,0 +1,42 @@
+-- A loader in front of all events.
+use Rattle.std.proofs.Common.{◌≡◌, ◌≢◌, ℕ, suc, zero, true, false, List, [], ◌∷◌, ◌++◌, refl, sym, ap, ◌∙◌, subst, Global, arith}
+use Rattle.pyx_core.specs.Nesting.{start}
+use Rattle.doc_tree.specs.Table.{Contents, AllLive, root_alone}
+use Rattle.doc_tree.specs.Scope.{Decl}
+use Rattle.name_scopes.specs.declared.build.Loader.{Loader}
+use Rattle.name_scopes.specs.Scoping.{InScope}
+use Rattle.name_scopes.specs.DocFaults.{begin}
+use Rattle.name_scopes.specs.Building.{Builds, Loads}
+
+root-scoped : InScope root_alone.nodes
+root-scoped zero = tt
+root-scoped (suc n) = tt
+
+root-builds : Builds [] start begin root_alone.nodes 0
+root-builds = record {
+  told = [];
+  tells = record {
+    lines_are = refl;
+    all_live = all_live;
+    last = refl;
+    way = record { number = refl; content = refl; no_parent = refl };
+    top = record { elements = refl; no_text = refl };
+    numbered_so = refl;
+    little = omega arith;
+  };
+  told_is = refl;
+  inside = λ some. absurd (some refl);
+  behind_is = refl;
+  scoped = root-scoped;
+  count = refl;
+}
+  where
+    all_live : AllLive root_alone.nodes
+    all_live zero h = refl
+    all_live (suc n) h = absurd (omega arith)
+
+pub loads-none : (alloc : Global) (tree : Contents) (place : ℕ) (scope : List Decl) → tree ≡ root_alone → place ≡ 0 → scope ≡ [] → Loads [] start begin (record { alloc = alloc; tree = tree; place = place; scope = scope })
+loads-none alloc tree place scope is_tree is_place is_scope = record {
+  builds = subst (λ (t : Contents). Builds [] start begin t.nodes place) (sym is_tree) (subst (Builds [] start begin root_alone.nodes) (sym is_place) root-builds);
+  scope_is = is_scope;
+}

@@ -1,0 +1,192 @@
+-- Events taken by a tree under way, one by one.
+use Rattle.std.proofs.Common.{◌≡◌, ◌≢◌, ℕ, ◌+◌, ◌<◌, ◌≤◌, suc, Bool, true, false, ◌&&◌, List, [], ◌∷◌, ◌++◌, ◌⊎◌, length, map, drop, sum_by, Option, None, Some, inl, inr, refl, sym, ap, ap₂, ◌∙◌, subst, ⊎_elim, true≢false, arith, append_assoc, append-nil, nat_lt}
+use Rattle.std.specs.Prelude.{if◌then◌else◌, nat_le, Result, Ok, Err}
+use Rattle.std.specs.List.{flat_map, list_all}
+use Rattle.std.specs.Option.{option_or}
+use Rattle.std.proofs.lemmas.Bool.{leb-false, lt-leb, le-ltb}
+use Rattle.std.proofs.Common.{ltb-false}
+use Rattle.std.proofs.lemmas.List.{map-append}
+use Rattle.std.proofs.lemmas.List.Concat.{flat_map-append}
+use Rattle.std.proofs.lemmas.List.Sums.{sum_by-append, sum_by-cons}
+use Rattle.pyx_core.specs.declared.event.Attr.{Attr}
+use Rattle.pyx_core.specs.declared.event.Event.{Event}
+use Rattle.pyx_core.specs.declared.event.Event.TheVariants as event
+use Rattle.pyx_core.specs.declared.mode.Mode.TheVariants.{Document}
+use Rattle.pyx_core.specs.Before.{is_nil, outer}
+use Rattle.pyx_core.specs.Nesting.{Place, Fits, StartFits, CharsFit, PiFits, CommentFits, HasRoom, after}
+use Rattle.doc_tree.specs.declared.limits.TheConstants.{MAX_DEPTH, MAX_LIVE_NODES}
+use Rattle.doc_tree.specs.Table.{Table, Name, Content, root, element, text, comment, instruction, kind_at, kind_in, decls_at, value_in, kind_of, kids_of, decls_of, parent_of, is_live}
+use Rattle.doc_tree.specs.Walks.{above, order, text_bytes}
+use Rattle.doc_tree.specs.Lines.{Line, starts, declares, ends, first_lines, last_lines}
+use Rattle.doc_tree.specs.Growth.{Grew, FitsUnder, ends_in_text, has_too_many, as_kid}
+use Rattle.doc_tree.specs.Kinds.{is_element, is_text}
+use Rattle.doc_tree.specs.Laws.{HasWaysUp, WellFormed}
+use Rattle.doc_tree.specs.Scope.{Decl, scope_at, HasScopes}
+use Rattle.name_scopes.specs.declared.build.Loader.{Loader}
+use Rattle.name_scopes.specs.declared.fault.DocKind.{DocKind}
+use Rattle.name_scopes.specs.declared.fault.EventError.{EventError}
+use Rattle.name_scopes.specs.declared.fault.EventError.TheVariants.{Kind, Memory}
+use Rattle.name_scopes.specs.declared.fault.DocKind.TheVariants.{TooManyNodes, TooDeep}
+use Rattle.name_scopes.specs.QNames.{as_written, unprefixed}
+use Rattle.name_scopes.specs.Declarations.{declarations, plain_attrs}
+use Rattle.name_scopes.specs.Scoping.{ContentInScope, InScope}
+use Rattle.name_scopes.specs.ScopedTree.{written, attribute_line, event_lines, unscoped}
+use Rattle.name_scopes.specs.DocFaults.{Standing, in_scope, outer_scopes, tag_fault, tag_nodes, limit_fault, node_fault, event_fault, moved}
+use Rattle.name_scopes.specs.Building.{Receives, IsTooDeep, Takes, Tops, Tells, Builds, Loads, Comes, AreOpen, Begins, room_fault, element_name, scoped_line, start_lines, value_bytes, event_text, leaf_of}
+use Rattle.name_scopes.proofs.NumberLemmas.{eq_or}
+use Rattle.name_scopes.proofs.OpenElements.{open-live, open-apart, open-root, open-scope, open-depth, tops-apart, tops-other}
+use Rattle.name_scopes.proofs.ScopeGrowth.{grown-scoped}
+use Rattle.name_scopes.proofs.TellLemmas.{tells-receives, tells-leaf, tells-end, Ended, ends-in-one}
+
+-- lines with their namespaces left out
+
+declared-lines : (decls : List Decl) → map unscoped (map declares decls) ≡ map declares decls
+declared-lines [] = refl
+declared-lines (d ∷ decls) = ap (λ (ls : List Line). declares d ∷ ls) (declared-lines decls)
+
+attribute-lines : (scope : List Decl) (attrs : List Attr) → map unscoped (map (scoped_line scope) attrs) ≡ map attribute_line attrs
+attribute-lines scope [] = refl
+attribute-lines scope (a ∷ attrs) = ap (λ (ls : List Line). attribute_line a ∷ ls) (attribute-lines scope attrs)
+
+start-lines : (scope : List Decl) (name : List ℕ) (attrs : List Attr) → map unscoped (start_lines scope name attrs) ≡ event_lines (event.Start name attrs)
+start-lines scope name attrs =
+    ap (λ (ls : List Line). starts (written name) ∷ ls)
+    (map-append unscoped (map declares (declarations attrs)) (map (scoped_line scope) (plain_attrs attrs))
+    ∙ ap₂ (λ (l r : List Line). l ++ r) (declared-lines (declarations attrs)) (attribute-lines scope (plain_attrs attrs)))
+
+-- one event more was told
+pub told-more : (told lines : List Line) (taken : List Event) (e : Event) → map unscoped told ≡ flat_map event_lines taken → map unscoped lines ≡ event_lines e → map unscoped (told ++ lines) ≡ flat_map event_lines (taken ++ e ∷ [])
+told-more told lines taken e had is =
+    map-append unscoped told lines
+    ∙ (ap₂ (λ (l r : List Line). l ++ r) had is
+    ∙ sym (flat_map-append event_lines taken (e ∷ []) ∙ ap (λ (ls : List Line). flat_map event_lines taken ++ ls) (append-nil (event_lines e))))
+
+pub text-more : (taken : List Event) (e : Event) → sum_by event_text (taken ++ e ∷ []) ≡ sum_by event_text taken + event_text e
+text-more taken e = sum_by-append event_text taken (e ∷ []) ∙ ap (λ (k : ℕ). sum_by event_text taken + k) (sum_by-cons event_text e [] ∙ omega arith)
+
+-- faults
+
+or-none : {A : Type 0} (a b : Option A) → option_or a b ≡ None → (a ≡ None) × (b ≡ None)
+or-none None b h = (refl, h)
+or-none (Some x) b h = absurd (cc)
+
+room-none : (nodes : ℕ) → room_fault nodes ≡ None → nat_lt MAX_LIVE_NODES nodes ≡ false
+room-none nodes h = by (nat_lt MAX_LIVE_NODES nodes) h
+  where
+    by : (b : Bool) → (if b then Some TooManyNodes else None) ≡ None → b ≡ false
+    by true h = absurd (cc)
+    by false h = refl
+
+-- a fault that a check finds is that of the start tag
+pub start-faulty : (standing : Standing) (name : List ℕ) (attrs : List Attr) (nodes : ℕ) (what : DocKind) → nodes ≡ standing.nodes →
+    Some what ≡ option_or (tag_fault (in_scope (declarations attrs ∷ standing.scopes)) name attrs) (room_fault (nodes + tag_nodes attrs)) → event_fault standing (event.Start name attrs) ≡ Some what
+start-faulty standing name attrs nodes what same h =
+    by (tag_fault (in_scope (declarations attrs ∷ standing.scopes)) name attrs) (nat_lt MAX_LIVE_NODES (standing.nodes + tag_nodes attrs))
+    (h ∙ ap (λ (k : ℕ). option_or (tag_fault (in_scope (declarations attrs ∷ standing.scopes)) name attrs) (room_fault (k + tag_nodes attrs))) same)
+  where
+    by : (o : Option DocKind) (b : Bool) → Some what ≡ option_or o (if b then Some TooManyNodes else None) →
+        option_or o (if b then Some TooManyNodes else if nat_lt MAX_DEPTH (suc (length standing.scopes)) then Some TooDeep else None) ≡ Some what
+    by (Some kind) b h = sym h
+    by None true h = sym h
+    by None false h = absurd (cc)
+
+-- what a check that finds nothing says
+pub record Passes (scope : List Decl) (name : List ℕ) (attrs : List Attr) (nodes : ℕ) : Type 0 where
+  pub good : tag_fault scope name attrs ≡ None
+  pub room : nodes + tag_nodes attrs ≤ MAX_LIVE_NODES
+
+pub passes : (scope : List Decl) (name : List ℕ) (attrs : List Attr) (nodes : ℕ) → None ≡ option_or (tag_fault scope name attrs) (room_fault (nodes + tag_nodes attrs)) → Passes scope name attrs nodes
+passes scope name attrs nodes h =
+    let both = or-none (tag_fault scope name attrs) (room_fault (nodes + tag_nodes attrs)) (sym h) in
+    record { good = both.0; room = ltb-false MAX_LIVE_NODES (nodes + tag_nodes attrs) (room-none (nodes + tag_nodes attrs) both.1) }
+
+start-limit : (standing : Standing) (name : List ℕ) (attrs : List Attr) (deep : Bool) → tag_fault (in_scope (declarations attrs ∷ standing.scopes)) name attrs ≡ None → standing.nodes + tag_nodes attrs ≤ MAX_LIVE_NODES →
+    nat_lt MAX_DEPTH (suc (length standing.scopes)) ≡ deep → event_fault standing (event.Start name attrs) ≡ (if deep then Some TooDeep else None)
+start-limit standing name attrs deep good room is =
+    let few : nat_lt MAX_LIVE_NODES (standing.nodes + tag_nodes attrs) ≡ false = le-ltb MAX_LIVE_NODES (standing.nodes + tag_nodes attrs) room in
+    rw (good, few, is) refl
+
+-- the innermost open element of a loader, its scope and its depth
+module _ (taken : List Event) (place : Place) (standing : Standing) (T : Table) (p : ℕ) (builds : Builds taken place standing T p) where
+  pub builds-receives : Receives T p
+  builds-receives = tells-receives builds.told place.opened standing.scopes place.begun (sum_by event_text taken) T p builds.tells
+
+  pub builds-scope : HasScopes T → scope_at T p ≡ in_scope standing.scopes
+  builds-scope laws = open-scope T place.opened standing.scopes p laws builds.tells.way
+
+  pub builds-text : text_bytes T ≤ sum_by event_text taken
+  builds-text = builds.tells.little
+
+  pub start-deep : (name : List ℕ) (attrs : List Attr) → HasWaysUp T → tag_fault (in_scope (declarations attrs ∷ standing.scopes)) name attrs ≡ None → length (order T) + tag_nodes attrs ≤ MAX_LIVE_NODES →
+      nat_lt MAX_DEPTH (length (above T p)) ≡ true → event_fault standing (event.Start name attrs) ≡ Some TooDeep
+  start-deep name attrs ways good room deep =
+      start-limit standing name attrs true good (omega (arith, room, builds.count))
+      (ap (nat_lt MAX_DEPTH) (sym (open-depth T place.opened standing.scopes p ways builds.tells.way)) ∙ deep)
+
+  pub start-passes : (name : List ℕ) (attrs : List Attr) → HasWaysUp T → tag_fault (in_scope (declarations attrs ∷ standing.scopes)) name attrs ≡ None → length (order T) + tag_nodes attrs ≤ MAX_LIVE_NODES →
+      nat_lt MAX_DEPTH (length (above T p)) ≡ false → event_fault standing (event.Start name attrs) ≡ None
+  start-passes name attrs ways good room shallow =
+      start-limit standing name attrs false good (omega (arith, room, builds.count))
+      (ap (nat_lt MAX_DEPTH) (sym (open-depth T place.opened standing.scopes p ways builds.tells.way)) ∙ shallow)
+
+  -- a start tag was taken
+  pub builds-start : (U : Table) (n : ℕ) (scope : List Decl) (name : List ℕ) (attrs : List Attr) → WellFormed T → StartFits place name attrs → Begins T U p n scope name attrs →
+      Builds (taken ++ event.Start name attrs ∷ []) (after Document place (event.Start name attrs)) (moved standing (event.Start name attrs)) U n
+  builds-start U n scope name attrs formed fits begins = record {
+    told = builds.told ++ start_lines scope name attrs;
+    tells = subst (λ (k : ℕ). Tells (builds.told ++ start_lines scope name attrs) (name ∷ place.opened) (declarations attrs ∷ standing.scopes) true k U n) (sym (text-more taken (event.Start name attrs)))
+        (begins.tells builds.told place.opened standing.scopes place.begun (sum_by event_text taken) apart at_root builds.tells);
+    told_is = told-more builds.told (start_lines scope name attrs) taken (event.Start name attrs) builds.told_is (start-lines scope name attrs);
+    inside = λ some. refl;
+    behind_is = ap (ends_in_text U) begins.no_kid;
+    scoped = begins.scoped;
+    count = begins.counted ∙ ap (λ (k : ℕ). k + tag_nodes attrs) builds.count;
+  }
+    where
+      some-open : place.begun ≡ true → (names : List (List ℕ)) → place.opened ≡ names → names ≢ []
+      some-open begun names is none =
+          let room : (is_nil place.opened && place.begun) ≡ false = fits.room in
+          true≢false (sym (ap₂ (λ a b. a && b) (ap is_nil (is ∙ none)) begun) ∙ room)
+
+      apart : place.begun ≡ true → p ≢ 0
+      apart begun = open-apart T place.opened standing.scopes p formed (some-open begun place.opened refl) builds.tells.way
+
+      at_root : place.begun ≡ false → p ≡ 0
+      at_root none = by place.opened refl
+        where
+          by : (names : List (List ℕ)) → place.opened ≡ names → p ≡ 0
+          by [] is = (open-root T standing.scopes p (subst (λ (names : List (List ℕ)). AreOpen T names standing.scopes p) is builds.tells.way)).0
+          by (name ∷ names) is = absurd (true≢false (sym (builds.inside (λ e. let k : name ∷ names ≡ [] = sym is ∙ e in absurd (cc))) ∙ none))
+
+-- the answers to a start tag
+
+pub loads-start : (taken : List Event) (place : Place) (standing : Standing) (old new : Loader) (n : ℕ) (name : List ℕ) (attrs : List Attr) → WellFormed old.tree.nodes → StartFits place name attrs →
+    new.scope ≡ declarations attrs ++ old.scope → Begins old.tree.nodes new.tree.nodes old.place n new.scope name attrs → new.place ≡ n → Loads taken place standing old →
+    Loads (taken ++ event.Start name attrs ∷ []) (after Document place (event.Start name attrs)) (moved standing (event.Start name attrs)) new
+loads-start taken place standing old new n name attrs formed fits scope_is begins place_is loads = record {
+  builds = subst (Builds (taken ++ event.Start name attrs ∷ []) (after Document place (event.Start name attrs)) (moved standing (event.Start name attrs)) new.tree.nodes) (sym place_is)
+      (builds-start taken place standing old.tree.nodes old.place loads.builds new.tree.nodes n new.scope name attrs formed fits begins);
+  scope_is = scope_is ∙ ap (λ (l : List Decl). declarations attrs ++ l) loads.scope_is;
+}
+
+-- what a check says, in the scope of the open elements
+module _ (taken : List Event) (place : Place) (standing : Standing) (old : Loader) (scope : List Decl) (name : List ℕ) (attrs : List Attr) (scope_is : scope ≡ declarations attrs ++ old.scope) (loads : Loads taken place standing old) where
+  pub tag-scope : scope ≡ in_scope (declarations attrs ∷ standing.scopes)
+  tag-scope = scope_is ∙ ap (λ (l : List Decl). declarations attrs ++ l) loads.scope_is
+
+  pub check-faulty : (what : DocKind) → Some what ≡ option_or (tag_fault scope name attrs) (room_fault (length (order old.tree.nodes) + tag_nodes attrs)) → event_fault standing (event.Start name attrs) ≡ Some what
+  check-faulty what h =
+      start-faulty standing name attrs (length (order old.tree.nodes)) what loads.builds.count
+      (h ∙ ap (λ (s : List Decl). option_or (tag_fault s name attrs) (room_fault (length (order old.tree.nodes) + tag_nodes attrs))) tag-scope)
+
+  pub element-scope : HasScopes old.tree.nodes → scope ≡ declarations attrs ++ scope_at old.tree.nodes old.place
+  element-scope laws = tag-scope ∙ ap (λ (l : List Decl). declarations attrs ++ l) (sym (builds-scope taken place standing old.tree.nodes old.place loads.builds laws))
+
+  pub check-passes : HasWaysUp old.tree.nodes → Passes scope name attrs (length (order old.tree.nodes)) → nat_lt MAX_DEPTH (length (above old.tree.nodes old.place)) ≡ false → event_fault standing (event.Start name attrs) ≡ None
+  check-passes ways p shallow =
+      start-passes taken place standing old.tree.nodes old.place loads.builds name attrs ways (ap (λ (s : List Decl). tag_fault s name attrs) (sym tag-scope) ∙ p.good) p.room shallow
+
+  pub start-refused : (new : Loader) (err : EventError) → HasWaysUp old.tree.nodes → Passes scope name attrs (length (order old.tree.nodes)) → IsTooDeep old.tree.nodes old.place err → Takes taken place standing (event.Start name attrs) new (Err err)
+  start-refused new (Kind what) ways p deep =
+      start-deep taken place standing old.tree.nodes old.place loads.builds name attrs ways (ap (λ (s : List Decl). tag_fault s name attrs) (sym tag-scope) ∙ p.good) p.room deep.1 ∙ ap Some (sym deep.0)
+  start-refused new Memory ways p deep = tt

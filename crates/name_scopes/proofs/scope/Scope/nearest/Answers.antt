@@ -1,0 +1,24 @@
+-- A prefix that is a word has the namespace at the place kept for it; another is not declared.
+use Rattle.std.proofs.Common.{◌≡◌, None, Some, Option, map, sym, ap, ◌∙◌}
+use Rattle.doc_tree.specs.Scope.{first_declared}
+use Rattle.name_scopes.specs.Bindings.{bound, newest_first}
+use Rattle.name_scopes.proofs.BindingLemmas.{never-declared, kept-declared}
+use Rattle.name_scopes.proofs.scope.Scope.nearest.Goals as goal
+
+pub returns-in-Some-place_at : goal.returns-in-Some-place_at
+returns-in-Some-place_at c =
+    c.uri_at.ensures
+    ∙ sym (kept-declared c.self.inside.prefixes c.self.inside.bindings.items c.self.inside.latest.items c.args.prefix.now c.in-Some.number c.self.invariant c.laws.ensures
+    c.in-Some.ensures.found (Some c.in-Some-place_at.place) (sym c.place_at.ensures ∙ c.in-Some-place_at.is))
+    ∙ ap (λ l. first_declared l c.args.prefix.now) c.self.view_is
+
+pub returns-in-None-place_at : goal.returns-in-None-place_at
+returns-in-None-place_at c =
+    sym (kept-declared c.self.inside.prefixes c.self.inside.bindings.items c.self.inside.latest.items c.args.prefix.now c.in-Some.number c.self.invariant c.laws.ensures
+    c.in-Some.ensures.found None (sym c.place_at.ensures ∙ c.in-None-place_at.is))
+    ∙ ap (λ l. first_declared l c.args.prefix.now) c.self.view_is
+
+pub returns-in-None : goal.returns-in-None
+returns-in-None c =
+    sym (never-declared c.self.inside.prefixes c.args.prefix.now (newest_first c.self.inside.bindings.items) c.in-None.ensures.absent c.self.invariant.shadow)
+    ∙ ap (λ l. first_declared l c.args.prefix.now) c.self.view_is

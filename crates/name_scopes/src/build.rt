@@ -1,0 +1,328 @@
+//! A tree under way: events are taken one by one.
+
+ghost use Rattle.std.specs.Prelude.{◌≡◌, ◌≢◌, ◌∷◌, ◌+◌, ◌≤◌, [], ◌++◌, List, ℕ, true, false, None, Some, sum_by, length, nat_lt, is_none, IfOk, OnOk, IfErr};
+ghost use Rattle.std.specs.List.{list_all, list_any};
+ghost use Rattle.std.specs.Option.{option_or, option_to_list};
+ghost use Rattle.pyx_core.specs.declared.event.Event.{Event};
+ghost use Rattle.pyx_core.specs.declared.event.Event.TheVariants as event_kind;
+ghost use Rattle.pyx_core.specs.declared.mode.Mode.TheVariants.{Document};
+ghost use Rattle.pyx_core.specs.Nesting.{Place, after, is_attr, is_name, start};
+ghost use Rattle.doc_tree.specs.declared.kinds.Kind.TheVariants.{Element};
+ghost use Rattle.doc_tree.specs.Table.{element, attribute, value_in, kind_of, kids_of, attrs_of, decls_of};
+ghost use Rattle.doc_tree.specs.Walks.{above, order, text_bytes};
+ghost use Rattle.doc_tree.specs.Growth.{AttributeFits, FitsUnder, Grew, has_too_many};
+ghost use Rattle.doc_tree.specs.Scope.{namespace_in, scope_at};
+ghost use Rattle.name_scopes.specs.QNames.{prefix_part};
+ghost use Rattle.name_scopes.specs.Declarations.{declaration_of, declarations, plain_attrs};
+ghost use Rattle.name_scopes.specs.Scoping.{InScope, declares_twice};
+ghost use Rattle.name_scopes.specs.DocFaults.{Standing, begin, has_pair, lacks_prefix, moved, same_expanded, tag_fault, tag_nodes};
+ghost use Rattle.name_scopes.specs.Building.{AttributesAll, Begins, Comes, DeclaresAll, IsFull, IsLeaf, IsReady, IsTooDeep, Loads, Receives, Takes, attribute_name, element_name, leaf_of, room_fault, value_bytes};
+
+use crate::declared::{declared_prefix, is_plain};
+use crate::fault::{DocKind, EventError};
+use crate::qname::split;
+use crate::scope::Scope;
+use crate::tag::{attribute_namespace, check_tag};
+use doc_tree::{AppendError, MAX_DEPTH, MAX_LIVE_NODES, MAX_TEXT_BYTES, NewNode, NodeId, Tree};
+use pyx_core::{Attr, Event};
+use std::alloc::{AllocError, Global};
+
+/// A tree under way, the innermost open element, or the root where none is open, and the declarations in scope there.
+#[derive(Drop)]
+pub(crate) struct Loader {
+    pub(crate) alloc: Global,
+    pub(crate) tree: Tree,
+    pub(crate) place: NodeId,
+    pub(crate) scope: Scope,
+}
+
+impl Loader {
+    /// The root alone.
+    pub(crate) fn new(alloc: Global) -> Result<Loader, AllocError>
+        ensures { IfOk result (λ loader. Loads [] start begin loader) }
+    {
+        let tree = Tree::new(alloc)?;
+        let place = tree.root();
+        tree.laws();
+        Ok(Loader {
+            alloc,
+            tree,
+            place,
+            scope: Scope::new(alloc),
+        })
+    }
+
+    /// Takes an event, or answers the first rule that it breaks.
+    pub(crate) fn take(&mut self, event: &Event) -> Result<(), EventError>
+        requires { IsReady self.old event.now }
+        ensures { (taken : List Event) (place : Place) (standing : Standing) → Loads taken place standing self.old → Comes taken place event.now →
+            Takes taken place standing event.now self.new result }
+    {
+        match event {
+            Event::Start { name, attrs } => self.start(name.as_str(), attrs.as_slice()),
+            Event::End { name: _ } => {
+                self.end();
+                Ok(())
+            }
+            Event::Chars { text: _ } => self.leaf(event),
+            Event::Pi { target: _, body: _ } => self.leaf(event),
+            Event::Comment { text: _ } => self.leaf(event),
+        }
+    }
+
+    /// Ends the innermost element.
+    fn end(&mut self)
+        requires { (name : List ℕ) × IsReady self.old (event_kind.End name) }
+        ensures { (name : List ℕ) (taken : List Event) (place : Place) (standing : Standing) → Loads taken place standing self.old → Comes taken place (event_kind.End name) →
+            Loads (taken ++ event_kind.End name ∷ []) (after Document place (event_kind.End name)) (moved standing (event_kind.End name)) self.new }
+    {
+        self.tree.laws();
+        let count = self.tree.decl_count(self.place);
+        self.scope.forget(count);
+        match self.tree.parent(self.place) {
+            Some(parent) => self.place = parent,
+            None => unreachable!(),
+        }
+    }
+
+    /// Puts the node of an event that is no tag under the innermost element.
+    fn leaf(&mut self, event: &Event) -> Result<(), EventError>
+        requires leaf { IsLeaf event.now }
+        requires ready { IsReady self.old event.now }
+        ensures { (taken : List Event) (place : Place) (standing : Standing) → Loads taken place standing self.old → Comes taken place event.now →
+            Takes taken place standing event.now self.new result }
+    {
+        self.tree.laws();
+        self.tree.scope_laws();
+        append_leaf(&mut self.tree, self.place, event)?;
+        Ok(())
+    }
+
+    /// Begins an element.
+    fn start(&mut self, name: &str, attrs: &[Attr]) -> Result<(), EventError>
+        requires { IsReady self.old (event_kind.Start name.now attrs.now) }
+        ensures { (taken : List Event) (place : Place) (standing : Standing) → Loads taken place standing self.old → Comes taken place (event_kind.Start name.now attrs.now) →
+            Takes taken place standing (event_kind.Start name.now attrs.now) self.new result }
+    {
+        self.tree.laws();
+        self.tree.scope_laws();
+        declare(&mut self.scope, attrs)?;
+        if let Some(kind) = self.check(name, attrs)? {
+            return Err(EventError::Kind(kind));
+        }
+        match begin(&mut self.tree, self.place, &self.scope, name, attrs) {
+            Ok(element) => {
+                self.place = element;
+                Ok(())
+            }
+            Err(error) => Err(error),
+        }
+    }
+
+    /// Tests the names of a start tag, whose declarations are in scope, and whether there is room for its nodes.
+    fn check(&self, name: &str, attrs: &[Attr]) -> Result<Option<DocKind>, AllocError>
+        ensures { IfOk result (λ found. found ≡ option_or (tag_fault self.now.scope name.now attrs.now)
+            (room_fault (length (order self.now.tree.nodes) + tag_nodes attrs.now))) }
+    {
+        self.tree.laws();
+        if let Some(kind) = check_tag(self.alloc, &self.scope, name, attrs)? {
+            return Ok(Some(kind));
+        }
+        let left = MAX_LIVE_NODES - self.tree.live_nodes();
+        if count_plain(attrs) >= left as usize {
+            return Ok(Some(DocKind::TooManyNodes));
+        }
+        Ok(None)
+    }
+}
+
+/// Puts what attributes declare in scope.
+fn declare(scope: &mut Scope, attrs: &[Attr]) -> Result<(), AllocError>
+    ensures { OnOk result (scope.new ≡ declarations attrs.now ++ scope.old) }
+{
+    let mut left = attrs.len();
+    while left > 0 {
+        left -= 1;
+        declare_one(scope, &attrs[left])?;
+    }
+    Ok(())
+}
+
+/// Puts what an attribute declares in scope.
+fn declare_one(scope: &mut Scope, attr: &Attr) -> Result<(), AllocError>
+    ensures { OnOk result (scope.new ≡ option_to_list (declaration_of attr.now) ++ scope.old) }
+{
+    match declared_prefix(attr) {
+        Some(prefix) => scope.declare(prefix, attr.value.as_str()),
+        None => Ok(()),
+    }
+}
+
+/// Puts the node of an event that is no tag under a node.
+fn append_leaf(tree: &mut Tree, parent: NodeId, event: &Event) -> Result<NodeId, EventError>
+    requires receives { Receives tree.old.nodes parent }
+    requires fits { FitsUnder tree.old.nodes parent (leaf_of event.now) }
+    requires little { text_bytes tree.old.nodes + length (value_in (leaf_of event.now)) ≤ MAX_TEXT_BYTES }
+    ensures grew { IfOk result (λ n. Grew tree.old.nodes tree.new.nodes parent n (leaf_of event.now)) }
+    ensures room { OnOk result (has_too_many tree.old.nodes ≡ false) }
+    ensures full { IfErr result (IsFull tree.old.nodes) }
+{
+    let appended = match event {
+        Event::Chars { text } => tree.append_node(parent, NewNode::Text(text.as_str())),
+        Event::Pi { target, body } => {
+            let id = tree.name_id("", target.as_str(), "")?;
+            tree.append_node(parent, NewNode::Pi(id, body.as_str()))
+        }
+        Event::Comment { text } => tree.append_node(parent, NewNode::Comment(text.as_str())),
+        Event::Start { name: _, attrs: _ } | Event::End { name: _ } => unreachable!(),
+    };
+    match appended {
+        Ok(n) => Ok(n),
+        Err(AppendError::TooManyNodes) => Err(EventError::Kind(DocKind::TooManyNodes)),
+        Err(AppendError::Memory) => Err(EventError::Memory),
+        Err(AppendError::TooDeep) => unreachable!(),
+        Err(AppendError::TooMuchText) => unreachable!(),
+    }
+}
+
+/// Puts the element of a start tag under a node, with what it declares and its attributes.
+fn begin(
+    tree: &mut Tree,
+    parent: NodeId,
+    scope: &Scope,
+    name: &str,
+    attrs: &[Attr],
+) -> Result<NodeId, EventError>
+    requires receives { Receives tree.old.nodes parent }
+    requires named { is_name name.now ≡ true }
+    requires all_named { list_all is_attr attrs.now ≡ true }
+    requires good { tag_fault scope.now name.now attrs.now ≡ None }
+    requires room { length (order tree.old.nodes) + tag_nodes attrs.now ≤ MAX_LIVE_NODES }
+    requires little { text_bytes tree.old.nodes + sum_by value_bytes attrs.now ≤ MAX_TEXT_BYTES }
+    requires scope_is { scope.now ≡ declarations attrs.now ++ scope_at tree.old.nodes parent }
+    requires scoped { InScope tree.old.nodes }
+    ensures begins { IfOk result (λ n. Begins tree.old.nodes tree.new.nodes parent n scope.now name.now attrs.now) }
+    ensures shallow { OnOk result (nat_lt MAX_DEPTH (length (above tree.old.nodes parent)) ≡ false) }
+    ensures deep { IfErr result (IsTooDeep tree.old.nodes parent) }
+{
+    tree.laws();
+    tree.scope_laws();
+    let element = append_element(tree, parent, scope, name)?;
+    append_decls(tree, element, attrs)?;
+    append_attributes(tree, element, scope, attrs)?;
+    Ok(element)
+}
+
+/// Puts an element under a node.
+fn append_element(
+    tree: &mut Tree,
+    parent: NodeId,
+    scope: &Scope,
+    name: &str,
+) -> Result<NodeId, EventError>
+    requires receives { Receives tree.old.nodes parent }
+    requires known { is_none (namespace_in scope.now (prefix_part name.now)) ≡ false }
+    requires room { has_too_many tree.old.nodes ≡ false }
+    ensures grew { IfOk result (λ n. Grew tree.old.nodes tree.new.nodes parent n (element (element_name scope.now name.now) [])) }
+    ensures shallow { OnOk result (nat_lt MAX_DEPTH (length (above tree.old.nodes parent)) ≡ false) }
+    ensures deep { IfErr result (IsTooDeep tree.old.nodes parent) }
+{
+    tree.laws();
+    let parts = split(name);
+    let uri = match scope.namespace(parts.prefix) {
+        Some(uri) => uri,
+        None => unreachable!(),
+    };
+    let id = tree.name_id(parts.prefix, parts.local, uri)?;
+    match tree.append_node(parent, NewNode::Element(id)) {
+        Ok(n) => Ok(n),
+        Err(AppendError::TooDeep) => Err(EventError::Kind(DocKind::TooDeep)),
+        Err(AppendError::Memory) => Err(EventError::Memory),
+        Err(AppendError::TooManyNodes) => unreachable!(),
+        Err(AppendError::TooMuchText) => unreachable!(),
+    }
+}
+
+/// Puts what attributes declare to an element that holds nothing yet.
+fn append_decls(tree: &mut Tree, element: NodeId, attrs: &[Attr]) -> Result<(), AllocError>
+    requires under { kind_of tree.old.nodes element ≡ Some Element }
+    requires no_decl { decls_of tree.old.nodes element ≡ [] }
+    requires no_kid { kids_of tree.old.nodes element ≡ [] }
+    requires no_attribute { attrs_of tree.old.nodes element ≡ [] }
+    requires once { declares_twice (declarations attrs.now) ≡ false }
+    ensures { OnOk result (DeclaresAll tree.old.nodes tree.new.nodes element (declarations attrs.now)) }
+{
+    for attr in attrs {
+        tree.laws();
+        if let Some(prefix) = declared_prefix(attr) {
+            tree.append_decl(element, prefix, attr.value.as_str())?;
+        }
+    }
+    Ok(())
+}
+
+/// Puts the attributes that declare nothing to an element that holds nothing yet.
+fn append_attributes(
+    tree: &mut Tree,
+    element: NodeId,
+    scope: &Scope,
+    attrs: &[Attr],
+) -> Result<(), AllocError>
+    requires receives { Receives tree.old.nodes element }
+    requires under { kind_of tree.old.nodes element ≡ Some Element }
+    requires no_kid { kids_of tree.old.nodes element ≡ [] }
+    requires no_attribute { attrs_of tree.old.nodes element ≡ [] }
+    requires all_named { list_all is_attr attrs.now ≡ true }
+    requires known { list_any (lacks_prefix scope.now) (plain_attrs attrs.now) ≡ false }
+    requires differ { has_pair (same_expanded scope.now) (plain_attrs attrs.now) ≡ false }
+    requires room { length (order tree.old.nodes) + length (plain_attrs attrs.now) ≤ MAX_LIVE_NODES }
+    requires little { text_bytes tree.old.nodes + sum_by value_bytes attrs.now ≤ MAX_TEXT_BYTES }
+    requires scope_is { scope_at tree.old.nodes element ≡ scope.now }
+    requires scoped { InScope tree.old.nodes }
+    ensures { OnOk result (AttributesAll tree.old.nodes tree.new.nodes element scope.now attrs.now) }
+{
+    for attr in attrs {
+        if is_plain(attr) {
+            tree.laws();
+            tree.scope_laws();
+            append_attribute(tree, element, scope, attr)?;
+        }
+    }
+    Ok(())
+}
+
+/// Puts an attribute to an element.
+fn append_attribute(
+    tree: &mut Tree,
+    element: NodeId,
+    scope: &Scope,
+    attr: &Attr,
+) -> Result<NodeId, AllocError>
+    requires receives { Receives tree.old.nodes element }
+    requires fits { AttributeFits tree.old.nodes element (attribute_name scope.now attr.now.name) }
+    requires known { lacks_prefix scope.now attr.now ≡ false }
+    requires room { has_too_many tree.old.nodes ≡ false }
+    requires little { text_bytes tree.old.nodes + length attr.now.value ≤ MAX_TEXT_BYTES }
+    ensures { IfOk result (λ n. Grew tree.old.nodes tree.new.nodes element n (attribute (attribute_name scope.now attr.now.name) attr.now.value)) }
+{
+    let parts = split(attr.name.as_str());
+    let uri = match attribute_namespace(scope, parts.prefix) {
+        Some(uri) => uri,
+        None => unreachable!(),
+    };
+    let id = tree.name_id(parts.prefix, parts.local, uri)?;
+    match tree.append_node(element, NewNode::Attribute(id, attr.value.as_str())) {
+        Ok(n) => Ok(n),
+        Err(AppendError::Memory) => Err(AllocError),
+        Err(AppendError::TooManyNodes) => unreachable!(),
+        Err(AppendError::TooDeep) => unreachable!(),
+        Err(AppendError::TooMuchText) => unreachable!(),
+    }
+}
+
+/// How many attributes declare nothing.
+fn count_plain(attrs: &[Attr]) -> usize
+    ensures { result ≡ length (plain_attrs attrs.now) }
+{
+    attrs.iter().filter(|attr| is_plain(*attr)).count()
+}

@@ -1,0 +1,217 @@
+//! The rules of names that a start tag can break (Namespaces in XML 1.0).
+
+ghost use Rattle.std.specs.Prelude.{◌≡◌, ◌==◌, false, ◌&&◌, is_none, IfOk};
+ghost use Rattle.std.specs.Option.{option_copied, option_to_list};
+ghost use Rattle.std.specs.List.{list_any};
+ghost use Rattle.std.specs.Str.{bytes_eq};
+ghost use Rattle.doc_tree.specs.Numbering.{Numbered};
+ghost use Rattle.doc_tree.specs.Scope.{namespace_in};
+ghost use Rattle.name_scopes.specs.QNames.{prefix_part};
+ghost use Rattle.name_scopes.specs.Scoping.{attribute_namespace};
+ghost use Rattle.name_scopes.specs.Declarations.{declarations, declaration_of, plain_attrs, is_bad_declaration, has_both_quotes, xmlns_namespace};
+ghost use Rattle.name_scopes.specs.DocFaults.{tag_fault, lacks_prefix, has_pair, same_qname, same_expanded, expanded_attr};
+
+use crate::declared::{declared_prefix, is_plain};
+use crate::fault::DocKind;
+use crate::qname::split;
+use crate::scope::Scope;
+use doc_tree::{NameId, NameTable, WordTable, is_xml, is_xmlns, xml_namespace};
+use pyx_core::Attr;
+use std::alloc::{AllocError, Global};
+
+/// Tests the names of a start tag, whose own declarations are in scope.
+///
+/// Costs time linear in the names, the values of declarations, and the namespaces of the attributes.
+pub(crate) fn check_tag(
+    alloc: Global,
+    scope: &Scope,
+    name: &str,
+    attrs: &[Attr],
+) -> Result<Option<DocKind>, AllocError>
+    ensures { IfOk result (λ found. found ≡ tag_fault scope.now name.now attrs.now) }
+{
+    if is_unknown(scope, name) || lack_prefix(scope, attrs) {
+        return Ok(Some(DocKind::NoPrefix));
+    }
+    if repeat_qname(alloc, attrs)? || repeat_expanded(alloc, scope, attrs)? {
+        return Ok(Some(DocKind::SameAttribute));
+    }
+    if declare_badly(attrs) {
+        return Ok(Some(DocKind::BadDeclaration));
+    }
+    if hold_both_quotes(attrs) {
+        return Ok(Some(DocKind::BothQuotes));
+    }
+    Ok(None)
+}
+
+/// Whether the prefix of an element isn't in scope.
+fn is_unknown(scope: &Scope, name: &str) -> bool
+    ensures { result ≡ is_none (namespace_in scope.now (prefix_part name.now)) }
+{
+    scope.namespace(split(name).prefix).is_none()
+}
+
+/// The namespace of an attribute's prefix; an attribute without a prefix has none.
+pub(crate) fn attribute_namespace<'a>(scope: &'a Scope, prefix: &str) -> Option<&'a str>
+    ensures { option_copied result ≡ attribute_namespace scope.now prefix.now }
+{
+    if prefix.is_empty() {
+        return Some("");
+    }
+    scope.namespace(prefix)
+}
+
+/// Whether the prefix of some attribute isn't in scope.
+fn lack_prefix(scope: &Scope, attrs: &[Attr]) -> bool
+    ensures { result ≡ list_any (lacks_prefix scope.now) (plain_attrs attrs.now) }
+{
+    for attr in attrs {
+        if is_plain(attr) && lacks_prefix(scope, attr) {
+            return true;
+        }
+    }
+    false
+}
+
+/// Whether the prefix of an attribute isn't in scope.
+fn lacks_prefix(scope: &Scope, attr: &Attr) -> bool
+    ensures { result ≡ lacks_prefix scope.now attr.now }
+{
+    attribute_namespace(scope, split(attr.name.as_str()).prefix).is_none()
+}
+
+/// Whether two attributes have one QName.
+///
+/// Costs time linear in their names.
+fn repeat_qname(alloc: Global, attrs: &[Attr]) -> Result<bool, AllocError>
+    ensures { IfOk result (λ repeats. repeats ≡ has_pair same_qname attrs.now) }
+{
+    let mut names = WordTable::new(alloc);
+    let mut count = 0usize;
+    for attr in attrs {
+        let number = names.number(alloc, attr.name.as_str())?;
+        names.laws();
+        if number != count {
+            return Ok(true);
+        }
+        count += 1;
+    }
+    Ok(false)
+}
+
+/// Whether two attributes, declarations left out, have one expanded name.
+///
+/// Costs time linear in their names and namespaces.
+fn repeat_expanded(alloc: Global, scope: &Scope, attrs: &[Attr]) -> Result<bool, AllocError>
+    requires { list_any (lacks_prefix scope.now) (plain_attrs attrs.now) ≡ false }
+    ensures { IfOk result (λ repeats. repeats ≡ has_pair (same_expanded scope.now) (plain_attrs attrs.now)) }
+{
+    let mut names = NameTable::new(alloc);
+    let mut count = 0usize;
+    for attr in attrs {
+        if is_plain(attr) {
+            let number = number_expanded(alloc, &mut names, scope, attr)?;
+            names.laws();
+            if number.index() != count {
+                return Ok(true);
+            }
+            count += 1;
+        }
+    }
+    Ok(false)
+}
+
+/// The number of an attribute's expanded name.
+fn number_expanded(
+    alloc: Global,
+    names: &mut NameTable,
+    scope: &Scope,
+    attr: &Attr,
+) -> Result<NameId, AllocError>
+    requires { lacks_prefix scope.now attr.now ≡ false }
+    ensures { IfOk result (λ id. Numbered names.old names.new (expanded_attr scope.now attr.now) id) }
+{
+    let parts = split(attr.name.as_str());
+    match attribute_namespace(scope, parts.prefix) {
+        Some(uri) => names.number(alloc, "", parts.local, uri),
+        None => unreachable!(),
+    }
+}
+
+/// Whether a declaration among the attributes may not be.
+fn declare_badly(attrs: &[Attr]) -> bool
+    ensures { result ≡ list_any is_bad_declaration (declarations attrs.now) }
+{
+    for attr in attrs {
+        if declares_badly(attr) {
+            return true;
+        }
+    }
+    false
+}
+
+/// Whether an attribute is a declaration that may not be (Namespaces in XML 1.0 sections 2.2 and 3).
+fn declares_badly(attr: &Attr) -> bool
+    ensures { result ≡ list_any is_bad_declaration (option_to_list (declaration_of attr.now)) }
+{
+    match declared_prefix(attr) {
+        Some(prefix) => is_bad(prefix, attr.value.as_str()),
+        None => false,
+    }
+}
+
+/// Whether a prefix may not be declared with a namespace.
+fn is_bad(prefix: &str, uri: &str) -> bool
+    ensures { result ≡ is_bad_declaration (prefix.now, uri.now) }
+{
+    (!prefix.is_empty() && uri.is_empty())
+        || is_xmlns(prefix)
+        || (is_xml(prefix) && uri != xml_namespace())
+        || (!is_xml(prefix) && uri == xml_namespace())
+        || is_xmlns_namespace(uri)
+}
+
+/// Whether a namespace is that of the prefix `xmlns`.
+#[tactic(auto, unfolding(crate::specs::Declarations::xmlns_namespace))]
+fn is_xmlns_namespace(uri: &str) -> bool
+    ensures { result ≡ bytes_eq uri.now xmlns_namespace }
+{
+    uri == "http://www.w3.org/2000/xmlns/"
+}
+
+/// Whether a namespace among the declarations has both kinds of quotes.
+fn hold_both_quotes(attrs: &[Attr]) -> bool
+    ensures { result ≡ list_any has_both_quotes (declarations attrs.now) }
+{
+    for attr in attrs {
+        if holds_both_quotes(attr) {
+            return true;
+        }
+    }
+    false
+}
+
+/// Whether an attribute declares a namespace with both kinds of quotes.
+fn holds_both_quotes(attr: &Attr) -> bool
+    ensures { result ≡ list_any has_both_quotes (option_to_list (declaration_of attr.now)) }
+{
+    match declared_prefix(attr) {
+        Some(_) => has_both_quotes(attr.value.as_str()),
+        None => false,
+    }
+}
+
+/// Whether a namespace has both kinds of quotes.
+fn has_both_quotes(uri: &str) -> bool
+    ensures { result ≡ (list_any (λ b. b == 39) uri.now && list_any (λ b. b == 34) uri.now) }
+{
+    holds_byte(uri.as_bytes(), b'\'') && holds_byte(uri.as_bytes(), b'"')
+}
+
+/// Whether a byte is among these.
+fn holds_byte(bytes: &[u8], byte: u8) -> bool
+    ensures { result ≡ list_any (λ b. b == byte) bytes.now }
+{
+    bytes.iter().any(|b| *b == byte)
+}
