@@ -2,7 +2,7 @@ pub mod NameLemmas
 pub mod Exits
 pub mod ListLemmas
 pub mod Failing
-pub mod Tests
+pub mod NodeTests
 pub mod Chains
 pub mod Paths
 pub mod Primaries

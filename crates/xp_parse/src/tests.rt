@@ -44,33 +44,13 @@ fn tree_and_faults(rt: HostRuntime) -> Result<(), Fail> {
             token: Token::CloseParen,
         },
     ];
-    let sum = parse_tokens(alloc, &tokens[..3], true, 5)?;
+    let all = &tokens[..];
+    let sum = parse_tokens(alloc, &all[..3], true, 5)?;
     assert!(rt; matches!(sum, Expr::Sum(_)));
-    expect_fault(
-        &rt,
-        alloc,
-        &tokens[..2],
-        true,
-        3,
-        (SyntaxKind::Unexpected, 3),
-    );
-    expect_fault(
-        &rt,
-        alloc,
-        &tokens[..2],
-        false,
-        4,
-        (SyntaxKind::BadToken, 4),
-    );
-    expect_fault(
-        &rt,
-        alloc,
-        &tokens[1..],
-        true,
-        6,
-        (SyntaxKind::Unexpected, 2),
-    );
-    expect_fault(&rt, alloc, &tokens, true, 6, (SyntaxKind::Unexpected, 5));
+    expect_fault(&rt, alloc, &all[..2], true, 3, (SyntaxKind::Unexpected, 3));
+    expect_fault(&rt, alloc, &all[..2], false, 4, (SyntaxKind::BadToken, 4));
+    expect_fault(&rt, alloc, &all[1..], true, 6, (SyntaxKind::Unexpected, 2));
+    expect_fault(&rt, alloc, all, true, 6, (SyntaxKind::Unexpected, 5));
     Ok(())
 }
 

@@ -2,7 +2,7 @@ use Rattle.std.proofs.Common.{sym, ap, ◌∙◌}
 use Rattle.xp_grammar.specs.declared.token.Token.TheVariants as token
 use Rattle.xp_parse.proofs.Exits.{exits}
 use Rattle.xp_parse.proofs.Failing.{stuck_at_end, stuck_at_first, first_same, took_of, none_in_target}
-use Rattle.xp_parse.proofs.Tests.{target_none, target_some, target_unclosed}
+use Rattle.xp_parse.proofs.NodeTests.{target_none, target_some, target_unclosed}
 use Rattle.xp_parse.proofs.parser.Parser.target.Goals as goal
 
 pub returns-in_default : goal.returns-in_default

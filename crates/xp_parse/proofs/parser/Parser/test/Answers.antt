@@ -1,7 +1,7 @@
 use Rattle.std.proofs.Common.{sym, ap, ◌∙◌}
 use Rattle.xp_grammar.specs.declared.token.Token.TheVariants as token
 use Rattle.xp_parse.proofs.Failing.{stuck_at_end, stuck_at_first, first_same, took_of}
-use Rattle.xp_parse.proofs.Tests.{star_read, prefix_read, name_read, node_read, no_test}
+use Rattle.xp_parse.proofs.NodeTests.{star_read, prefix_read, name_read, node_read, no_test}
 use Rattle.xp_parse.proofs.parser.Parser.test.Goals as goal
 
 pub returns-in_default : goal.returns-in_default

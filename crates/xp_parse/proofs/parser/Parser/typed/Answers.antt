@@ -1,7 +1,7 @@
 use Rattle.std.proofs.Common.{subst, sym}
 use Rattle.xp_parse.specs.Parsing.{TypeRead}
 use Rattle.xp_parse.proofs.Exits.{exits}
-use Rattle.xp_parse.proofs.Tests.{typed_of, typed_by_pi, typed_unopened, typed_unclosed}
+use Rattle.xp_parse.proofs.NodeTests.{typed_of, typed_by_pi, typed_unopened, typed_unclosed}
 use Rattle.xp_parse.proofs.parser.Parser.typed.Goals as goal
 
 pub returns-in_err-open_paren : goal.returns-in_err-open_paren
