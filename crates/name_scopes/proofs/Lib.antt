@@ -1,7 +1,4 @@
 pub mod NumberLemmas
-pub mod OpenLemmas
-pub mod AttributeLemmas
-pub mod LoadLemmas
 pub mod BindingLemmas
 pub mod TagLemmas
 pub mod OpenElements

@@ -1,5 +1,3 @@
-pub mod PlainTree
-pub mod Loading
 pub mod QNames
 pub mod Declarations
 pub mod Scoping

@@ -1,20 +1,11 @@
 //! The attributes that declare namespaces (Namespaces in XML 1.0 section 3).
 
 ghost use Rattle.std.specs.Prelude.{◌≡◌, None, Some, MatchOption};
-ghost use Rattle.std.specs.Str.{bytes_eq};
-ghost use Rattle.doc_tree.specs.Scope.{xmlns_prefix};
 ghost use Rattle.name_scopes.specs.Declarations.{declaration_of, is_plain};
 
 use crate::qname::split;
+use doc_tree::is_xmlns;
 use pyx_core::Attr;
-
-/// Whether a word is `xmlns`.
-#[tactic(auto, unfolding(doc_tree::specs::Scope::xmlns_prefix))]
-pub(crate) fn is_xmlns(word: &str) -> bool
-    ensures { result ≡ bytes_eq word.now xmlns_prefix }
-{
-    word == "xmlns"
-}
 
 /// The prefix that an attribute declares, empty for the default namespace; None for another attribute. Its value is
 /// the namespace.

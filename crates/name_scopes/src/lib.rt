@@ -5,16 +5,12 @@ mod build;
 mod declared;
 mod fault;
 mod load;
-mod plain;
 mod qname;
 mod scope;
 mod tag;
 
 pub use fault::{DocFault, DocKind, LoadError};
 pub use load::load_tree;
-pub use plain::plain_tree;
 
-#[cfg(test)]
-mod load_tests;
 #[cfg(test)]
 mod tests;

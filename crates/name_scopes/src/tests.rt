@@ -1,22 +1,19 @@
-//! Outside examples: documents and the nodes of their trees.
+//! Outside examples: documents with namespaces, their nodes, and their first faults.
 
-use super::plain_tree;
+use super::{DocFault, DocKind, LoadError, load_tree};
 use doc_tree::Tree;
-use pyx_core::{plain_events, plain_events_are_one_element};
+use pyx_core::PyxKind;
 use std::test::Fail;
 
-/// The nodes in document order, each with its parent's name, its own and its value.
+/// The nodes in document order: of each that has a name its namespace and its local part, and its value.
 fn shown(rt: &HostRuntime, tree: &Tree) -> Result<String, Fail> {
     let mut text = String::new(rt.alloc());
     let nodes = tree.nodes_in_order(rt.alloc())?;
     for node in nodes.as_slice() {
-        if let Some(parent) = tree.parent(*node) {
-            if let Some(name) = tree.name(parent) {
-                text.push_str(tree.local_of(name))?;
-            }
-            text.push('/')?;
-        }
         if let Some(name) = tree.name(*node) {
+            text.push('{')?;
+            text.push_str(tree.uri_of(name))?;
+            text.push('}')?;
             text.push_str(tree.local_of(name))?;
         }
         text.push('=')?;
@@ -26,24 +23,126 @@ fn shown(rt: &HostRuntime, tree: &Tree) -> Result<String, Fail> {
     Ok(text)
 }
 
+/// Loads a text of a test.
+fn loaded(rt: &HostRuntime, text: &str) -> Result<Result<Tree, LoadError>, Fail> {
+    if text.len() > 1000000 {
+        return Err("too long".into());
+    }
+    Ok(load_tree(rt.alloc(), text.as_bytes()))
+}
+
 #[test]
-fn trees_of_plain_documents(rt: HostRuntime) -> Result<(), Fail> {
+fn namespaced_invoice(rt: HostRuntime) -> Result<(), Fail> {
+    let text =
+        "(inv:invoice\nAid 7\nAxmlns:inv urn:example:inv\n-\\n\n(inv:line\n-10\n-0\n)inv:line\n-\\n\n)inv:invoice\n";
+    let tree = loaded(&rt, text)??;
+    assert_eq!(rt; tree.live_nodes(), 7);
+    let nodes = shown(&rt, &tree)?;
+    assert_eq!(rt;
+        nodes.as_str(),
+        "=|{urn:example:inv}invoice=|{}id=7|=\n|{urn:example:inv}line=|=100|=\n|"
+    );
+    Ok(())
+}
+
+#[test]
+fn namespaces_of_names(rt: HostRuntime) -> Result<(), Fail> {
     let cases = [
-        ("(a\n)a\n", "=|/a=|"),
+        // the default namespace is set, undone and no attribute's
         (
-            "(list\n(item\nAid 1\n)item\n(item\n)item\n)list\n",
-            "=|/list=|list/item=|item/id=1|list/item=|",
+            "(a\nAxmlns u\nAk 1\n(b\nAxmlns \n)b\n(c\n)c\n)a\n",
+            "=|{u}a=|{}k=1|{}b=|{u}c=|",
         ),
+        // a prefix is declared anew, and the outer declaration is back behind the element
         (
-            "(a\nAb 1\nAc \n-x y\n(d\n-z\n)d\n-w\n)a\n",
-            "=|/a=|a/b=1|a/c=|a/=x y|a/d=|d/=z|a/=w|",
+            "(p:a\nAxmlns:p u\n(p:b\nAp:k 1\nAxmlns:p v\n)p:b\n(p:c\n)p:c\n)p:a\n",
+            "=|{u}a=|{v}b=|{v}k=1|{u}c=|",
+        ),
+        // the prefix xml needs no declaration
+        (
+            "?t d\n(a\nAxml:lang en\n)a\nCc\n",
+            "=|{}t=d|{}a=|{http://www.w3.org/XML/1998/namespace}lang=en|=c|",
         ),
     ];
-    plain_events_are_one_element();
     for (text, nodes) in cases {
-        let events = plain_events(rt.alloc(), text.as_bytes())?.ok_or("not plain")?;
-        let tree = plain_tree(rt.alloc(), &events)?;
-        assert_eq!(rt; shown(&rt, &tree)?.as_str(), nodes);
+        let tree = loaded(&rt, text)??;
+        let found = shown(&rt, &tree)?;
+        assert_eq!(rt; found.as_str(), nodes);
+    }
+    Ok(())
+}
+
+#[test]
+fn document_faults(rt: HostRuntime) -> Result<(), Fail> {
+    let cases = [
+        ("(p:a\n)p:a\n", 1, DocKind::NoPrefix),
+        ("(a\nAp:k 1\n)a\n", 1, DocKind::NoPrefix),
+        ("(xmlns:a\n)xmlns:a\n", 1, DocKind::NoPrefix),
+        (
+            "(a\n(p:b\nAxmlns:p u\n)p:b\n(p:c\n)p:c\n)a\n",
+            5,
+            DocKind::NoPrefix,
+        ),
+        ("(a\nAx 1\nAx 2\n)a\n", 1, DocKind::SameAttribute),
+        (
+            "(a\nAxmlns:p u\nAxmlns:p u\n)a\n",
+            1,
+            DocKind::SameAttribute,
+        ),
+        (
+            "(a\n\n(b\nAxmlns:p u\nAxmlns:q u\nAp:k 1\nAq:k 2\n)b\n)a\n",
+            3,
+            DocKind::SameAttribute,
+        ),
+        ("(a\nAxmlns:p\n)a\n", 1, DocKind::BadDeclaration),
+        ("(p:a\nAxmlns:p\n)p:a\n", 1, DocKind::BadDeclaration),
+        ("(a\nAxmlns:xmlns u\n)a\n", 1, DocKind::BadDeclaration),
+        ("(a\nAxmlns:xml u\n)a\n", 1, DocKind::BadDeclaration),
+        (
+            "(a\nAxmlns http://www.w3.org/2000/xmlns/\n)a\n",
+            1,
+            DocKind::BadDeclaration,
+        ),
+        ("(a\nAxmlns:p it's\"\n)a\n", 1, DocKind::BothQuotes),
+        ("(p:a\n-x\n", 1, DocKind::NoPrefix),
+        ("(p:a\n-x", 2, DocKind::Pyx(PyxKind::Unfinished)),
+        ("(p:a\nAx 1\n&\n", 3, DocKind::Pyx(PyxKind::EntityLine)),
+        ("(a\n(b\n)a\n", 3, DocKind::Pyx(PyxKind::WrongEnd)),
+        ("", 1, DocKind::Pyx(PyxKind::NoRoot)),
+    ];
+    for (text, line, kind) in cases {
+        match loaded(&rt, text)? {
+            Err(error) => assert_eq!(rt; error, LoadError::Fault(DocFault { line, kind })),
+            Ok(_) => return Err("loaded".into()),
+        }
+    }
+    Ok(())
+}
+
+/// So many elements, each in the one before.
+fn nested(rt: &HostRuntime, count: usize) -> Result<String, Fail> {
+    let mut text = String::new(rt.alloc());
+    for _ in 0..count {
+        text.push_str("(a\n")?;
+    }
+    for _ in 0..count {
+        text.push_str(")a\n")?;
+    }
+    Ok(text)
+}
+
+#[test]
+fn depth_limit(rt: HostRuntime) -> Result<(), Fail> {
+    let shallow = nested(&rt, 256)?;
+    let tree = loaded(&rt, shallow.as_str())??;
+    assert_eq!(rt; tree.live_nodes(), 257);
+    let deep = nested(&rt, 257)?;
+    match loaded(&rt, deep.as_str())? {
+        Err(LoadError::Fault(fault)) => {
+            assert_eq!(rt; fault.line, 257);
+            assert_eq!(rt; fault.kind, DocKind::TooDeep);
+        }
+        _ => return Err("no fault".into()),
     }
     Ok(())
 }

@@ -1,5 +1,4 @@
 pub mod CutLemmas
-pub mod DraftLemmas
 pub mod EscapeLemmas
 pub mod EventCountLemmas
 pub mod FeedLemmas
@@ -7,18 +6,13 @@ pub mod JudgeLemmas
 pub mod LineLemmas
 pub mod LineTableLemmas
 pub mod NameBytes
-pub mod NestLemmas
 pub mod NestingLemmas
-pub mod PlainLemmas
-pub mod PlainRun
 pub mod ReaderLemmas
 pub mod ReadBack
 pub mod ReplayLemmas
-pub mod SeenLemmas
 pub mod StandingLemmas
 pub mod StayLemmas
 pub mod TellingLemmas
 pub mod TextLemmas
 pub mod WrittenLemmas
-pub mod FewLemmas
 pub mod Undoing

@@ -5,10 +5,7 @@ pub mod Feeding
 pub mod Lines
 pub mod LineTable
 pub mod Nesting
-pub mod PlainText
-pub mod PlainDraft
 pub mod Reading
 pub mod Standing
 pub mod Telling
-pub mod WellNested
 pub mod Written

@@ -4,22 +4,6 @@ ghost use Rattle.pyx_core.specs.Escapes.{EscapesAreUndone, EscapesHoldNoLineEnd}
 ghost use Rattle.pyx_core.specs.Nesting.{EventsNest};
 ghost use Rattle.pyx_core.specs.Reading.{FaultsStay, CompletedEventsStay, EventsAreFew};
 ghost use Rattle.pyx_core.specs.Written.{WrittenIsReadBack};
-ghost use Rattle.pyx_core.specs.WellNested.{PlainEventsAreOneElement, PlainEventsAreFew, PlainNamesAreLocal};
-
-/// The events of plain text are those of one element, with others nested well in it.
-pub fn plain_events_are_one_element()
-    ensures { PlainEventsAreOneElement }
-{}
-
-/// Plain text has no more events than bytes.
-pub fn plain_events_are_few()
-    ensures { PlainEventsAreFew }
-{}
-
-/// A name of plain text has a character and no colon.
-pub fn plain_names_are_local()
-    ensures { PlainNamesAreLocal }
-{}
 
 /// To undo the escapes of an escaped text gives the text.
 pub fn unescaped_undoes_escaped()

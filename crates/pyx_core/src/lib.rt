@@ -9,7 +9,6 @@ mod laws;
 mod line;
 mod lines;
 mod mode;
-mod plain;
 mod reader;
 mod reading;
 mod whole;
@@ -19,15 +18,11 @@ pub use event::{Attr, AttrList, Event, EventList, Located, LocatedList};
 pub use fault::{FeedError, PyxFault, PyxKind};
 pub use laws::{
     completed_events_stay, escaped_holds_no_line_end, events_are_few, events_nest, faults_stay,
-    plain_events_are_few, plain_events_are_one_element, plain_names_are_local,
     unescaped_undoes_escaped, written_is_read_back,
 };
 pub use mode::Mode;
-pub use plain::{is_plain_name, plain_events};
 pub use reader::Reader;
 pub use whole::{Front, read_events, read_front};
 
-#[cfg(test)]
-mod reader_tests;
 #[cfg(test)]
 mod tests;

@@ -13,19 +13,20 @@ use Rattle.sch_cli.specs.Judged.{Judges}
 use Rattle.sch_cli.specs.Outcomes.{outcome_of}
 use Rattle.sch_cli.proofs.OutcomeLemmas.{flat_map-same}
 use Rattle.sch_cli.specs.declared.stop.Stop.{Stop}
-use Rattle.sch_cli.specs.declared.stop.Stop.TheVariants.{Usage, NotYet, Missing, ReadFault, WriteFault, Memory}
+use Rattle.sch_cli.specs.declared.stop.Stop.TheVariants.{Usage, NotYet, DocumentRefused, Missing, ReadFault, WriteFault, Memory}
 use Rattle.sch_cli.specs.FirstSchema.{IsFirstSchema, IsOtherSchema}
-use Rattle.sch_cli.specs.FirstDocument.{IsOtherDocument}
+use Rattle.sch_cli.specs.Documents.{IsRefused}
 use Rattle.sch_cli.specs.Found.{finds}
-use Rattle.sch_cli.specs.Output.{Output, IsValidation, IsPlanOf, no_schema, other_schema, no_document, other_document, reported, validated, stopped, missing_line}
-use Rattle.sch_cli.specs.Stops.{Loads, Concludes, WroteFront, ReportsAs, AppendsFront, IsTreeIn}
+use Rattle.sch_cli.specs.Output.{Output, IsValidation, IsPlanOf, no_schema, other_schema, no_document, refused_document, reported, validated, stopped, missing_line}
+use Rattle.sch_cli.specs.Stops.{Loads, Concludes, WroteFront, ReportsAs, AppendsFront, IsTreeIn, NoOther, NoRefusal}
 use Rattle.sch_cli.specs.declared.status.Status.TheVariants as status
 
 -- a schema that was not loaded ends the run
-pub plan_stops : (files : Files) (schema document : List ℕ) (written : List ℕ → Type 0) (stop : Stop) → Loads {A = List Rule} IsFirstSchema IsOtherSchema files schema (Err stop) → written [] →
+pub plan_stops : (files : Files) (schema document : List ℕ) (written : List ℕ → Type 0) (stop : Stop) → Loads {A = List Rule} IsFirstSchema IsOtherSchema NoRefusal files schema (Err stop) → written [] →
     Concludes (IsValidation files schema document) written (Err stop)
 plan_stops files schema document written Usage loads out = absurd loads
 plan_stops files schema document written NotYet loads out = (other_schema loads.0 loads.1 loads.2, out)
+plan_stops files schema document written (DocumentRefused refusal) loads out = absurd loads.2
 plan_stops files schema document written (Missing name) loads out =
     (subst (λ (n : List ℕ). IsValidation files schema document (stopped status.Missing (missing_line n))) (sym loads.0) (no_schema loads.1), out)
 plan_stops files schema document written (ReadFault name) loads out = out
@@ -34,9 +35,10 @@ plan_stops files schema document written Memory loads out = record { done = []; 
 
 -- a document that was not loaded ends the run
 pub tree_stops : (files : Files) (schema document : List ℕ) (written : List ℕ → Type 0) (plan : List Rule) → IsPlanOf files schema plan → (stop : Stop) →
-    Loads {A = Contents} IsTreeIn IsOtherDocument files document (Err stop) → written [] → Concludes (IsValidation files schema document) written (Err stop)
+    Loads {A = Contents} IsTreeIn NoOther IsRefused files document (Err stop) → written [] → Concludes (IsValidation files schema document) written (Err stop)
 tree_stops files schema document written plan is_plan Usage loads out = absurd loads
-tree_stops files schema document written plan is_plan NotYet loads out = (other_document plan is_plan loads.0 loads.1 loads.2, out)
+tree_stops files schema document written plan is_plan NotYet loads out = absurd loads.2
+tree_stops files schema document written plan is_plan (DocumentRefused refusal) loads out = (refused_document plan is_plan loads.0 loads.1 refusal loads.2, out)
 tree_stops files schema document written plan is_plan (Missing name) loads out =
     (subst (λ (n : List ℕ). IsValidation files schema document (stopped status.Missing (missing_line n))) (sym loads.0) (no_document plan is_plan loads.1), out)
 tree_stops files schema document written plan is_plan (ReadFault name) loads out = out
@@ -44,7 +46,7 @@ tree_stops files schema document written plan is_plan WriteFault loads out = abs
 tree_stops files schema document written plan is_plan Memory loads out = record { done = []; out = out; is_front = inl refl }
 
 -- the plan of a held schema
-pub plan_held : (files : Files) (schema : List ℕ) (plan : List Rule) → Loads IsFirstSchema IsOtherSchema files schema (Ok plan) → IsPlanOf files schema plan
+pub plan_held : (files : Files) (schema : List ℕ) (plan : List Rule) → Loads IsFirstSchema IsOtherSchema NoRefusal files schema (Ok plan) → IsPlanOf files schema plan
 plan_held files schema plan loads = record { bytes = loads.0; held = loads.1; is_schema = loads.2 }
 
 -- what was appended to bytes that are told is their end
@@ -58,31 +60,32 @@ front_of may_be had now output is_output front = record { done = front.0; out = 
 
 -- the report ends the run
 pub report_ends : (files : Files) (schema document : List ℕ) (had : List ℕ) (now : Option (List ℕ)) (before later : ℕ) (plan : List Rule) (tree : Contents) → IsPlanOf files schema plan →
-    Loads IsTreeIn IsOtherDocument files document (Ok tree) → (result : Result Bool Stop) → ReportsAs (Some had) now before later (validated plan tree.nodes).out (finds plan tree.nodes) result →
+    Loads IsTreeIn NoOther IsRefused files document (Ok tree) → (result : Result Bool Stop) → ReportsAs (Some had) now before later (validated plan tree.nodes).out (finds plan tree.nodes) result →
     Concludes (IsValidation files schema document) (λ bytes. now ≡ Some (had ++ bytes)) result
 report_ends files schema document had now before later plan tree is_plan loads (Ok found) reports = (
   validated plan tree.nodes,
-  reported plan is_plan loads.0 loads.1 loads.2.events loads.2.is_document tree.nodes loads.2.is_tree,
+  reported plan is_plan loads.0 loads.1 tree.nodes loads.2,
   ap (λ (b : Bool). if b then status.Findings else status.Clean) (sym reports.0),
   refl,
   appended had now (validated plan tree.nodes).out reports.1,
 )
 report_ends files schema document had now before later plan tree is_plan loads (Err Usage) reports = absurd reports
 report_ends files schema document had now before later plan tree is_plan loads (Err NotYet) reports = absurd reports
+report_ends files schema document had now before later plan tree is_plan loads (Err (DocumentRefused refusal)) reports = absurd reports
 report_ends files schema document had now before later plan tree is_plan loads (Err (Missing name)) reports = absurd reports
 report_ends files schema document had now before later plan tree is_plan loads (Err (ReadFault name)) reports = absurd reports
 report_ends files schema document had now before later plan tree is_plan loads (Err WriteFault) reports =
-    front_of (IsValidation files schema document) had now (validated plan tree.nodes) (reported plan is_plan loads.0 loads.1 loads.2.events loads.2.is_document tree.nodes loads.2.is_tree) reports.1
+    front_of (IsValidation files schema document) had now (validated plan tree.nodes) (reported plan is_plan loads.0 loads.1 tree.nodes loads.2) reports.1
 report_ends files schema document had now before later plan tree is_plan loads (Err Memory) reports =
-    front_of (IsValidation files schema document) had now (validated plan tree.nodes) (reported plan is_plan loads.0 loads.1 loads.2.events loads.2.is_document tree.nodes loads.2.is_tree) reports
+    front_of (IsValidation files schema document) had now (validated plan tree.nodes) (reported plan is_plan loads.0 loads.1 tree.nodes loads.2) reports
 
 -- the same of a result that is that stop
-pub plan_stops_as : (files : Files) (schema document : List ℕ) (written : List ℕ → Type 0) (result : Result Bool Stop) (stop : Stop) → result ≡ Err stop → Loads {A = List Rule} IsFirstSchema IsOtherSchema files schema (Err stop) → written [] →
+pub plan_stops_as : (files : Files) (schema document : List ℕ) (written : List ℕ → Type 0) (result : Result Bool Stop) (stop : Stop) → result ≡ Err stop → Loads {A = List Rule} IsFirstSchema IsOtherSchema NoRefusal files schema (Err stop) → written [] →
     Concludes (IsValidation files schema document) written result
 plan_stops_as files schema document written result stop is loads out = subst (Concludes (IsValidation files schema document) written) (sym is) (plan_stops files schema document written stop loads out)
 
 pub tree_stops_as : (files : Files) (schema document : List ℕ) (written : List ℕ → Type 0) (plan : List Rule) → IsPlanOf files schema plan → (result : Result Bool Stop) (stop : Stop) → result ≡ Err stop →
-    Loads {A = Contents} IsTreeIn IsOtherDocument files document (Err stop) → written [] → Concludes (IsValidation files schema document) written result
+    Loads {A = Contents} IsTreeIn NoOther IsRefused files document (Err stop) → written [] → Concludes (IsValidation files schema document) written result
 tree_stops_as files schema document written plan is_plan result stop is loads out = subst (Concludes (IsValidation files schema document) written) (sym is) (tree_stops files schema document written plan is_plan stop loads out)
 
 -- what holds of the bytes so far holds with nothing added

@@ -5,7 +5,7 @@ use Rattle.std.specs.Str.{bytes_eq}
 use Rattle.pyx_core.specs.declared.event.Attr.{Attr}
 use Rattle.pyx_core.specs.declared.event.Event.{Event}
 use Rattle.pyx_core.specs.declared.event.Event.TheVariants.{Start, End, Chars, Pi, Comment}
-use Rattle.pyx_core.specs.PlainText.{is_plain_name}
+use Rattle.sch_base.specs.Names.{is_ncname}
 use Rattle.svrl_out.specs.declared.plan.Rule.{Rule}
 use Rattle.svrl_out.specs.declared.plan.Assert.{Assert}
 use Rattle.svrl_out.specs.Plan.{rule_without_asserts, with_assert}
@@ -125,7 +125,7 @@ seen_go_if : (rules : List Rule) (seen : List Event) (fits : Bool) (place : Plac
 seen_go_if rules seen fits place step formed stands is =
     let parts = go_if-is fits place step is in subst (SeenBehind rules seen) parts.1 (stands parts.0, formed)
 
-formed-last : (rules : List Rule) (context : List ℕ) → list_all is_of_form rules ≡ true → is_plain_name context ≡ true → list_all is_of_form (rules ++ rule_without_asserts context ∷ []) ≡ true
+formed-last : (rules : List Rule) (context : List ℕ) → list_all is_of_form rules ≡ true → is_ncname context ≡ true → list_all is_of_form (rules ++ rule_without_asserts context ∷ []) ≡ true
 formed-last [] context formed named = rw named refl
 formed-last (r ∷ rules) context formed named = let parts = both (is_of_form r) (list_all is_of_form rules) formed in rw (parts.0) (formed-last rules context parts.1 named)
 
@@ -137,7 +137,7 @@ formed-with_assert : (rules : List Rule) (a : Assert) → list_all is_of_form ru
 formed-with_assert [] a formed holds = refl
 formed-with_assert (r ∷ []) a formed holds =
     let parts = both (is_of_form r) true formed in
-    let inner = both (is_plain_name r.context) (list_all has_test r.asserts) parts.0 in
+    let inner = both (is_ncname r.context) (list_all has_test r.asserts) parts.0 in
     rw (inner.0, tests-last r.asserts a inner.1 holds) refl
 formed-with_assert (r ∷ next ∷ rules) a formed holds =
     let parts = both (is_of_form r) (list_all is_of_form (next ∷ rules)) formed in
@@ -169,7 +169,7 @@ seen-in_pattern rules seen event step stands formed is = by_context (opens_rule 
     by_context : (found : Option (List ℕ)) → opens_rule event ≡ found → from_pattern found (is_end (codes "pattern") event) ≡ Some step → SeenBehind rules (seen ++ event ∷ []) step
     by_context None none is = seen_go_if rules (seen ++ event ∷ []) (is_end (codes "pattern") event) after_pattern step formed ended is
     by_context (Some context) some is =
-        let parts = kept-is is_plain_name (only_attribute (codes "rule") (codes "context") event) context some in
+        let parts = kept-is is_ncname (only_attribute (codes "rule") (codes "context") event) context some in
         let begun = start-is (codes "rule") (codes "context") event context parts.0 in
         let e : record { place = in_rule; change = rule context } ≡ step = cc in
         let there : seen ++ event ∷ [] ≡ head ++ open_events (rules ++ rule_without_asserts context ∷ []) =

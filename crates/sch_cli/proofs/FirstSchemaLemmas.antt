@@ -3,7 +3,7 @@ use Rattle.std.proofs.Common.{◌≡◌, Bool, true, false, ◌&&◌, List, [], 
 use Rattle.std.specs.List.{flat_map, list_all}
 use Rattle.pyx_core.specs.declared.event.Event.{Event}
 use Rattle.pyx_core.specs.declared.event.Event.TheVariants.{End}
-use Rattle.pyx_core.specs.PlainText.{is_plain_name}
+use Rattle.sch_base.specs.Names.{is_ncname}
 use Rattle.svrl_out.specs.declared.plan.Rule.{Rule}
 use Rattle.svrl_out.specs.declared.plan.Assert.{Assert}
 use Rattle.svrl_out.specs.Plan.{rule_without_asserts, with_assert}
@@ -44,8 +44,8 @@ walk-asserts rules (assert ∷ asserts) rest tests =
 
 walk-rule : (rules : List Rule) (rule : Rule) (rest : List Event) → is_of_form rule ≡ true → walk in_pattern rules (rule_events rule ++ rest) ≡ walk in_pattern (rules ++ rule ∷ []) rest
 walk-rule rules rule rest formed =
-    let split = both (is_plain_name rule.context) (list_all has_test rule.asserts) formed in
-    let named : is_plain_name rule.context ≡ true = split.0 in
+    let split = both (is_ncname rule.context) (list_all has_test rule.asserts) formed in
+    let named : is_ncname rule.context ≡ true = split.0 in
     let inside = walk-asserts (rules ++ rule_without_asserts rule.context ∷ []) rule.asserts (End (codes "rule") ∷ rest) split.1 in
     let last = with_asserts-last rules (rule_without_asserts rule.context) rule.asserts in
     let joined = append_assoc (flat_map assert_events rule.asserts) (End (codes "rule") ∷ []) rest in

@@ -2,10 +2,14 @@
 use Rattle.std.proofs.Common.{◌≡◌, ℕ, ◌<◌, ◌≤◌, ◌^◌, true, List, [], ◌∷◌, length, Option, None, Some, MatchOption, IfSome, codes, refl, ap, sym, ◌∙◌, arith, length-append}
 use Rattle.std.specs.List.{flat_map, list_all}
 use Rattle.std.proofs.lemmas.Bool.{lt-ltb}
+use Rattle.std.proofs.lemmas.List.{length-map}
 use Rattle.pyx_core.specs.declared.event.Event.{Event}
 use Rattle.pyx_core.specs.declared.event.Event.TheVariants.{End}
-use Rattle.pyx_core.specs.PlainText.{plain_events_of}
-use Rattle.pyx_core.specs.WellNested.{PlainEventsAreFew}
+use Rattle.pyx_core.specs.declared.event.Located.{Located}
+use Rattle.pyx_core.specs.declared.fault.PyxFault.{PyxFault}
+use Rattle.pyx_core.specs.declared.mode.Mode.TheVariants.{Document}
+use Rattle.pyx_core.specs.Reading.{fault_of, events_of, EventsAreFew}
+use Rattle.pyx_core.specs.Nesting.{bare}
 use Rattle.svrl_out.specs.declared.plan.Rule.{Rule}
 use Rattle.svrl_out.specs.declared.plan.Assert.{Assert}
 use Rattle.sch_cli.specs.FirstSchema.{schema_events, rule_events, assert_events, longest_schema, IsFirstSchema, IsOtherSchema, AreCounted, has_few_asserts}
@@ -13,23 +17,22 @@ use Rattle.sch_cli.specs.SchemaWalk.{outside, walk}
 use Rattle.sch_cli.proofs.FirstSchemaLemmas.{walk-schema}
 use Rattle.sch_cli.proofs.FirstSchemaBack.{walk-back}
 
--- bytes that are too long, or whose events are not those of plain text
+-- bytes that are too long, or no text
 pub other_by_length : (bytes : List ℕ) → longest_schema < length bytes → IsOtherSchema bytes
 other_by_length bytes long rules is = omega (arith, is.short)
 
-pub other_by_events : (bytes : List ℕ) → plain_events_of bytes ≡ None → IsOtherSchema bytes
-other_by_events bytes none rules is = let e : None ≡ Some (schema_events rules) = sym none ∙ is.events in absurd (cc)
+pub other_by_fault : (bytes : List ℕ) (fault : PyxFault) → fault_of Document bytes ≡ Some fault → IsOtherSchema bytes
+other_by_fault bytes fault found rules is = let e : None ≡ Some fault = sym is.sound ∙ found in absurd (cc)
 
 -- what the walk finds
-pub schema_read : (bytes : List ℕ) (events : List Event) (found : Option (List Rule)) → plain_events_of bytes ≡ Some events → found ≡ walk outside [] events → length bytes ≤ longest_schema →
+pub schema_read : (bytes : List ℕ) (events : List Located) (found : Option (List Rule)) → fault_of Document bytes ≡ None → events ≡ events_of Document bytes → found ≡ walk outside [] (bare events) → length bytes ≤ longest_schema →
     MatchOption found (IsOtherSchema bytes) (IsFirstSchema bytes)
-schema_read bytes events None plain is short = λ rules schema.
-    let same : Some events ≡ Some (schema_events rules) = sym plain ∙ schema.events in
-    let events_is : events ≡ schema_events rules = cc in
-    let e : None ≡ Some rules = is ∙ ap (walk outside []) events_is ∙ walk-schema rules schema.formed in absurd (cc)
-schema_read bytes events (Some rules) plain is short =
-    let back = walk-back events outside [] [] rules tt (refl, refl) refl (sym is) in
-    record { short = short; events = plain ∙ ap Some back.0; formed = back.1 }
+schema_read bytes events None sound are is short = λ rules schema.
+    let events_are : bare events ≡ schema_events rules = ap bare are ∙ schema.events in
+    let e : None ≡ Some rules = is ∙ ap (walk outside []) events_are ∙ walk-schema rules schema.formed in absurd (cc)
+schema_read bytes events (Some rules) sound are is short =
+    let back = walk-back (bare events) outside [] [] rules tt (refl, refl) refl (sym is) in
+    record { short = short; sound = sound; events = ap bare (sym are) ∙ back.0; formed = back.1 }
 
 -- rules are no more than their events, and so are the asserts of each
 rules-few : (rules : List Rule) → length rules ≤ length (flat_map rule_events rules)
@@ -49,13 +52,14 @@ each_few (r ∷ rules) few =
     rw first (each_few rules (omega (arith, length-append (rule_events r) (flat_map rule_events rules))))
 
 -- a schema's rules and asserts are numbered by 32 bits
-pub schema_counted : PlainEventsAreFew → (bytes : List ℕ) (rules : List Rule) → IsFirstSchema bytes rules → AreCounted rules
+pub schema_counted : EventsAreFew → (bytes : List ℕ) (rules : List Rule) → IsFirstSchema bytes rules → AreCounted rules
 schema_counted law bytes rules is =
-    let few : length (schema_events rules) ≤ length bytes = law bytes (schema_events rules) is.events in
+    let count : length (schema_events rules) ≡ length (events_of Document bytes) = ap length (sym is.events) ∙ length-map (events_of Document bytes) (λ found. found.event) in
+    let few : length (schema_events rules) ≤ length bytes = omega (arith, count, law Document bytes) in
     let body : length (flat_map rule_events rules) < 2 ^ 32 = omega (arith, few, is.short, length-append (flat_map rule_events rules) (End (codes "pattern") ∷ End (codes "schema") ∷ [])) in
     record { rules_few = omega (arith, rules-few rules, body); asserts_few = each_few rules body }
 
 -- the same where the rules are found
-pub counted_if_read : PlainEventsAreFew → (bytes : List ℕ) (found : Option (List Rule)) → MatchOption found (IsOtherSchema bytes) (IsFirstSchema bytes) → IfSome found AreCounted
+pub counted_if_read : EventsAreFew → (bytes : List ℕ) (found : Option (List Rule)) → MatchOption found (IsOtherSchema bytes) (IsFirstSchema bytes) → IfSome found AreCounted
 counted_if_read law bytes None read = tt
 counted_if_read law bytes (Some rules) read = schema_counted law bytes rules read

@@ -5,10 +5,11 @@ use Rattle.std.specs.Prelude.{codes, ◌&&◌}
 use Rattle.sch_io.specs.Files.{Files}
 use Rattle.sch_cli.specs.declared.command.Command.{Command as Borrowed}
 use Rattle.sch_cli.specs.declared.stop.Stop.{Stop}
-use Rattle.sch_cli.specs.declared.stop.Stop.TheVariants.{Usage, NotYet, Missing, ReadFault, WriteFault, Memory}
+use Rattle.sch_cli.specs.declared.stop.Stop.TheVariants.{Usage, NotYet, DocumentRefused, Missing, ReadFault, WriteFault, Memory}
 use Rattle.sch_cli.specs.Commands.{Command, expand, validate, command_of, shown, is_file_name, is_validate_of_phase}
 use Rattle.sch_cli.specs.Output.{IsValidation, IsOutput, IsOutputOf}
-use Rattle.sch_cli.specs.Runs.{Ends, IsLineOf}
+use Rattle.sch_io.specs.Wrote.{Wrote}
+use Rattle.sch_cli.specs.Runs.{Ends, IsLineOf, Tells}
 use Rattle.sch_cli.specs.Stops.{StopsAtEither, NamesWord, Concludes, status_of_end, line_of_end, stopped_by}
 
 -- the words ask for the validation that the program's own command names
@@ -51,6 +52,7 @@ pub names_either : (words : List (List ℕ)) (one other : List ℕ) → Contains
 names_either words one other has (Ok found) at = tt
 names_either words one other has (Err Usage) at = absurd at
 names_either words one other has (Err NotYet) at = tt
+names_either words one other has (Err (DocumentRefused refusal)) at = tt
 names_either words one other has (Err (Missing name)) (inl is) = subst (Contains words) (sym is) has.0
 names_either words one other has (Err (Missing name)) (inr is) = subst (Contains words) (sym is) has.1
 names_either words one other has (Err (ReadFault name)) (inl is) = subst (Contains words) (sym is) has.0
@@ -64,6 +66,7 @@ line_named words (Ok true) named = refl
 line_named words (Ok false) named = refl
 line_named words (Err Usage) named = refl
 line_named words (Err NotYet) named = refl
+line_named words (Err (DocumentRefused refusal)) named = (refusal, refl)
 line_named words (Err (Missing name)) named = (name.now, named, refl)
 line_named words (Err (ReadFault name)) named = (name.now, named, refl)
 line_named words (Err WriteFault) named = refl
@@ -76,7 +79,13 @@ ends_as words files written told (Ok true) ends tells = record { output = ends.0
 ends_as words files written told (Ok false) ends tells = record { output = ends.0; is_output = ends.1; ends = ends.2; out = ends.4; err = subst told (sym ends.3) tells }
 ends_as words files written told (Err Usage) ends tells = record { output = stopped_by Usage; is_output = ends.0; ends = refl; out = ends.1; err = tells }
 ends_as words files written told (Err NotYet) ends tells = record { output = stopped_by NotYet; is_output = ends.0; ends = refl; out = ends.1; err = tells }
+ends_as words files written told (Err (DocumentRefused refusal)) ends tells = record { output = stopped_by (DocumentRefused refusal); is_output = ends.0; ends = refl; out = ends.1; err = tells }
 ends_as words files written told (Err (Missing name)) ends tells = record { output = stopped_by (Missing name); is_output = ends.0; ends = refl; out = ends.1; err = tells }
 ends_as words files written told (Err (ReadFault name)) ends tells = ends
 ends_as words files written told (Err WriteFault) ends tells = record { done = ends.done; out = ends.out; is_front = ends.is_front }
 ends_as words files written told (Err Memory) ends tells = record { done = ends.done; out = ends.out; is_front = ends.is_front }
+
+-- a text that was written is told, unless a fault rose
+pub told : {T E : Type 0} {old new : Option (List ℕ)} {before now : ℕ} {text : List ℕ} (result : Result T E) → Wrote old new before now text result → Tells old new before now text
+told (Ok done) wrote = λ quiet. wrote.grown
+told (Err failed) wrote = λ quiet. absurd (quiet wrote.failed)

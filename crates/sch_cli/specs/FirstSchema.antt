@@ -1,10 +1,13 @@
 -- The schemas that the program reads so far: one pattern without attributes, rules with a context alone, asserts with
 -- a test alone and one text (ISO/IEC 19757-3, clause 5).
-use Rattle.std.specs.Prelude.{◌≡◌, ℕ, ◌≤◌, ◌<◌, ◌^◌, nat_lt, Bool, true, false, ◌&&◌, ◌||◌, ◌==◌, List, [], ◌∷◌, ◌++◌, length, Some, codes}
+use Rattle.std.specs.Prelude.{◌≡◌, ℕ, ◌≤◌, ◌<◌, ◌^◌, nat_lt, Bool, true, false, ◌&&◌, ◌==◌, if◌then◌else◌, List, [], ◌∷◌, ◌++◌, length, None, codes}
 use Rattle.std.specs.List.{flat_map, list_all}
 use Rattle.pyx_core.specs.declared.event.Event.{Event}
 use Rattle.pyx_core.specs.declared.event.Event.TheVariants.{Start, End, Chars}
-use Rattle.pyx_core.specs.PlainText.{is_plain_name, plain_events_of}
+use Rattle.pyx_core.specs.declared.mode.Mode.TheVariants.{Document}
+use Rattle.pyx_core.specs.Reading.{fault_of, events_of}
+use Rattle.pyx_core.specs.Nesting.{bare}
+use Rattle.sch_base.specs.Names.{is_ncname}
 use Rattle.svrl_out.specs.declared.plan.Rule.{Rule}
 use Rattle.svrl_out.specs.declared.plan.Assert.{Assert}
 
@@ -34,14 +37,14 @@ schema_events rules = start_with (codes "schema") (codes "xmlns") schematron ∷
 -- a test is the name of a child, or `@` (64) and the name of an attribute
 abbrev pub is_test : List ℕ → Bool
 is_test [] = false
-is_test (b ∷ bytes) = (b == 64 && is_plain_name bytes) || is_plain_name (b ∷ bytes)
+is_test (b ∷ bytes) = if b == 64 then is_ncname bytes else is_ncname (b ∷ bytes)
 
 abbrev pub has_test : Assert → Bool
 has_test assert = is_test assert.test
 
 -- a rule's context is a name
 abbrev pub is_of_form : Rule → Bool
-is_of_form rule = is_plain_name rule.context && list_all has_test rule.asserts
+is_of_form rule = is_ncname rule.context && list_all has_test rule.asserts
 
 -- how long a schema may be, in bytes
 abbrev pub longest_schema : ℕ
@@ -50,7 +53,8 @@ longest_schema = 65536
 -- the bytes are such a schema, and these are its rules
 pub record IsFirstSchema (bytes : List ℕ) (rules : List Rule) : Type 0 where
   pub short : length bytes ≤ longest_schema
-  pub events : plain_events_of bytes ≡ Some (schema_events rules)
+  pub sound : fault_of Document bytes ≡ None
+  pub events : bare (events_of Document bytes) ≡ schema_events rules
   pub formed : list_all is_of_form rules ≡ true
 
 abbrev pub has_few_asserts : Rule → Bool

@@ -3,16 +3,16 @@ use Rattle.std.specs.Prelude.{◌≡◌, ℕ, List, [], ◌++◌, codes, Option,
 use Rattle.std.specs.FinMap.{get}
 use Rattle.sch_io.specs.Files.{Files}
 use Rattle.pyx_write.specs.Escapes.{escaped}
-use Rattle.pyx_core.specs.declared.event.Event.{Event}
 use Rattle.doc_tree.specs.Table.{Table}
-use Rattle.name_scopes.specs.PlainTree.{IsTreeOf}
 use Rattle.svrl_out.specs.declared.plan.Rule.{Rule}
 use Rattle.svrl_out.specs.Report.{report}
 use Rattle.sch_cli.specs.declared.status.Status.{Status}
-use Rattle.sch_cli.specs.declared.status.Status.TheVariants.{Clean, Findings, Usage, Missing, NotYet}
+use Rattle.sch_cli.specs.declared.status.Status.TheVariants.{Clean, Findings, Usage, DocumentRefused, Missing, NotYet}
 use Rattle.sch_cli.specs.Commands.{Command, expand, validate, command_of}
 use Rattle.sch_cli.specs.FirstSchema.{IsFirstSchema, IsOtherSchema}
-use Rattle.sch_cli.specs.FirstDocument.{IsFirstDocument, IsOtherDocument}
+use Rattle.sch_cli.specs.declared.refusal.Refusal.{Refusal}
+use Rattle.sch_cli.specs.Refusals.{document_refused_line}
+use Rattle.sch_cli.specs.Documents.{IsDocument, IsRefused}
 use Rattle.sch_cli.specs.Found.{finds}
 use Rattle.sch_cli.specs.Outcomes.{outcome_of}
 
@@ -59,19 +59,19 @@ pub record IsPlanOf (files : Files) (schema : List ℕ) (plan : List Rule) : Typ
   pub held : get files schema ≡ Some bytes
   pub is_schema : IsFirstSchema bytes plan
 
--- the output of `validate`: the schema comes before the document, and each may be missing or of another form
+-- the output of `validate`: the schema comes before the document, and each may be missing; the schema
+-- may be of another form, and the document refused
 pub data IsValidation (files : Files) (schema document : List ℕ) : Output → Type 0 where
   no_schema : get files schema ≡ None → IsValidation files schema document (stopped Missing (missing_line schema))
   other_schema : (bytes : List ℕ) → get files schema ≡ Some bytes → IsOtherSchema bytes →
       IsValidation files schema document (stopped NotYet not_yet_line)
   no_document : (plan : List Rule) → IsPlanOf files schema plan → get files document ≡ None →
       IsValidation files schema document (stopped Missing (missing_line document))
-  other_document : (plan : List Rule) → IsPlanOf files schema plan →
-      (bytes : List ℕ) → get files document ≡ Some bytes → IsOtherDocument bytes →
-      IsValidation files schema document (stopped NotYet not_yet_line)
+  refused_document : (plan : List Rule) → IsPlanOf files schema plan →
+      (bytes : List ℕ) → get files document ≡ Some bytes → (refusal : Refusal) → IsRefused bytes refusal →
+      IsValidation files schema document (stopped DocumentRefused (document_refused_line refusal))
   reported : (plan : List Rule) → IsPlanOf files schema plan →
-      (bytes : List ℕ) → get files document ≡ Some bytes →
-      (events : List Event) → IsFirstDocument bytes events → (T : Table) → IsTreeOf events T →
+      (bytes : List ℕ) → get files document ≡ Some bytes → (T : Table) → IsDocument bytes T →
       IsValidation files schema document (validated plan T)
 
 -- the output of a command; words that are not accepted are none

@@ -5,6 +5,8 @@ use Rattle.sch_io.specs.Files.{Files}
 use Rattle.sch_io.specs.Wrote.{Appends}
 use Rattle.sch_cli.specs.declared.status.Status.{Status}
 use Rattle.sch_cli.specs.declared.status.Status.TheVariants.{Clean, Findings, Usage, SchemaRefused, DocumentRefused, ScriptRefused, Faulted, Missing, ReadFault, WriteFault, Memory, NotYet}
+use Rattle.sch_cli.specs.declared.refusal.Refusal.{Refusal}
+use Rattle.sch_cli.specs.Refusals.{document_refused_line}
 use Rattle.sch_cli.specs.Commands.{Command, expand, validate}
 use Rattle.sch_cli.specs.Output.{Output, IsOutput, usage_line, not_yet_line, missing_line, read_fault_line, write_fault_line, memory_line}
 
@@ -47,7 +49,7 @@ IsLineOf words Clean line = line ≡ []
 IsLineOf words Findings line = line ≡ []
 IsLineOf words Usage line = line ≡ usage_line
 IsLineOf words SchemaRefused line = ⊥
-IsLineOf words DocumentRefused line = ⊥
+IsLineOf words DocumentRefused line = (refusal : Refusal) × (line ≡ document_refused_line refusal)
 IsLineOf words ScriptRefused line = ⊥
 IsLineOf words Faulted line = ⊥
 IsLineOf words Missing line = (name : List ℕ) × Contains words name × (line ≡ missing_line name)

@@ -3,7 +3,7 @@ use Rattle.std.specs.Prelude.{ℕ, ◌<◌, length, Bool, true, false, ◌&&◌,
 use Rattle.std.specs.Str.{bytes_eq}
 use Rattle.pyx_core.specs.declared.event.Event.{Event}
 use Rattle.pyx_core.specs.declared.event.Event.TheVariants.{Start, End, Chars, Pi, Comment}
-use Rattle.pyx_core.specs.PlainText.{is_plain_name}
+use Rattle.sch_base.specs.Names.{is_ncname}
 use Rattle.svrl_out.specs.Plan.{rule_without_asserts, with_assert}
 use Rattle.svrl_out.specs.declared.plan.Rule.{Rule}
 use Rattle.sch_cli.specs.declared.schema.Place.{Place as BorrowedPlace}
@@ -103,7 +103,7 @@ abbrev pub opens_schema : Event → Option (List ℕ)
 opens_schema event = option_and_then (kept is_schematron) (only_attribute (codes "schema") (codes "xmlns") event)
 
 abbrev pub opens_rule : Event → Option (List ℕ)
-opens_rule event = option_and_then (kept is_plain_name) (only_attribute (codes "rule") (codes "context") event)
+opens_rule event = option_and_then (kept is_ncname) (only_attribute (codes "rule") (codes "context") event)
 
 abbrev pub opens_assert : Event → Option (List ℕ)
 opens_assert event = option_and_then (kept is_test) (only_attribute (codes "assert") (codes "test") event)

@@ -5,6 +5,7 @@ mod command;
 mod judged;
 mod outcomes;
 mod program;
+mod refusal;
 mod schema;
 mod status;
 mod stop;

@@ -1,6 +1,6 @@
 //! The program's one call.
 
-ghost use Rattle.std.specs.Prelude.{◌≡◌, ℕ, List, ◌++◌, true, Some, None, ◌↔◌};
+ghost use Rattle.std.specs.Prelude.{◌≡◌, ℕ, List, ◌++◌, true, Option, Some, None, ◌↔◌};
 ghost use Rattle.sch_io.specs.Counts.{Rose};
 ghost use Rattle.sch_io.specs.Files.{Files};
 ghost use Rattle.sch_cli.specs.declared.status.Status.TheVariants as statuses;
@@ -77,14 +77,27 @@ fn carry_out<'w, S: Shelf, O: Sink>(
 /// Tells the line of a run that was stopped, and says how the run ended.
 fn conclude<E: Sink>(ended: Result<bool, Stop<'_>>, err: &mut E) -> Status
     ensures status { result ≡ status_of_end ended.entry }
-    ensures line { Tells (E.written err.old) (E.written err.new) (E.faults err.old) (E.faults err.new) (line_of_end ended.entry) }
+    ensures whole { (words : List (List ℕ)) (files : Files) (had : List ℕ) (out : Option (List ℕ)) →
+        Concludes (IsOutput words files) (λ bytes. out ≡ Some (had ++ bytes)) ended.entry →
+        Ends words files (λ bytes. out ≡ Some (had ++ bytes))
+        (Tells (E.written err.old) (E.written err.new) (E.faults err.old) (E.faults err.new)) result }
+    ensures line { (words : List (List ℕ)) → NamesWord words ended.entry → (line : List ℕ) × IsLineOf words result line
+        × Tells (E.written err.old) (E.written err.new) (E.faults err.old) (E.faults err.new) line }
+{
+    let status = status_of(&ended);
+    if let Err(stop) = ended {
+        let _ = stop.tell(err);
+    }
+    status
+}
+
+/// The status of a run that ended so.
+fn status_of(ended: &Result<bool, Stop<'_>>) -> Status
+    ensures { result ≡ status_of_end ended.now }
 {
     match ended {
         Ok(true) => Status::Findings,
         Ok(false) => Status::Clean,
-        Err(stop) => {
-            let _ = stop.tell(err);
-            stop.status()
-        }
+        Err(stop) => stop.status(),
     }
 }

@@ -1,10 +1,12 @@
 //! Reading a schema of the first form: one pattern, rules with a context, asserts with a test and a text.
 
 ghost use Rattle.std.specs.Prelude.{◌≡◌, ℕ, ◌<◌, List, [], ◌∷◌, Some, None, IfOk, IfSome, OnOk, OnErr, MatchOption, option_map, is_some, length};
+ghost use Rattle.pyx_core.specs.Nesting.{bare};
 ghost use Rattle.sch_cli.specs.FirstSchema.{is_test, IsFirstSchema, IsOtherSchema, AreCounted};
 ghost use Rattle.sch_cli.specs.SchemaWalk.{shown_place, shown_step, only_attribute, is_bare_start, is_end, chars_of, opens_schema, opens_rule, opens_assert, go_if, follow, in_pattern, in_rule, in_assert, changed, shown_change, walk, outside, HasRoom};
 
-use pyx_core::{Event, is_plain_name, plain_events, plain_events_are_few};
+use pyx_core::{Event, FeedError, Located, Mode, events_are_few, read_events};
+use sch_base::is_ncname;
 use std::alloc::{AllocError, Global};
 use svrl_out::Plan;
 
@@ -92,8 +94,8 @@ fn is_test(test: &str) -> bool
     ensures { result ≡ is_test test.now }
 {
     match test.strip_prefix('@') {
-        Some(name) => is_plain_name(name),
-        None => is_plain_name(test),
+        Some(name) => is_ncname(name),
+        None => is_ncname(test),
     }
 }
 
@@ -112,7 +114,7 @@ fn opens_rule(event: &Event) -> Option<&str>
     ensures { option_map (λ v. v.now) result ≡ opens_rule event.now }
 {
     match only_attribute(event, "rule", "context") {
-        Some(context) if is_plain_name(context) => Some(context),
+        Some(context) if is_ncname(context) => Some(context),
         _ => None,
     }
 }
@@ -209,13 +211,13 @@ fn apply(plan: &mut Plan, change: Change<'_>) -> Result<(), AllocError>
 }
 
 /// The plan of the schema, where the events are those of a schema of the form.
-fn read_rules(alloc: Global, events: &[Event]) -> Result<Option<Plan>, AllocError>
-    ensures { IfOk result (λ plan. plan ≡ walk outside [] events.now) }
+fn read_rules(alloc: Global, events: &[Located]) -> Result<Option<Plan>, AllocError>
+    ensures { IfOk result (λ plan. plan ≡ walk outside [] (bare events.now)) }
 {
     let mut plan = Plan::new(alloc);
     let mut place = Place::Outside;
-    for event in events {
-        let Some(step) = follow(place, event) else {
+    for located in events {
+        let Some(step) = follow(place, &located.event) else {
             return Ok(None);
         };
         apply(&mut plan, step.change)?;
@@ -235,10 +237,12 @@ pub fn read_schema(alloc: Global, bytes: &[u8]) -> Result<Option<Plan>, AllocErr
     if bytes.len() > LONGEST_SCHEMA {
         return Ok(None);
     }
-    let Some(events) = plain_events(alloc, bytes)? else {
-        return Ok(None);
+    let events = match read_events(alloc, Mode::Document, bytes) {
+        Ok(events) => events,
+        Err(FeedError::Fault(_)) => return Ok(None),
+        Err(FeedError::Memory) => return Err(AllocError),
     };
-    plain_events_are_few();
+    events_are_few();
     let rules = read_rules(alloc, events.as_slice())?;
     Ok(rules)
 }

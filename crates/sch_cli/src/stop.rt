@@ -6,6 +6,7 @@ ghost use Rattle.sch_io.specs.Wrote.{Wrote};
 ghost use Rattle.sch_cli.specs.declared.stop.Stop.TheVariants as stops;
 ghost use Rattle.sch_cli.specs.Stops.{line_of, status_of};
 
+use crate::refusal::Refusal;
 use crate::status::Status;
 use pyx_write::write_escaped;
 use sch_base::Text;
@@ -19,6 +20,8 @@ pub(crate) enum Stop<'w> {
     Usage,
     /// The words or a file are past what the program does so far.
     NotYet,
+    /// The document is refused.
+    DocumentRefused(Refusal),
     /// There is no file of that name.
     Missing { name: &'w Text },
     /// The file of that name was not read whole.
@@ -45,6 +48,7 @@ impl Stop<'_> {
         match self {
             Stop::Usage => Status::Usage,
             Stop::NotYet => Status::NotYet,
+            Stop::DocumentRefused(_) => Status::DocumentRefused,
             Stop::Missing { .. } => Status::Missing,
             Stop::ReadFault { .. } => Status::ReadFault,
             Stop::WriteFault => Status::WriteFault,
@@ -59,6 +63,7 @@ impl Stop<'_> {
         match self {
             Stop::Usage => write_all(err, b"sch: usage\n"),
             Stop::NotYet => write_all(err, b"sch: not yet\n"),
+            Stop::DocumentRefused(refusal) => refusal.tell(err),
             Stop::Missing { name } => write_named(err, b"sch: missing: ", name),
             Stop::ReadFault { name } => write_named(err, b"sch: read fault: ", name),
             Stop::WriteFault => write_all(err, b"sch: write fault\n"),

@@ -3,6 +3,7 @@
 use crate::{Status, Words, run};
 use sch_io::{MemoryShelf, MemorySink};
 use std::alloc::{AllocError, Global};
+use std::process::Abort;
 use std::test::Fail;
 
 /// How many bytes a sink of a test holds.
@@ -191,7 +192,7 @@ fn first_form_refused(rt: HostRuntime) -> Result<(), Fail> {
     assert_eq!(rt; ended.status.code(), 11);
     assert_eq!(rt; ended.out.written(), b"".as_slice());
     assert_eq!(rt; ended.err.written(), b"sch: not yet\n".as_slice());
-    let ended = validate(rt.alloc(), SCHEMA, b"(list\n-a\\nb\n)list\n")?;
+    let ended = validate(rt.alloc(), DOCUMENT, DOCUMENT)?;
     assert_eq!(rt; ended.status.code(), 11);
     assert_eq!(rt; ended.out.written(), b"".as_slice());
     Ok(())
@@ -213,5 +214,96 @@ fn failing_outside(rt: HostRuntime) -> Result<(), Fail> {
     let ended = run_over(rt.alloc(), &words, MemoryShelf::new(rt.alloc()), ROOM)?;
     assert_eq!(rt; ended.status.code(), 7);
     assert_eq!(rt; ended.err.written(), b"sch: missing: s.pyx\n".as_slice());
+    Ok(())
+}
+
+/// That the document is refused with that line, and that nothing else is written.
+fn refused(rt: &impl Abort, alloc: Global, document: &[u8], line: &str) -> Result<(), AllocError> {
+    let ended = validate(alloc, SCHEMA, document)?;
+    assert_eq!(rt; ended.status.code(), 4, "{line}");
+    assert_eq!(rt; ended.out.written(), b"".as_slice(), "{line}");
+    assert_eq!(rt; ended.err.written(), line.as_bytes());
+    Ok(())
+}
+
+#[test]
+fn wrong_end_and_no_root(rt: HostRuntime) -> Result<(), Fail> {
+    refused(
+        &rt,
+        rt.alloc(),
+        b"(a\n(b\n)a\n",
+        "sch: document refused: line 3 WrongEnd\n",
+    )?;
+    refused(
+        &rt,
+        rt.alloc(),
+        b"",
+        "sch: document refused: line 1 NoRoot\n",
+    )?;
+    Ok(())
+}
+
+#[test]
+fn document_faults(rt: HostRuntime) -> Result<(), Fail> {
+    let cases: [(&[u8], &str); 13] = [
+        (b"(a\n-\xff\n", "sch: document refused: line 2 NotUtf8\n"),
+        (b"(a\n-\x01\n", "sch: document refused: line 2 BadChar\n"),
+        (b"(a\nXq\n", "sch: document refused: line 2 UnknownLine\n"),
+        (b"(a\n&lt\n", "sch: document refused: line 2 EntityLine\n"),
+        (b"(1a\n", "sch: document refused: line 1 BadName\n"),
+        (
+            b"(a\n-t\nAb c\n",
+            "sch: document refused: line 3 AttributePlace\n",
+        ),
+        (b"-x\n", "sch: document refused: line 1 TextOutside\n"),
+        (
+            b"(a\n)a\n(b\n",
+            "sch: document refused: line 3 SecondRoot\n",
+        ),
+        (b"(a\n", "sch: document refused: line 2 Unfinished\n"),
+        (b"(p:a\n)p:a\n", "sch: document refused: line 1 NoPrefix\n"),
+        (
+            b"(a\nAx 1\nAx 2\n)a\n",
+            "sch: document refused: line 1 SameAttribute\n",
+        ),
+        (
+            b"(a\nAxmlns:p\n)a\n",
+            "sch: document refused: line 1 BadDeclaration\n",
+        ),
+        (
+            b"(a\nAxmlns:p it's\"\n)a\n",
+            "sch: document refused: line 1 BothQuotes\n",
+        ),
+    ];
+    for (document, line) in cases {
+        refused(&rt, rt.alloc(), document, line)?;
+    }
+    Ok(())
+}
+
+/// A document of elements nested that deep.
+fn nested(alloc: Global, depth: usize) -> Result<Vec<u8>, AllocError> {
+    let mut text = Vec::new(alloc);
+    for _ in 0..depth {
+        text.extend_from_slice(b"(a\n")?;
+    }
+    for _ in 0..depth {
+        text.extend_from_slice(b")a\n")?;
+    }
+    Ok(text)
+}
+
+#[test]
+fn depth_limit(rt: HostRuntime) -> Result<(), Fail> {
+    let deepest = nested(rt.alloc(), 256)?;
+    let ended = validate(rt.alloc(), SCHEMA, deepest.as_slice())?;
+    assert_eq!(rt; ended.status, Status::Clean);
+    let deeper = nested(rt.alloc(), 257)?;
+    refused(
+        &rt,
+        rt.alloc(),
+        deeper.as_slice(),
+        "sch: document refused: line 257 TooDeep\n",
+    )?;
     Ok(())
 }

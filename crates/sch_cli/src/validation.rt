@@ -1,48 +1,44 @@
 //! A validation: the schema and the document read, the rules tried at each node, the report written.
 
-ghost use Rattle.std.specs.Prelude.{◌≡◌, ◌≤◌, ◌++◌, ℕ, List, true, Some, None, IfOk, IfSome, MatchOption};
-ghost use Rattle.std.specs.List.{list_all};
-ghost use Rattle.name_scopes.specs.PlainTree.{declares_nothing, is_no_declaration};
+ghost use Rattle.std.specs.Prelude.{◌≡◌, ◌≤◌, ◌++◌, ℕ, List, true, Some, None, IfOk, IfSome, length};
 ghost use Rattle.sch_io.specs.Counts.{Rose};
 ghost use Rattle.sch_io.specs.Files.{Files};
 ghost use Rattle.sch_cli.specs.FirstSchema.{IsFirstSchema, IsOtherSchema, AreCounted};
-ghost use Rattle.sch_cli.specs.FirstDocument.{IsOtherDocument};
+ghost use Rattle.sch_cli.specs.Documents.{IsRefused, longest_file};
 ghost use Rattle.sch_cli.specs.Found.{finds};
 ghost use Rattle.sch_cli.specs.Output.{IsValidation, validated};
-ghost use Rattle.sch_cli.specs.Stops.{Loads, StopsAt, StopsAtEither, Blames, IsWhole, IsTooLong, IsTreeIn, Concludes, ReportsAs, is_write_fault, is_read_fault};
+ghost use Rattle.sch_cli.specs.Stops.{Loads, StopsAt, StopsAtEither, Blames, IsRead, NoOther, NoRefusal, IsTreeIn, Concludes, ReportsAs, is_write_fault, is_read_fault};
 
 use crate::judged::judge;
+use crate::refusal::Refusal;
 use crate::schema::read_schema;
 use crate::stop::Stop;
 use doc_tree::Tree;
-use name_scopes::plain_tree;
-use pyx_core::{Attr, Event, plain_events, plain_events_are_one_element};
+use name_scopes::{LoadError, load_tree};
 use sch_base::Text;
 use sch_io::{Bytes, ReadError, Shelf, Sink, read_all};
-use std::alloc::{AllocError, Global};
+use std::alloc::Global;
 use svrl_out::{OutError, Plan, write_report};
 
-/// How many bytes a document may have so far.
-const LONGEST_DOCUMENT: usize = 262_144;
-
-/// The bytes of the named file.
+/// The bytes of the named file, None where it has more than a file may have.
 pub(crate) fn read_file<'w, S: Shelf>(
     alloc: Global,
     name: &'w Text,
     shelf: &mut S,
-) -> Result<Bytes, Stop<'w>>
-    ensures told { (files : Files) → S.files shelf.old ≡ Some files → Loads IsWhole IsTooLong files name.now result }
+) -> Result<Option<Bytes>, Stop<'w>>
+    ensures told { (files : Files) → S.files shelf.old ≡ Some files → Loads IsRead NoOther NoRefusal files name.now result }
     ensures stops { StopsAt name.now result }
     ensures held { S.files shelf.new ≡ S.files shelf.old }
     ensures blames { Blames (S.misses shelf.old) (S.misses shelf.new) (S.faults shelf.old) (S.faults shelf.new) result }
     ensures faults_later { S.faults shelf.old ≤ S.faults shelf.new }
     ensures misses_later { S.misses shelf.old ≤ S.misses shelf.new }
+    ensures short { IfOk result (λ found. IfSome found (λ bytes. length bytes ≤ longest_file)) }
 {
     match read_all(alloc, shelf, name.as_str()) {
-        Ok(bytes) => Ok(bytes),
+        Ok(bytes) => Ok(Some(bytes)),
+        Err(ReadError::TooLarge) => Ok(None),
         Err(ReadError::Missing) => Err(Stop::Missing { name }),
         Err(ReadError::Failed) => Err(Stop::ReadFault { name }),
-        Err(ReadError::TooLarge) => Err(Stop::NotYet),
         Err(ReadError::Memory) => Err(Stop::Memory),
     }
 }
@@ -53,7 +49,7 @@ pub(crate) fn load_plan<'w, S: Shelf>(
     name: &'w Text,
     shelf: &mut S,
 ) -> Result<Plan, Stop<'w>>
-    ensures told { (files : Files) → S.files shelf.old ≡ Some files → Loads IsFirstSchema IsOtherSchema files name.now result }
+    ensures told { (files : Files) → S.files shelf.old ≡ Some files → Loads IsFirstSchema IsOtherSchema NoRefusal files name.now result }
     ensures counted { IfOk result (λ plan. AreCounted plan) }
     ensures stops { StopsAt name.now result }
     ensures held { S.files shelf.new ≡ S.files shelf.old }
@@ -61,7 +57,9 @@ pub(crate) fn load_plan<'w, S: Shelf>(
     ensures faults_later { S.faults shelf.old ≤ S.faults shelf.new }
     ensures misses_later { S.misses shelf.old ≤ S.misses shelf.new }
 {
-    let bytes = read_file(alloc, name, shelf)?;
+    let Some(bytes) = read_file(alloc, name, shelf)? else {
+        return Err(Stop::NotYet);
+    };
     match read_schema(alloc, bytes.as_slice())? {
         Some(plan) => Ok(plan),
         None => Err(Stop::NotYet),
@@ -74,64 +72,21 @@ pub(crate) fn load_document<'w, S: Shelf>(
     name: &'w Text,
     shelf: &mut S,
 ) -> Result<Tree, Stop<'w>>
-    ensures told { (files : Files) → S.files shelf.old ≡ Some files → Loads IsTreeIn IsOtherDocument files name.now result }
+    ensures told { (files : Files) → S.files shelf.old ≡ Some files → Loads IsTreeIn NoOther IsRefused files name.now result }
     ensures stops { StopsAt name.now result }
     ensures held { S.files shelf.new ≡ S.files shelf.old }
     ensures blames { Blames (S.misses shelf.old) (S.misses shelf.new) (S.faults shelf.old) (S.faults shelf.new) result }
     ensures faults_later { S.faults shelf.old ≤ S.faults shelf.new }
     ensures misses_later { S.misses shelf.old ≤ S.misses shelf.new }
 {
-    let bytes = read_file(alloc, name, shelf)?;
-    match read_document(alloc, bytes.as_slice())? {
-        Some(tree) => Ok(tree),
-        None => Err(Stop::NotYet),
-    }
-}
-
-/// The tree of the document that the bytes hold, and None exactly where they are no document of the first form.
-fn read_document(alloc: Global, bytes: &[u8]) -> Result<Option<Tree>, AllocError>
-    ensures { IfOk result (λ tree. MatchOption tree (IsOtherDocument bytes.now) (IsTreeIn bytes.now)) }
-{
-    if bytes.len() > LONGEST_DOCUMENT {
-        return Ok(None);
-    }
-    let Some(events) = plain_events(alloc, bytes)? else {
-        return Ok(None);
+    let Some(bytes) = read_file(alloc, name, shelf)? else {
+        return Err(Stop::DocumentRefused(Refusal::TooLarge));
     };
-    if !declare_nothing(events.as_slice()) {
-        return Ok(None);
+    match load_tree(alloc, bytes.as_slice()) {
+        Ok(tree) => Ok(tree),
+        Err(LoadError::Fault(fault)) => Err(Stop::DocumentRefused(Refusal::Faulted(fault))),
+        Err(LoadError::Memory) => Err(Stop::Memory),
     }
-    plain_events_are_one_element();
-    let tree = plain_tree(alloc, &events)?;
-    Ok(Some(tree))
-}
-
-/// Whether no attribute of the events is named `xmlns`.
-fn declare_nothing(events: &[Event]) -> bool
-    ensures { result ≡ list_all declares_nothing events.now }
-{
-    events.iter().all(declares_nothing)
-}
-
-fn declares_nothing(event: &Event) -> bool
-    ensures { result ≡ declares_nothing event.now }
-{
-    match event {
-        Event::Start { attrs, .. } => hold_no_declaration(attrs.as_slice()),
-        _ => true,
-    }
-}
-
-fn hold_no_declaration(attrs: &[Attr]) -> bool
-    ensures { result ≡ list_all is_no_declaration attrs.now }
-{
-    attrs.iter().all(is_no_declaration)
-}
-
-fn is_no_declaration(attr: &Attr) -> bool
-    ensures { result ≡ is_no_declaration attr.now }
-{
-    attr.name.as_str() != "xmlns"
 }
 
 /// Validates the named document by the named schema; answers whether the report has a finding.

@@ -6,4 +6,4 @@ use Rattle.sch_cli.proofs.schema.is_test.Goals as goal
 
 pub returns-in-None : goal.returns-in-None
 unfolding encode
-returns-in-None c = c.is_plain_name-in-None.ensures ∙ is_test-no_at c.args.test.now c.in-None.ensures.cases
+returns-in-None c = c.is_ncname-in-None.ensures ∙ is_test-no_at c.args.test.now c.in-None.ensures.cases
