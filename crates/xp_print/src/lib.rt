@@ -5,3 +5,6 @@ mod print;
 mod terms;
 
 pub use print::print_expr;
+
+#[cfg(test)]
+mod tests;
