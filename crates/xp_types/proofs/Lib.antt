@@ -3,4 +3,5 @@ mod Giving
 mod Looping
 mod TypingViews
 mod Sound
+mod Cases
 mod PatternLooping

@@ -20,22 +20,22 @@ use Rattle.xp_types.specs.Checked.{Checked, after}
 use Rattle.xp_types.specs.Typing.{typing, wanted, node_set_at, all_typed, operands_typed, comparands_typed, combinands_typed, steps_typed, place_typed, called, function_called, variable_typed, number_of_trees, axis_of, resolved, arith_of, decimal, has_point, pattern_axis, pattern_start, pattern_steps_typed, pattern_typing}
 
 -- a chain of checks gave a value: its parts did
-record Went {A B : Type 0} (m : Checked A) (f : A → Checked B) (b : B) : Type 0 where
-  value : A
-  had : m ≡ Ok value
-  next : f value ≡ Ok b
+pub record Went {A B : Type 0} (m : Checked A) (f : A → Checked B) (b : B) : Type 0 where
+  pub value : A
+  pub had : m ≡ Ok value
+  pub next : f value ≡ Ok b
 
-went : {A B : Type 0} (m : Checked A) (f : A → Checked B) (b : B) → after m f ≡ Ok b → Went m f b
+pub went : {A B : Type 0} (m : Checked A) (f : A → Checked B) (b : B) → after m f ≡ Ok b → Went m f b
 unfolding after
 went (Ok a) f b h = record { value = a; had = refl; next = h }
 went (Err e) f b h = absurd (cc)
 
-same : {A : Type 0} (a b : A) → ◌≡◌ {A = Checked A} (Ok a) (Ok b) → a ≡ b
+pub same : {A : Type 0} (a b : A) → ◌≡◌ {A = Checked A} (Ok a) (Ok b) → a ≡ b
 same a b h = cc
 
-record Wanted (nodes : Bool) (u t : TypedTree) : Type 0 where
-  is : u ≡ t
-  kind : IsWanted nodes t
+pub record Wanted (nodes : Bool) (u t : TypedTree) : Type 0 where
+  pub is : u ≡ t
+  pub kind : IsWanted nodes t
 
 node_set-sound : (k : ValueType) (offset : ℕ) (u t : TypedTree) → type_of u ≡ k → node_set_at k offset u ≡ Ok t → Wanted true u t
 node_set-sound types.NodeSet offset u t k h = let e = same u t h in record { is = e; kind = ap type_of (sym e) ∙ k }
@@ -43,7 +43,7 @@ node_set-sound types.Truth offset u t k h = absurd (cc)
 node_set-sound types.Number offset u t k h = absurd (cc)
 node_set-sound types.Chars offset u t k h = absurd (cc)
 
-wanted-sound : (nodes : Bool) (offset : ℕ) (u t : TypedTree) → wanted nodes offset u ≡ Ok t → Wanted nodes u t
+pub wanted-sound : (nodes : Bool) (offset : ℕ) (u t : TypedTree) → wanted nodes offset u ≡ Ok t → Wanted nodes u t
 wanted-sound true offset u t h = node_set-sound (type_of u) offset u t refl h
 wanted-sound false offset u t h = record { is = same u t h; kind = tt }
 

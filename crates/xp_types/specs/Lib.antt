@@ -3,3 +3,4 @@ pub mod FunctionNames
 pub mod Checked
 pub mod Typing
 pub mod ChainParts
+pub mod HasType

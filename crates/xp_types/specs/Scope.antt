@@ -1,4 +1,4 @@
--- What is in scope where an expression stands: XPath 1.0, section 1, and ISO/IEC 19757-3, section 6.
+-- What is in scope where an expression stands: XPath 1.0, section 1.
 use Rattle.std.specs.Prelude.{ℕ, Bool, List, [], ◌∷◌, Option, None, Some, if◌then◌else◌, codes, String}
 use Rattle.std.specs.String.{string_bytes}
 use Rattle.std.specs.Str.{bytes_eq}

@@ -5,6 +5,7 @@
 mod checks;
 mod env;
 mod faults;
+mod laws;
 mod names;
 mod patterns;
 mod terms;
@@ -13,3 +14,4 @@ mod typing;
 pub use checks::{check, check_pattern};
 pub use env::Env;
 pub use faults::{CheckError, TypeFault, TypeKind};
+pub use laws::typing_gives_types;
