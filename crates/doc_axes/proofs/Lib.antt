@@ -1,5 +1,0 @@
-pub mod SubLists
-pub mod Segments
-pub mod AxisLemmas
-pub mod SiblingLemmas
-pub mod StepLemmas

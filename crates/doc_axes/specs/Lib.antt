@@ -1,5 +1,0 @@
-pub mod Axes
-pub mod NodeTests
-pub mod Sets
-pub mod Siblings
-pub mod Plain

@@ -1,6 +1,0 @@
-pub mod NumeralLemmas
-pub mod TextLemmas
-pub mod CompareLemmas
-pub mod PositionLemmas
-pub mod SpaceLemmas
-pub mod ReplaceLemmas
