@@ -1,0 +1,5 @@
+pub mod TokenKinds
+pub mod NodeTests
+pub mod Begins
+pub mod Alike
+pub mod Unique
