@@ -1,0 +1,10 @@
+pub mod Runs
+pub mod Names
+pub mod Forms
+pub mod LongNames
+pub mod Symbols
+pub mod LongNumbers
+pub mod Literals
+pub mod Firsts
+pub mod Same
+pub mod Tokens

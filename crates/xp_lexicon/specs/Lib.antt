@@ -1,1 +1,2 @@
 pub mod Lexicon
+pub mod Scanning

@@ -2,5 +2,13 @@
 #![tactic(auto)]
 
 mod lexeme;
+mod lexer;
+mod name;
+mod number;
+mod run;
+mod symbol;
+mod token;
+mod words;
 
 pub use lexeme::Lexeme;
+pub use lexer::{Lexed, tokenize};

@@ -1,0 +1,55 @@
+//! Names that mean something of their own.
+
+ghost use Rattle.std.specs.Prelude.{◌≡◌};
+ghost use Rattle.xp_lexicon.specs.Lexicon.{named, operator_names, node_types, axis_names};
+
+use xp_grammar::{NodeType, Token};
+use xp_tree::{AxisName, Operator};
+
+/// The operator of a name behind an operand (XPath 1.0, section 3.7).
+pub(crate) fn operator_named<'a>(name: &str) -> Option<Token<'a>>
+    ensures { result ≡ named operator_names name.now }
+{
+    match name {
+        "and" => Some(Token::Operator(Operator::And)),
+        "or" => Some(Token::Operator(Operator::Or)),
+        "mod" => Some(Token::Operator(Operator::Mod)),
+        "div" => Some(Token::Operator(Operator::Div)),
+        _ => None,
+    }
+}
+
+/// The node type of a name (XPath 1.0, section 2.3).
+pub(crate) fn node_type_named(name: &str) -> Option<NodeType>
+    ensures { result ≡ named node_types name.now }
+{
+    match name {
+        "comment" => Some(NodeType::Comment),
+        "text" => Some(NodeType::Chars),
+        "processing-instruction" => Some(NodeType::Pi),
+        "node" => Some(NodeType::Node),
+        _ => None,
+    }
+}
+
+/// The axis of a name (XPath 1.0, section 2.2).
+pub(crate) fn axis_named(name: &str) -> Option<AxisName>
+    ensures { result ≡ named axis_names name.now }
+{
+    match name {
+        "ancestor" => Some(AxisName::Ancestor),
+        "ancestor-or-self" => Some(AxisName::AncestorOrSelf),
+        "attribute" => Some(AxisName::Attribute),
+        "child" => Some(AxisName::Child),
+        "descendant" => Some(AxisName::Descendant),
+        "descendant-or-self" => Some(AxisName::DescendantOrSelf),
+        "following" => Some(AxisName::Following),
+        "following-sibling" => Some(AxisName::FollowingSibling),
+        "namespace" => Some(AxisName::Namespace),
+        "parent" => Some(AxisName::Parent),
+        "preceding" => Some(AxisName::Preceding),
+        "preceding-sibling" => Some(AxisName::PrecedingSibling),
+        "self" => Some(AxisName::SelfNode),
+        _ => None,
+    }
+}
