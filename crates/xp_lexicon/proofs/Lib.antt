@@ -8,3 +8,4 @@ pub mod Literals
 pub mod Firsts
 pub mod Same
 pub mod Tokens
+pub mod Readings

@@ -1,2 +1,3 @@
 pub mod Lexicon
+pub mod Laws
 pub mod Scanning

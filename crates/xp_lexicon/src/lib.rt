@@ -1,6 +1,7 @@
 //! The tokens of XPath 1.0 expressions, read from their texts.
 #![tactic(auto)]
 
+mod laws;
 mod lexeme;
 mod lexer;
 mod name;
@@ -10,5 +11,6 @@ mod symbol;
 mod token;
 mod words;
 
+pub use laws::{texts_read_once, whole_texts_end};
 pub use lexeme::Lexeme;
 pub use lexer::{Lexed, tokenize};
