@@ -1,0 +1,19 @@
+//! Expressions of XPath 1.0: their texts, their trees and their first faults.
+#![tactic(auto)]
+
+mod parse;
+
+pub use parse::parse_expr;
+pub use xp_grammar::{SyntaxFault, SyntaxKind};
+pub use xp_parse::ParseError;
+pub use xp_print::print_expr;
+pub use xp_tree::{
+    AxisName, Chain, Expr, Join, Level, Operand, Operator, PathPattern, Pattern, PatternStart,
+    PatternStep, Start, Step, StepTest,
+};
+pub use xp_typed::{Function, Typed, TypedPattern, ValueType};
+
+#[cfg(test)]
+mod examples;
+#[cfg(test)]
+mod faults;
