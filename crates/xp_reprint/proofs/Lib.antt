@@ -1,0 +1,16 @@
+pub mod Fits
+pub mod Fitting
+pub mod Spelled
+pub mod Reading
+pub mod Rereads
+pub mod Again
+pub mod Fronts
+pub mod NameBytes
+pub mod Leads
+pub mod Longest
+pub mod Lexed
+pub mod Words
+pub mod Texts
+pub mod Behind
+pub mod Prints
+pub mod Whole

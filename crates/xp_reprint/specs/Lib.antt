@@ -1,0 +1,4 @@
+pub mod Offsets
+pub mod PrintedTokens
+pub mod Reprinted
+pub mod Spelling

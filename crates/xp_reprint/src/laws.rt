@@ -1,0 +1,43 @@
+//! Laws of the definitions, for the proofs of callers.
+
+ghost use Rattle.xp_reprint.specs.Reprinted.{PrintedTokensDeriveTheSame};
+ghost use Rattle.xp_reprint.specs.Spelling.{OneSpelling, PrintedSpellsNothingElse, PrintedSpellsTheSame, PrintedTextHasThePrintedTokens};
+
+use xp_lexicon::{texts_read_once, whole_texts_end};
+use xp_one_tree::one_tree;
+
+/// The tokens of a printed expression derive, within the same limit, the same expression but for offsets.
+pub fn printed_tokens_derive_the_same()
+    ensures { PrintedTokensDeriveTheSame }
+{}
+
+/// The text of a printed expression that some text spells is read as the tokens of the printed expression.
+pub fn printed_text_has_the_printed_tokens()
+    ensures { PrintedTextHasThePrintedTokens }
+{
+    whole_texts_end();
+}
+
+/// The text of a printed expression that some text spells, spells within the same limit the same expression but for
+/// offsets.
+pub fn printed_spells_the_same_tree()
+    ensures { PrintedSpellsTheSame }
+{
+    whole_texts_end();
+}
+
+/// A text spells at most one expression, at whatever limits of nesting.
+pub fn one_spelling()
+    ensures { OneSpelling }
+{
+    texts_read_once();
+    one_tree();
+}
+
+/// The text of a printed expression that some text spells, spells nothing else than that expression, but for offsets.
+pub fn printed_spells_nothing_else()
+    ensures { PrintedSpellsNothingElse }
+{
+    printed_spells_the_same_tree();
+    one_spelling();
+}
