@@ -1,0 +1,7 @@
+//! Writing a tree as PYX text.
+#![tactic(auto)]
+
+mod names;
+mod tree;
+
+pub use tree::write_tree;
