@@ -13,3 +13,13 @@ pub mod LeafLemmas
 pub mod LoadStart
 pub mod TextBound
 pub mod WholeLemmas
+pub mod Items
+pub mod ItemText
+pub mod ItemNames
+pub mod ItemLines
+pub mod ItemNest
+pub mod ItemFaults
+pub mod ItemScopes
+pub mod ItemTables
+pub mod ItemScoped
+pub mod RoundTripLemmas

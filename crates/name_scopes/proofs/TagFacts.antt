@@ -1,22 +1,22 @@
 -- What holds of a start tag whose names break no rule.
-use Rattle.std.proofs.Common.{◌≡◌, ◌≢◌, ℕ, ◌+◌, suc, zero, Bool, true, false, cond, not, ◌&&◌, ◌||◌, List, [], ◌∷◌, ◌++◌, ◌⊎◌, length, Option, None, Some, is_some, refl, sym, ap, ap₂, ◌∙◌, subst, ⊎_elim, true≢false, arith}
+use Rattle.std.proofs.Common.{◌≡◌, ◌≢◌, ℕ, ◌+◌, Bool, true, false, not, ◌&&◌, ◌||◌, List, [], ◌∷◌, ◌++◌, length, Option, None, Some, is_some, refl, sym, ap, ap₂, ◌∙◌, true≢false, arith}
 use Rattle.std.specs.Prelude.{if◌then◌else◌, is_none, unwrap_or}
-use Rattle.std.specs.List.{list_any, list_all, flat_map, before_first, after_first}
+use Rattle.std.specs.List.{list_any, list_all, before_first, after_first}
 use Rattle.std.specs.Option.{option_to_list}
 use Rattle.std.specs.Str.{bytes_eq}
 use Rattle.std.proofs.lemmas.Slice.Eq.{bytes_eq-Decides}
 use Rattle.std.proofs.lemmas.Grind.{common_steps}
 use Rattle.std.proofs.lemmas.Str.{chars-nil}
-use Rattle.sch_base.specs.Names.{is_colon, is_ncname, is_ncname_of, split_qname, split_at_colon}
+use Rattle.sch_base.specs.Names.{is_colon, is_ncname, is_ncname_of, split_at_colon}
 use Rattle.pyx_core.specs.declared.event.Attr.{Attr}
 use Rattle.pyx_core.specs.LineTable.{is_qname}
 use Rattle.pyx_core.specs.Nesting.{is_attr, is_name, of_chars}
 use Rattle.doc_tree.specs.Scope.{Decl, first_declared, namespace_in, xmlns_prefix}
-use Rattle.name_scopes.specs.declared.fault.DocKind.{DocKind}
+use Rattle.tree_write.specs.TreeText.{declaring_name}
 use Rattle.name_scopes.specs.declared.fault.DocKind.TheVariants.{NoPrefix, SameAttribute, BadDeclaration, BothQuotes}
 use Rattle.name_scopes.specs.QNames.{prefix_part, local_part}
 use Rattle.name_scopes.specs.Declarations.{is_empty, declaration_of, declarations, is_plain, plain_attrs, is_bad_declaration, has_both_quotes}
-use Rattle.name_scopes.specs.Scoping.{attribute_namespace, is_part, is_qualified, declares_twice, is_good_declaration, ElementInScope, AttributeInScope}
+use Rattle.name_scopes.specs.Scoping.{attribute_namespace, is_part, declares_twice, is_good_declaration, ElementInScope, AttributeInScope}
 use Rattle.name_scopes.specs.DocFaults.{tag_fault, lacks_prefix, has_pair, same_qname, same_expanded}
 use Rattle.name_scopes.specs.Building.{element_name, attribute_name}
 use Rattle.name_scopes.proofs.TextLemmas.{front_ascii, behind_front}
@@ -31,7 +31,7 @@ pub record TagIsGood (scope : List Decl) (name : List ℕ) (attrs : List Attr) :
   pub may_be : list_any is_bad_declaration (declarations attrs) ≡ false
   pub quoted : list_any has_both_quotes (declarations attrs) ≡ false
 
-both-false : (a b : Bool) → (a || b) ≡ false → (a ≡ false) × (b ≡ false)
+pub both-false : (a b : Bool) → (a || b) ≡ false → (a ≡ false) × (b ≡ false)
 both-false true b h = absurd (true≢false h)
 both-false false b h = (refl, h)
 
@@ -121,22 +121,17 @@ parted q name = by (list_any is_colon q) refl (both-true (of_chars q) (is_qname 
 
 -- declarations and their prefixes
 
--- the QName that declares a prefix
-abbrev pub declares_name : List ℕ → List ℕ
-declares_name [] = xmlns_prefix
-declares_name (b ∷ prefix) = xmlns_prefix ++ 58 ∷ b ∷ prefix
-
 some-xmlns : xmlns_prefix ≢ []
 unfolding xmlns_prefix
 some-xmlns e = absurd (cc)
 
-named-local : (local : List ℕ) → local ≢ [] → xmlns_prefix ++ 58 ∷ local ≡ declares_name local
+named-local : (local : List ℕ) → local ≢ [] → xmlns_prefix ++ 58 ∷ local ≡ declaring_name local
 named-local [] some = absurd (some refl)
 named-local (b ∷ local) some = refl
 
 -- what is declared by an attribute
 pub record Declares (attr : Attr) (d : Decl) : Type 0 where
-  pub name_is : attr.name ≡ declares_name d.0
+  pub name_is : attr.name ≡ declaring_name d.0
   pub prefix_is : (is_empty d.0 || is_part d.0) ≡ true
   pub uri_is : d.1 ≡ attr.value
 
@@ -149,7 +144,7 @@ declares attr d h e = by (bytes_eq attr.name xmlns_prefix) refl (bytes_eq (prefi
         let is : ([], attr.value) ≡ d = (cc) in
         let prefix : d.0 ≡ [] = sym (ap (λ (x : Decl). x.0) is) in
         record {
-          name_is = (bytes_eq-Decides attr.name xmlns_prefix).0 et ∙ sym (ap declares_name prefix);
+          name_is = (bytes_eq-Decides attr.name xmlns_prefix).0 et ∙ sym (ap declaring_name prefix);
           prefix_is = ap (λ p. is_empty p || is_part p) prefix;
           uri_is = sym (ap (λ (x : Decl). x.1) is);
         }
@@ -170,7 +165,7 @@ declares attr d h e = by (bytes_eq attr.name xmlns_prefix) refl (bytes_eq (prefi
 abbrev pub AreAttrs : List Attr → Type 0
 AreAttrs attrs = list_all is_attr attrs ≡ true
 
-declares-again : (prefix : List ℕ) (attrs : List Attr) → AreAttrs attrs → list_any (λ (later : Decl). bytes_eq prefix later.0) (declarations attrs) ≡ true → list_any (λ (b : Attr). bytes_eq (declares_name prefix) b.name) attrs ≡ true
+declares-again : (prefix : List ℕ) (attrs : List Attr) → AreAttrs attrs → list_any (λ (later : Decl). bytes_eq prefix later.0) (declarations attrs) ≡ true → list_any (λ (b : Attr). bytes_eq (declaring_name prefix) b.name) attrs ≡ true
 declares-again prefix [] ok h = absurd (true≢false (sym h))
 declares-again prefix (a ∷ attrs) ok h =
     let parts = both-true (is_attr a) (list_all is_attr attrs) ok in
@@ -178,17 +173,17 @@ declares-again prefix (a ∷ attrs) ok h =
     by (declaration_of a) refl h named.0 (declares-again prefix attrs parts.1)
   where
     by : (o : Option Decl) → declaration_of a ≡ o → list_any (λ (later : Decl). bytes_eq prefix later.0) (option_to_list o ++ declarations attrs) ≡ true → is_name a.name ≡ true
-        → (list_any (λ (later : Decl). bytes_eq prefix later.0) (declarations attrs) ≡ true → list_any (λ (b : Attr). bytes_eq (declares_name prefix) b.name) attrs ≡ true)
-        → (bytes_eq (declares_name prefix) a.name || list_any (λ (b : Attr). bytes_eq (declares_name prefix) b.name) attrs) ≡ true
-    by None e h named rest = ap (λ b. bytes_eq (declares_name prefix) a.name || b) (rest h) ∙ or-right (bytes_eq (declares_name prefix) a.name)
+        → (list_any (λ (later : Decl). bytes_eq prefix later.0) (declarations attrs) ≡ true → list_any (λ (b : Attr). bytes_eq (declaring_name prefix) b.name) attrs ≡ true)
+        → (bytes_eq (declaring_name prefix) a.name || list_any (λ (b : Attr). bytes_eq (declaring_name prefix) b.name) attrs) ≡ true
+    by None e h named rest = ap (λ b. bytes_eq (declaring_name prefix) a.name || b) (rest h) ∙ or-right (bytes_eq (declaring_name prefix) a.name)
     by (Some d) e h named rest = inner (bytes_eq prefix d.0) refl h
       where
         inner : (t : Bool) → bytes_eq prefix d.0 ≡ t → (t || list_any (λ (later : Decl). bytes_eq prefix later.0) (declarations attrs)) ≡ true
-            → (bytes_eq (declares_name prefix) a.name || list_any (λ (b : Attr). bytes_eq (declares_name prefix) b.name) attrs) ≡ true
+            → (bytes_eq (declaring_name prefix) a.name || list_any (λ (b : Attr). bytes_eq (declaring_name prefix) b.name) attrs) ≡ true
         inner true same h =
-            let is : declares_name prefix ≡ a.name = ap declares_name ((bytes_eq-Decides prefix d.0).0 same) ∙ sym (declares a d named e).name_is in
-            ap (λ b. b || list_any (λ (b : Attr). bytes_eq (declares_name prefix) b.name) attrs) ((bytes_eq-Decides (declares_name prefix) a.name).1 is)
-        inner false same h = ap (λ b. bytes_eq (declares_name prefix) a.name || b) (rest h) ∙ or-right (bytes_eq (declares_name prefix) a.name)
+            let is : declaring_name prefix ≡ a.name = ap declaring_name ((bytes_eq-Decides prefix d.0).0 same) ∙ sym (declares a d named e).name_is in
+            ap (λ b. b || list_any (λ (b : Attr). bytes_eq (declaring_name prefix) b.name) attrs) ((bytes_eq-Decides (declaring_name prefix) a.name).1 is)
+        inner false same h = ap (λ b. bytes_eq (declaring_name prefix) a.name || b) (rest h) ∙ or-right (bytes_eq (declaring_name prefix) a.name)
 
 -- attributes with different QNames declare different prefixes
 pub declares-once : (attrs : List Attr) → AreAttrs attrs → has_pair same_qname attrs ≡ false → declares_twice (declarations attrs) ≡ false
@@ -207,7 +202,7 @@ declares-once (a ∷ attrs) ok h =
         inner : (t : Bool) → list_any (λ (later : Decl). bytes_eq d.0 later.0) (declarations attrs) ≡ t → t ≡ false
         inner false h = refl
         inner true h =
-            let again : list_any (λ (b : Attr). bytes_eq (declares_name d.0) b.name) attrs ≡ true = declares-again d.0 attrs ok h in
+            let again : list_any (λ (b : Attr). bytes_eq (declaring_name d.0) b.name) attrs ≡ true = declares-again d.0 attrs ok h in
             let same : list_any (same_qname a) attrs ≡ true = ap (λ (name : List ℕ). list_any (λ (b : Attr). bytes_eq name b.name) attrs) (declares a d named e).name_is ∙ again in
             absurd (true≢false (sym same ∙ apart))
 

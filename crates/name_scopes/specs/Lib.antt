@@ -6,3 +6,5 @@ pub mod DocFaults
 pub mod Bindings
 pub mod Building
 pub mod Loaded
+pub mod RoundTrip
+pub use Rattle.tree_write.specs.TreeText

@@ -1,5 +1,5 @@
 -- Qualified names: a prefix and a local part (Namespaces in XML 1.0 section 4).
-use Rattle.std.specs.Prelude.{ℕ, List, [], ◌∷◌, ◌++◌, if◌then◌else◌}
+use Rattle.std.specs.Prelude.{ℕ, List, [], if◌then◌else◌}
 use Rattle.std.specs.List.{list_any, before_first, after_first}
 use Rattle.sch_base.specs.Names.{is_colon}
 use Rattle.doc_tree.specs.Table.{Name}
@@ -23,12 +23,3 @@ as_written name = record { prefix = name.prefix; local = name.local; uri = [] }
 -- a name without a prefix, in no namespace: that of a processing instruction is its target
 abbrev pub unprefixed : List ℕ → Name
 unprefixed local = record { prefix = []; local = local; uri = [] }
-
--- the QName of a prefix and a local part
-abbrev pub spelled_name : List ℕ → List ℕ → List ℕ
-spelled_name [] local = local
-spelled_name (b ∷ prefix) local = (b ∷ prefix) ++ 58 ∷ local
-
--- the QName of a name
-abbrev pub qname_of : Name → List ℕ
-qname_of name = spelled_name name.prefix name.local

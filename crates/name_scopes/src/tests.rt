@@ -1,8 +1,9 @@
-//! Outside examples: documents with namespaces, their nodes, and their first faults.
+//! Outside examples: documents with namespaces, their nodes, their first faults, and their texts written again.
 
-use super::{DocFault, DocKind, LoadError, load_tree};
+use super::{DocFault, DocKind, LoadError, load_tree, write_tree};
 use doc_tree::Tree;
 use pyx_core::PyxKind;
+use sch_io::{Failed, MemorySink};
 use std::test::Fail;
 
 /// The nodes in document order: of each that has a name its namespace and its local part, and its value.
@@ -144,5 +145,30 @@ fn depth_limit(rt: HostRuntime) -> Result<(), Fail> {
         }
         _ => return Err("no fault".into()),
     }
+    Ok(())
+}
+
+/// A document is written with its declarations before its attributes, and stays as it is when it is written so.
+#[test]
+fn written_again(rt: HostRuntime) -> Result<(), Fail> {
+    let text =
+        "?t d\n(p:a\nAid 7\nAxmlns:p u\nAxmlns v\n-a\\n\n[b\n(b\nAp:k 1\\t2\n)b\nCc\\\\\n)p:a\n";
+    let wanted =
+        "?t d\n(p:a\nAxmlns:p u\nAxmlns v\nAid 7\n-a\\nb\n(b\nAp:k 1\\t2\n)b\nCc\\\\\n)p:a\n";
+    for document in [text, wanted] {
+        let tree = loaded(&rt, document)??;
+        let mut sink = MemorySink::with_room(rt.alloc(), 200)?;
+        assert_eq!(rt; write_tree(&tree, &mut sink), Ok(()));
+        assert_eq!(rt; sink.written(), wanted.as_bytes());
+    }
+    Ok(())
+}
+
+#[test]
+fn no_room_to_write(rt: HostRuntime) -> Result<(), Fail> {
+    let tree = loaded(&rt, "(a\n-x\n)a\n")??;
+    let mut sink = MemorySink::with_room(rt.alloc(), 5)?;
+    assert_eq!(rt; write_tree(&tree, &mut sink), Err(Failed));
+    assert_eq!(rt; sink.written(), b"(a\n-x".as_slice());
     Ok(())
 }
