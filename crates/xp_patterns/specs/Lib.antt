@@ -1,0 +1,2 @@
+pub mod PatternGrammar
+pub mod PatternFaults
