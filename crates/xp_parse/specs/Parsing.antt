@@ -17,7 +17,7 @@ use Rattle.xp_grammar.specs.declared.token.NodeType.TheVariants as node_type
 use Rattle.xp_grammar.specs.declared.token.Token.TheVariants as token
 use Rattle.xp_grammar.specs.Parts.{offset_at, level_of, everywhere}
 use Rattle.xp_grammar.specs.Grammar.{IsSigns, IsTest, IsChain, IsOperand, IsOperands, IsPath, IsSteps, IsMoreSteps, IsPredicates, IsFilter, IsPrimary, IsArguments, IsMoreArguments}
-use Rattle.xp_grammar.specs.Machine.{Bracket, in_arguments, Ending, full, bare, at_root, Mode, want, need_step, after, turn, end_turn, halt, start, IsPending, IsLimited}
+use Rattle.xp_grammar.specs.Machine.{Bracket, in_arguments, Ending, full, bare, at_root, Mode, want, need_step, need_test, type_open, type_inner, type_close, after, moves, turn, end_turn, halt, start, IsPending, IsLimited}
 use Rattle.xp_parse.specs.declared.stop.Stop.{Stop}
 use Rattle.xp_parse.specs.declared.stop.Stop.TheVariants as stop
 use Rattle.xp_parse.specs.Places.{NotAt, Took}
@@ -200,9 +200,22 @@ pub record TargetRead (s u : List Placed) (it : StepTest) : Type 0 where
   pub tests : (p q : Placed) → p.token ≡ token.NodeType node_type.Pi → q.token ≡ token.OpenParen → IsTest (p ∷ q ∷ s) u it
   pub shorter : length u < length s
 
--- within any brackets that fit
-pub record TestFails (limit : ℕ) (m : Mode) (s u : List Placed) (why : Stop) : Type 0 where
-  pub stuck : IsNoMemory why → (k : List Bracket) → length k ≤ limit → Stuck limit m k s u why
+-- the modes of the machine within a node test
+abbrev pub IsTestMode : Mode → Type 0
+IsTestMode need_test = Unit {0}
+IsTestMode (type_open t) = Unit {0}
+IsTestMode (type_inner t) = Unit {0}
+IsTestMode type_close = Unit {0}
+IsTestMode _ = ⊥
+
+-- a node test was begun, and what stands at u does not go on with it
+pub data TestStops : Mode → List Placed → List Placed → Type 0 where
+  stops_here : (m : Mode) (u : List Placed) → IsTestMode m → ((k : List Bracket) → IsUnexpected m k u) → TestStops m u u
+  stops_behind : (m m' : Mode) (p : Placed) (s u : List Placed) → IsTestMode m →
+      ((k : List Bracket) → turn m k p.token ≡ moves m' k) → TestStops m' s u → TestStops m (p ∷ s) u
+
+pub record TestFails (m : Mode) (s u : List Placed) (why : Stop) : Type 0 where
+  pub stops : IsNoMemory why → (why ≡ stop.Unexpected) × TestStops m s u
 
 -- predicates were read
 pub record PredicatesRead (limit d : ℕ) (s u : List Placed) (found : List Expr) : Type 0 where

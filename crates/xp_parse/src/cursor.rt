@@ -26,14 +26,14 @@ impl<'t, 'a> Model for Cursor<'t, 'a> {
 
 impl<'t, 'a> Cursor<'t, 'a> {
     /// At the first of these tokens.
-    pub(crate) fn new(tokens: &'t [Placed<'a>]) -> Cursor<'t, 'a>
+    pub fn new(tokens: &'t [Placed<'a>]) -> Cursor<'t, 'a>
         ensures { result ≡ tokens.now }
     {
         Cursor { tokens, at: 0 }
     }
 
     /// The token at the place, None at the end.
-    pub(crate) fn token(&self) -> Option<&'t Token<'a>>
+    pub fn token(&self) -> Option<&'t Token<'a>>
         ensures { MatchOption result (self.now ≡ []) (λ t. IsFirst t.now self.now) }
     {
         match self.tokens.get(self.at) {
@@ -43,7 +43,7 @@ impl<'t, 'a> Cursor<'t, 'a> {
     }
 
     /// Where the token at the place stands, 0 at the end.
-    pub(crate) fn offset(&self) -> u32
+    pub fn offset(&self) -> u32
         ensures { result ≡ offset_at self.now }
     {
         match self.tokens.get(self.at) {
@@ -53,7 +53,7 @@ impl<'t, 'a> Cursor<'t, 'a> {
     }
 
     /// Goes on to the next token.
-    pub(crate) fn advance(&mut self)
+    pub fn advance(&mut self)
         ensures { (p : Placed) (rest : List Placed) → self.old ≡ p ∷ rest → self.new ≡ rest }
     {
         if self.at < self.tokens.len() {

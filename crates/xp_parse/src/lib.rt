@@ -11,6 +11,7 @@ mod stop;
 mod whole;
 mod words;
 
+pub use cursor::Cursor;
 pub use error::ParseError;
 pub use parser::Parser;
 pub use stop::Stop;

@@ -20,8 +20,8 @@ use xp_tree::{Expr, Level, Operand};
 /// Reads expressions from their tokens.
 #[derive(Drop)]
 pub struct Parser<'t, 'a> {
-    pub(crate) alloc: Global,
-    pub(crate) rest: Cursor<'t, 'a>,
+    pub alloc: Global,
+    pub rest: Cursor<'t, 'a>,
 }
 
 impl<'t, 'a> Parser<'t, 'a> {
@@ -45,7 +45,7 @@ impl<'t, 'a> Parser<'t, 'a> {
 
     /// A chain of the level.
     #[cycle(parser)]
-    pub(crate) fn chain(&mut self, level: Level, depth: usize) -> Result<Expr, Stop>
+    pub fn chain(&mut self, level: Level, depth: usize) -> Result<Expr, Stop>
         requires { depth ≤ 64 }
         ensures { MatchResult result (λ e. ChainRead 64 level depth self.old.rest self.new.rest (tree_of e))
             (OperandFails 64 level depth self.old.rest self.new.rest) }

@@ -174,9 +174,9 @@ impl<'t, 'a> Parser<'t, 'a> {
     }
 
     /// A node test.
-    fn test(&mut self) -> Result<StepTest, Stop>
+    pub fn test(&mut self) -> Result<StepTest, Stop>
         ensures { MatchResult result (TestRead self.old.rest self.new.rest)
-            (TestFails 64 need_test self.old.rest self.new.rest) }
+            (TestFails need_test self.old.rest self.new.rest) }
     {
         let Some(first) = self.rest.token() else {
             return Err(Stop::Unexpected);
@@ -206,7 +206,7 @@ impl<'t, 'a> Parser<'t, 'a> {
     /// What stands behind a node type.
     fn typed(&mut self, node_type: NodeType) -> Result<StepTest, Stop>
         ensures { MatchResult result (TypeRead node_type self.old.rest self.new.rest)
-            (TestFails 64 (type_open node_type) self.old.rest self.new.rest) }
+            (TestFails (type_open node_type) self.old.rest self.new.rest) }
     {
         self.rest.open_paren()?;
         match node_type {
@@ -221,7 +221,7 @@ impl<'t, 'a> Parser<'t, 'a> {
     /// What stands in the parentheses of `processing-instruction`.
     fn target(&mut self) -> Result<StepTest, Stop>
         ensures { MatchResult result (TargetRead self.old.rest self.new.rest)
-            (TestFails 64 (type_inner node_type.Pi) self.old.rest self.new.rest) }
+            (TestFails (type_inner node_type.Pi) self.old.rest self.new.rest) }
     {
         let Some(first) = self.rest.token() else {
             return Err(Stop::Unexpected);

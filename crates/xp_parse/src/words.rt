@@ -45,7 +45,7 @@ pub(crate) fn begins_step(token: &Token) -> bool
 
 impl<'t, 'a> Cursor<'t, 'a> {
     /// Takes `(`.
-    pub(crate) fn open_paren(&mut self) -> Result<(), Stop>
+    pub fn open_paren(&mut self) -> Result<(), Stop>
         ensures { MatchResult result (λ _. Took token.OpenParen self.old self.new) (Refused token.OpenParen self.old self.new) }
     {
         let Some(first) = self.token() else {
@@ -61,7 +61,7 @@ impl<'t, 'a> Cursor<'t, 'a> {
     }
 
     /// Takes `)`.
-    pub(crate) fn close_paren(&mut self) -> Result<(), Stop>
+    pub fn close_paren(&mut self) -> Result<(), Stop>
         ensures { MatchResult result (λ _. Took token.CloseParen self.old self.new) (Refused token.CloseParen self.old self.new) }
     {
         let Some(first) = self.token() else {
@@ -77,7 +77,7 @@ impl<'t, 'a> Cursor<'t, 'a> {
     }
 
     /// Takes `]`.
-    pub(crate) fn close_bracket(&mut self) -> Result<(), Stop>
+    pub fn close_bracket(&mut self) -> Result<(), Stop>
         ensures { MatchResult result (λ _. Took token.CloseBracket self.old self.new) (Refused token.CloseBracket self.old self.new) }
     {
         let Some(first) = self.token() else {
@@ -93,7 +93,7 @@ impl<'t, 'a> Cursor<'t, 'a> {
     }
 
     /// Takes `::`.
-    pub(crate) fn colons(&mut self) -> Result<(), Stop>
+    pub fn colons(&mut self) -> Result<(), Stop>
         ensures { MatchResult result (λ _. Took token.DoubleColon self.old self.new) (Refused token.DoubleColon self.old self.new) }
     {
         let Some(first) = self.token() else {
@@ -109,7 +109,7 @@ impl<'t, 'a> Cursor<'t, 'a> {
     }
 
     /// Whether `[` stands at the place.
-    pub(crate) fn at_bracket(&self) -> bool
+    pub fn at_bracket(&self) -> bool
         ensures { StandsFirst token.OpenBracket self.now result }
     {
         match self.token() {
@@ -149,7 +149,7 @@ impl<'t, 'a> Cursor<'t, 'a> {
     }
 
     /// Whether a step may begin at the place.
-    pub(crate) fn at_step(&self) -> bool
+    pub fn at_step(&self) -> bool
         ensures { result ≡ is_at_step self.now }
     {
         match self.token() {
@@ -159,7 +159,7 @@ impl<'t, 'a> Cursor<'t, 'a> {
     }
 
     /// The operator at the place, if its chains are those of the level.
-    pub(crate) fn operator_of(&self, level: Level) -> Option<Operator>
+    pub fn operator_of(&self, level: Level) -> Option<Operator>
         ensures { MatchOption result (NoOperatorOf level self.now) (λ o. IsOperatorOf level o self.now) }
     {
         let first = self.token()?;

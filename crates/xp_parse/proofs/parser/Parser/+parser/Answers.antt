@@ -1,12 +1,13 @@
 use Rattle.std.proofs.Common.{[], ◌∷◌, ◌++◌, refl, sym, ◌∙◌, ap, subst, arith}
 use Rattle.xp_tree.specs.declared.terms.Level.TheVariants as level
 use Rattle.xp_grammar.specs.declared.token.Token.TheVariants as token
-use Rattle.xp_grammar.specs.Machine.{full}
+use Rattle.xp_grammar.specs.Machine.{full, need_test}
 use Rattle.xp_parse.specs.Parsing.{Leads}
 use Rattle.xp_parse.proofs.Exits.{exits}
 use Rattle.xp_parse.proofs.Failing.{took_of, took_shorter, first_same, stuck_at_end, stuck_at_first}
 use Rattle.xp_parse.proofs.Chains.{operand_of_chain, operand_of_path, chain_rest_fails, chain_read, operands_start, operands_fail, operands_more, operands_read, signed_fails, signed_read, signs_length, weight_small}
 use Rattle.xp_parse.proofs.Paths.{root_read, root_fails, root_steps_read, anywhere_fails, anywhere_read, here_fails, here_read, filter_fails, filter_path_read, base_fails, filter_read, lead_shorter, more_steps_fail, steps_more, more_steps_read, steps_read, dot_read, parent_read, at_steps, axis_steps, axis_fails, no_step_begins, child_steps, test_token, test_fails, predicates_too_nested, predicate_fails, predicate_unclosed, predicates_more, predicates_read}
+use Rattle.xp_parse.proofs.NodeTests.{test_refused}
 use Rattle.xp_parse.proofs.Primaries.{end_fails, no_primary, variable_read, literal_read, number_read, parens_too_nested, parens_fail, parens_unclosed, parens_read, call_too_nested, call_unopened, call_fails, call_unclosed, call_read, no_arguments_read, first_fails, arguments_read, arguments_start, argument_fails, arguments_more, more_arguments_read, fails_suc, arguments_suc, operand_fails_suc, chain_suc}
 use Rattle.xp_parse.proofs.parser.Parser.+parser.Goals as goal
 
@@ -333,6 +334,10 @@ pub steps-returns : goal.steps-returns
 steps-returns n c =
     let r = c.in_ok-first.ensures in
     steps_read 64 _ _ _ _ _ _ _ r c.in_ok-push.ensures.items _ (c.more_steps.ensures r.ending r.closed)
+
+pub tested-returns-in_err-test : goal.tested-returns-in_err-test
+tested-returns-in_err-test n c =
+    exits _ _ _ c.in_err-test.field-0.0 c.from_residual.ensures.1 (test_refused 64 need_test _ _ _ _ c.requires c.in_err-test.ensures)
 
 pub tested-returns-in_err-predicates : goal.tested-returns-in_err-predicates
 tested-returns-in_err-predicates n c =

@@ -1,12 +1,14 @@
 use Rattle.std.proofs.Common.{sym, ap, ◌∙◌}
+use Rattle.xp_grammar.specs.declared.token.NodeType.TheVariants as node_type
 use Rattle.xp_grammar.specs.declared.token.Token.TheVariants as token
+use Rattle.xp_grammar.specs.Machine.{type_inner}
 use Rattle.xp_parse.proofs.Exits.{exits}
-use Rattle.xp_parse.proofs.Failing.{stuck_at_end, stuck_at_first, first_same, took_of, none_in_target}
-use Rattle.xp_parse.proofs.NodeTests.{target_none, target_some, target_unclosed}
+use Rattle.xp_parse.proofs.Failing.{first_same, took_of, none_in_target}
+use Rattle.xp_parse.proofs.NodeTests.{stops_at_end, stops_at_first, target_none, target_some, target_unclosed}
 use Rattle.xp_parse.proofs.parser.Parser.target.Goals as goal
 
 pub returns-in_default : goal.returns-in_default
-returns-in_default c = record { stuck = λ _ k room. stuck_at_end _ _ k _ c.in_default.ensures tt }
+returns-in_default c = record { stops = λ _. stops_at_end (type_inner node_type.Pi) _ c.in_default.ensures tt (λ k. tt) }
 
 pub returns-in_err-close_paren-in-Literal : goal.returns-in_err-close_paren-in-Literal
 returns-in_err-close_paren-in-Literal c =
@@ -26,7 +28,7 @@ returns-in_ok-close_paren-in-Literal c =
 
 pub returns-in_default-first : goal.returns-in_default-first
 returns-in_default-first c = record {
-  stuck = λ _ k room.
-      stuck_at_first _ _ k _ c.in-Some.first.now c.in-Some.ensures
-      (none_in_target k c.in-Some.first.now c.in_default-first.not-Literal c.in_default-first.not-CloseParen);
+  stops = λ _.
+      stops_at_first (type_inner node_type.Pi) _ c.in-Some.first.now c.in-Some.ensures tt
+      (λ k. none_in_target k c.in-Some.first.now c.in_default-first.not-Literal c.in_default-first.not-CloseParen);
 }

@@ -1,11 +1,12 @@
 use Rattle.std.proofs.Common.{sym, ap, ◌∙◌}
 use Rattle.xp_grammar.specs.declared.token.Token.TheVariants as token
-use Rattle.xp_parse.proofs.Failing.{stuck_at_end, stuck_at_first, first_same, took_of}
-use Rattle.xp_parse.proofs.NodeTests.{star_read, prefix_read, name_read, node_read, no_test}
+use Rattle.xp_grammar.specs.Machine.{need_test}
+use Rattle.xp_parse.proofs.Failing.{first_same, took_of}
+use Rattle.xp_parse.proofs.NodeTests.{stops_at_end, stops_at_first, star_read, prefix_read, name_read, node_read, no_test}
 use Rattle.xp_parse.proofs.parser.Parser.test.Goals as goal
 
 pub returns-in_default : goal.returns-in_default
-returns-in_default c = record { stuck = λ _ k room. stuck_at_end _ _ k _ c.in_default.ensures tt }
+returns-in_default c = record { stops = λ _. stops_at_end need_test _ c.in_default.ensures tt (λ k. tt) }
 
 pub returns-in-Star : goal.returns-in-Star
 returns-in-Star c =
@@ -29,7 +30,7 @@ returns-in-NodeType c =
 
 pub returns-in_default-first : goal.returns-in_default-first
 returns-in_default-first c = record {
-  stuck = λ _ k room.
-      stuck_at_first _ _ k _ c.in-Some.first.now c.in-Some.ensures
-      (no_test k c.in-Some.first.now c.in_default-first.not-Star c.in_default-first.not-PrefixStar c.in_default-first.not-Name c.in_default-first.not-NodeType);
+  stops = λ _.
+      stops_at_first need_test _ c.in-Some.first.now c.in-Some.ensures tt
+      (λ k. no_test k c.in-Some.first.now c.in_default-first.not-Star c.in_default-first.not-PrefixStar c.in_default-first.not-Name c.in_default-first.not-NodeType);
 }
