@@ -1,2 +1,3 @@
 pub mod PatternGrammar
 pub mod PatternFaults
+pub mod PatternMachine

@@ -1,0 +1,7 @@
+pub mod Bottoms
+pub mod Runs
+pub mod Frames
+pub mod PatternDrives
+pub mod PatternCompletes
+pub mod PatternBack
+pub mod PatternFinds
