@@ -75,7 +75,7 @@ passes_bracket limit e q v closes =
     step_on limit (after e) (in_predicate ∷ []) q v (record { mode = after full; stack = [] }) token.CloseBracket closes
     (after_bracket e (in_predicate ∷ [])) (omega arith)
 
-one_bracket : (k : List Bracket) (b : Bracket) → k ++ b ∷ [] ≡ b ∷ [] → k ≡ []
+pub one_bracket : (k : List Bracket) (b : Bracket) → k ++ b ∷ [] ≡ b ∷ [] → k ≡ []
 one_bracket [] b is = refl
 one_bracket (x ∷ k) b is =
     let e : length (k ++ b ∷ []) ≡ length k + 1 = length-append k (b ∷ []) in

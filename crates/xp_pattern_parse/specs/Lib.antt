@@ -1,0 +1,2 @@
+pub mod PatternReading
+pub mod PatternWhole
