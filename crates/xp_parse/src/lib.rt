@@ -15,7 +15,7 @@ pub use cursor::Cursor;
 pub use error::ParseError;
 pub use parser::Parser;
 pub use stop::Stop;
-pub use whole::parse_tokens;
+pub use whole::{fault_at_end, parse_tokens};
 
 #[cfg(test)]
 mod tests;

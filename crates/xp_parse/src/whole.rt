@@ -17,7 +17,7 @@ use xp_grammar::{Placed, SyntaxFault, SyntaxKind};
 use xp_tree::{Expr, Level};
 
 /// The fault where the tokens end, at the end of the text or where no token can be read.
-fn fault_at_end(whole: bool, end: u32) -> SyntaxFault
+pub fn fault_at_end(whole: bool, end: u32) -> SyntaxFault
     ensures { result ≡ at_end_fault whole end }
 {
     if whole {

@@ -7,6 +7,3 @@ mod steps;
 mod whole;
 
 pub use whole::parse_pattern_tokens;
-
-#[cfg(test)]
-mod tests;

@@ -1,10 +1,10 @@
 //! Whole patterns, and their first faults.
 
-ghost use Rattle.std.specs.Prelude.{◌≡◌, List, MatchResult};
+ghost use Rattle.std.specs.Prelude.{List, MatchResult};
 ghost use Rattle.xp_tree.specs.PatternTree.{pattern_of};
 ghost use Rattle.xp_grammar.specs.declared.token.Placed.{Placed};
 ghost use Rattle.xp_parse.specs.Parsing.{IsNoMemory};
-ghost use Rattle.xp_parse.specs.Whole.{at_end_fault, OnlyIfNoMemory};
+ghost use Rattle.xp_parse.specs.Whole.{OnlyIfNoMemory};
 ghost use Rattle.xp_patterns.specs.PatternMachine.{want_path};
 ghost use Rattle.xp_pattern_parse.specs.PatternReading.{StuckAt};
 ghost use Rattle.xp_pattern_parse.specs.PatternWhole.{IsWholePattern, PatternFaults};
@@ -12,25 +12,8 @@ ghost use Rattle.xp_pattern_parse.specs.PatternWhole.{IsWholePattern, PatternFau
 use crate::parser::PatternParser;
 use std::alloc::Global;
 use xp_grammar::{Placed, SyntaxFault, SyntaxKind};
-use xp_parse::{Cursor, ParseError, Parser, Stop};
+use xp_parse::{Cursor, ParseError, Parser, Stop, fault_at_end};
 use xp_tree::Pattern;
-
-/// The fault where the tokens end, at the end of the text or where no token can be read.
-fn fault_at_end(whole: bool, end: u32) -> SyntaxFault
-    ensures { result ≡ at_end_fault whole end }
-{
-    if whole {
-        SyntaxFault {
-            kind: SyntaxKind::Unexpected,
-            offset: end,
-        }
-    } else {
-        SyntaxFault {
-            kind: SyntaxKind::BadToken,
-            offset: end,
-        }
-    }
-}
 
 /// The fault where the parser stopped.
 fn fault_of(rest: &Cursor, stop: Stop, whole: bool, end: u32) -> ParseError

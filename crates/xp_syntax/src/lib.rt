@@ -1,9 +1,9 @@
-//! Expressions of XPath 1.0: their texts, their trees and their first faults.
+//! Expressions of XPath 1.0 and match patterns of XSLT 1.0: their texts, their trees and their first faults.
 #![tactic(auto)]
 
 mod parse;
 
-pub use parse::parse_expr;
+pub use parse::{parse_expr, parse_pattern};
 pub use xp_grammar::{SyntaxFault, SyntaxKind};
 pub use xp_parse::ParseError;
 pub use xp_print::print_expr;
@@ -17,3 +17,5 @@ pub use xp_typed::{Function, Typed, TypedPattern, ValueType};
 mod examples;
 #[cfg(test)]
 mod faults;
+#[cfg(test)]
+mod patterns;
