@@ -1,0 +1,5 @@
+pub mod SubLists
+pub mod Segments
+pub mod AxisLemmas
+pub mod SiblingLemmas
+pub mod StepLemmas

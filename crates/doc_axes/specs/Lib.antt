@@ -1,0 +1,5 @@
+pub mod Axes
+pub mod NodeTests
+pub mod Sets
+pub mod Siblings
+pub mod Plain

@@ -1,0 +1,61 @@
+-- Node tests (XPath 1.0 section 2.3).
+use Rattle.std.specs.Prelude.{ℕ, Bool, true, false, ◌&&◌, List, Option, None, Some, bytes_eq}
+use Rattle.doc_tree.specs.declared.kinds.Kind.{Kind}
+use Rattle.doc_tree.specs.declared.kinds.Kind.TheVariants as kinds
+use Rattle.doc_tree.specs.declared.axes.Axis.{Axis}
+use Rattle.doc_tree.specs.declared.axes.Axis.TheVariants as axes
+use Rattle.doc_tree.specs.declared.axes.NodeTest.{NodeTest}
+use Rattle.doc_tree.specs.declared.axes.NodeTest.TheVariants.{Any, Star, InNamespace, Named, Text, Comment, Pi, PiNamed}
+use Rattle.doc_tree.specs.Table.{Table, Name, kind_of, name_of}
+use Rattle.doc_tree.specs.Kinds.{is_element, is_text}
+use Rattle.doc_axes.specs.Axes.{is_attribute_kind}
+
+-- whether the kind is the one that names test on the axis: attributes on the attribute axis, else elements
+abbrev pub is_principal : Axis → Option Kind → Bool
+is_principal axes.Ancestor kind = is_element kind
+is_principal axes.AncestorOrSelf kind = is_element kind
+is_principal axes.Attribute kind = is_attribute_kind kind
+is_principal axes.Child kind = is_element kind
+is_principal axes.Descendant kind = is_element kind
+is_principal axes.DescendantOrSelf kind = is_element kind
+is_principal axes.Following kind = is_element kind
+is_principal axes.FollowingSibling kind = is_element kind
+is_principal axes.Parent kind = is_element kind
+is_principal axes.Preceding kind = is_element kind
+is_principal axes.PrecedingSibling kind = is_element kind
+is_principal axes.SelfNode kind = is_element kind
+
+abbrev pub is_comment : Option Kind → Bool
+is_comment None = false
+is_comment (Some kinds.Root) = false
+is_comment (Some kinds.Element) = false
+is_comment (Some kinds.Attribute) = false
+is_comment (Some kinds.Text) = false
+is_comment (Some kinds.Comment) = true
+is_comment (Some kinds.Pi) = false
+
+abbrev pub is_instruction : Option Kind → Bool
+is_instruction None = false
+is_instruction (Some kinds.Root) = false
+is_instruction (Some kinds.Element) = false
+is_instruction (Some kinds.Attribute) = false
+is_instruction (Some kinds.Text) = false
+is_instruction (Some kinds.Comment) = false
+is_instruction (Some kinds.Pi) = true
+
+-- a test of a name, which fails where there is none
+abbrev pub named : Option Name → (Name → Bool) → Bool
+named None test = false
+named (Some name) test = test name
+
+-- whether a node on an axis passes a node test
+abbrev pub passes : Table → Axis → NodeTest → ℕ → Bool
+passes T axis Any n = true
+passes T axis Star n = is_principal axis (kind_of T n)
+passes T axis (InNamespace uri) n = is_principal axis (kind_of T n) && named (name_of T n) (λ name. bytes_eq name.uri uri)
+passes T axis (Named uri local) n =
+    is_principal axis (kind_of T n) && named (name_of T n) (λ name. bytes_eq name.uri uri && bytes_eq name.local local)
+passes T axis Text n = is_text (kind_of T n)
+passes T axis Comment n = is_comment (kind_of T n)
+passes T axis Pi n = is_instruction (kind_of T n)
+passes T axis (PiNamed target) n = is_instruction (kind_of T n) && named (name_of T n) (λ name. bytes_eq name.local target)

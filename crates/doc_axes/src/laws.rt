@@ -1,0 +1,14 @@
+//! Laws of the axes, for the proofs of callers.
+
+ghost use Rattle.doc_axes.specs.Axes.{AxesPartition};
+
+use doc_tree::Tree;
+
+/// From any node, each node that is no attribute is an ancestor, a descendant, following, preceding or the node itself,
+/// and just one of these (XPath 1.0, section 2.2).
+pub fn axes_partition(tree: &Tree)
+    ensures { AxesPartition tree.now.nodes }
+{
+    tree.laws();
+    tree.nesting();
+}

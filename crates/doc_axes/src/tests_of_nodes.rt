@@ -1,0 +1,68 @@
+//! Node tests (XPath 1.0, section 2.3).
+
+ghost use Rattle.std.specs.Prelude.{◌≡◌, ◌<◌, ◌&&◌, true, Some, length, bytes_eq};
+ghost use Rattle.doc_tree.specs.Table.{is_live, kind_of, name_of, numbered};
+ghost use Rattle.doc_axes.specs.NodeTests.{passes, is_principal, named};
+
+use doc_tree::{Axis, Kind, NameId, NodeId, NodeTest, Tree};
+
+/// Whether a live node on an axis passes a node test: `*` and names test the axis's principal kind, attributes on the
+/// attribute axis and else elements.
+pub fn passes(tree: &Tree, n: NodeId, axis: Axis, test: &NodeTest) -> bool
+    requires { is_live tree.now.nodes n ≡ true }
+    ensures { result ≡ passes tree.now.nodes axis test.now n }
+{
+    let kind = tree.kind(n);
+    match test {
+        NodeTest::Any => true,
+        NodeTest::Star => is_principal(axis, kind),
+        NodeTest::InNamespace { uri } => is_principal(axis, kind) && has_uri(tree, n, uri.as_str()),
+        NodeTest::Named { uri, local } => {
+            is_principal(axis, kind) && has_name(tree, n, uri.as_str(), local.as_str())
+        }
+        NodeTest::Text => kind == Kind::Text,
+        NodeTest::Comment => kind == Kind::Comment,
+        NodeTest::Pi => kind == Kind::Pi,
+        NodeTest::PiNamed { target } => kind == Kind::Pi && has_local(tree, n, target.as_str()),
+    }
+}
+
+/// Whether the kind is the one that names test on the axis.
+fn is_principal(axis: Axis, kind: Kind) -> bool
+    ensures { result ≡ is_principal axis (Some kind) }
+{
+    match axis {
+        Axis::Attribute => kind == Kind::Attribute,
+        _ => kind == Kind::Element,
+    }
+}
+
+/// Whether the node has a name in the namespace.
+fn has_uri(tree: &Tree, n: NodeId, uri: &str) -> bool
+    ensures { result ≡ named (name_of tree.now.nodes n) (λ name. bytes_eq name.uri uri.now) }
+{
+    match tree.name(n) {
+        Some(name) => tree.uri_of(name) == uri,
+        None => false,
+    }
+}
+
+/// Whether the node has this expanded name.
+fn has_name(tree: &Tree, n: NodeId, uri: &str, local: &str) -> bool
+    ensures { result ≡ named (name_of tree.now.nodes n) (λ name. bytes_eq name.uri uri.now && bytes_eq name.local local.now) }
+{
+    match tree.name(n) {
+        Some(name) => tree.uri_of(name) == uri && tree.local_of(name) == local,
+        None => false,
+    }
+}
+
+/// Whether the node has a name with this local part.
+fn has_local(tree: &Tree, n: NodeId, local: &str) -> bool
+    ensures { result ≡ named (name_of tree.now.nodes n) (λ name. bytes_eq name.local local.now) }
+{
+    match tree.name(n) {
+        Some(name) => tree.local_of(name) == local,
+        None => false,
+    }
+}

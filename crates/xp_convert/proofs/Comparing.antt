@@ -1,0 +1,16 @@
+-- Which string-values a comparison takes.
+use Rattle.std.proofs.Common.{◌≡◌, ◌∙◌, ap, [], ◌++◌, true, false, if◌then◌else◌}
+use Rattle.xp_values.specs.declared.values.Value.{Value}
+use Rattle.xp_values.specs.Comparisons.{is_truth}
+use Rattle.xp_convert.specs.Conversions.{nodes_of, compared_nodes}
+
+pub left_truth : (v w : Value) → is_truth v ≡ true → compared_nodes v w ≡ []
+left_truth v w is = ap (λ b. if b then [] else (if is_truth w then [] else nodes_of v ++ nodes_of w)) is
+
+pub right_truth : (v w : Value) → is_truth v ≡ false → is_truth w ≡ true → compared_nodes v w ≡ []
+right_truth v w no_left is =
+    ap (λ b. if b then [] else (if is_truth w then [] else nodes_of v ++ nodes_of w)) no_left ∙ ap (λ b. if b then [] else nodes_of v ++ nodes_of w) is
+
+pub no_truth : (v w : Value) → is_truth v ≡ false → is_truth w ≡ false → compared_nodes v w ≡ nodes_of v ++ nodes_of w
+no_truth v w no_left no_right =
+    ap (λ b. if b then [] else (if is_truth w then [] else nodes_of v ++ nodes_of w)) no_left ∙ ap (λ b. if b then [] else nodes_of v ++ nodes_of w) no_right

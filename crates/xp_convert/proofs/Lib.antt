@@ -1,0 +1,4 @@
+pub mod Takings
+pub mod Exits
+pub mod Comparing
+pub mod Summing

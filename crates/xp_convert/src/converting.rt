@@ -1,0 +1,154 @@
+//! Conversions and comparisons that record what they take.
+
+ghost use Rattle.std.specs.Prelude.{◌≡◌, pos};
+ghost use Rattle.xp_outcome.specs.Running.{Ran};
+ghost use Rattle.xp_convert.specs.Conversions.{as_wanted, compare_in, compared_nodes, first_of, nodes_of, number_in, sum_from, sum_in, text_in};
+ghost use Rattle.xp_values.specs.Outcomes.{Gives};
+ghost use Rattle.xp_values.specs.declared.numbers.Num.TheVariants.{Whole};
+ghost use Rattle.xp_values.specs.Comparisons.{is_truth};
+ghost use Rattle.xp_convert.specs.Results.{shown, shown_alloc};
+ghost use Rattle.xp_convert.specs.Reads.{taking};
+ghost use Rattle.xp_outcome.specs.Outcome.{done};
+
+use crate::reading::take_texts;
+use crate::want::Want;
+use doc_tree::{NodeId, Tree};
+use sch_base::Text;
+use std::alloc::{AllocError, Global};
+use std::sync::ledger::Ledger;
+use xp_outcome::{Recorder, Steps};
+use xp_values::{ArithOp, Comparison, EvalError, Num, Value, arith, text_to_number};
+
+/// The nodes of a node-set, none of another value.
+pub fn nodes_of(value: &Value) -> &[NodeId]
+    ensures { result.now ≡ nodes_of value.now }
+{
+    match value {
+        Value::NodeSet(nodes) => nodes.as_slice(),
+        _ => &[],
+    }
+}
+
+/// The first of some nodes alone.
+fn first_of(nodes: &[NodeId]) -> &[NodeId]
+    ensures { result.now ≡ first_of nodes.now }
+{
+    if nodes.is_empty() { nodes } else { &nodes[..1] }
+}
+
+/// The value as a text.
+pub fn text_in<L: Ledger>(
+    alloc: Global,
+    tree: &Tree,
+    value: &Value,
+    reads: &mut Recorder,
+    steps: &mut Steps<L>,
+) -> Result<Text, EvalError>
+    ensures { Ran (text_in tree.now.nodes value.now) (shown result) reads.old reads.new steps.old steps.new }
+{
+    take_texts(tree, first_of(nodes_of(value)), reads, steps)?;
+    Ok(xp_values::to_text(alloc, tree, value)?)
+}
+
+/// The value as a number.
+pub fn number_in<L: Ledger>(
+    alloc: Global,
+    tree: &Tree,
+    value: &Value,
+    reads: &mut Recorder,
+    steps: &mut Steps<L>,
+) -> Result<Num, EvalError>
+    ensures { Ran (number_in tree.now.nodes value.now) (shown result) reads.old reads.new steps.old steps.new }
+{
+    take_texts(tree, first_of(nodes_of(value)), reads, steps)?;
+    xp_values::to_number(alloc, tree, value)
+}
+
+/// Whether the value is a boolean.
+fn is_truth(value: &Value) -> bool
+    ensures { result ≡ is_truth value.now }
+{
+    matches!(value, Value::Truth(_))
+}
+
+/// Takes the string-values that a comparison of two values needs: those of the left side, then those of the right side.
+fn take_compared<L: Ledger>(
+    tree: &Tree,
+    left: &Value,
+    right: &Value,
+    reads: &mut Recorder,
+    steps: &mut Steps<L>,
+) -> Result<(), AllocError>
+    ensures { Ran (taking tree.now.nodes (compared_nodes left.now right.now) (done tt)) (shown_alloc result) reads.old reads.new steps.old steps.new }
+{
+    if is_truth(left) {
+        return Ok(());
+    }
+    if is_truth(right) {
+        return Ok(());
+    }
+    take_texts(tree, nodes_of(left), reads, steps)?;
+    take_texts(tree, nodes_of(right), reads, steps)
+}
+
+/// Compares two values.
+pub fn compare_in<L: Ledger>(
+    alloc: Global,
+    tree: &Tree,
+    operator: Comparison,
+    left: &Value,
+    right: &Value,
+    reads: &mut Recorder,
+    steps: &mut Steps<L>,
+) -> Result<bool, EvalError>
+    ensures { Ran (compare_in tree.now.nodes operator left.now right.now) (shown result) reads.old reads.new steps.old steps.new }
+{
+    take_compared(tree, left, right, reads, steps)?;
+    xp_values::compare(alloc, tree, operator, left, right)
+}
+
+/// The sum of the numbers of some nodes (XPath 1.0, section 4.4): their string-values are all taken, and then each is
+/// converted and added in turn.
+pub fn sum_in<L: Ledger>(
+    alloc: Global,
+    tree: &Tree,
+    nodes: &[NodeId],
+    reads: &mut Recorder,
+    steps: &mut Steps<L>,
+) -> Result<Num, EvalError>
+    ensures { Ran (sum_in tree.now.nodes nodes.now) (shown result) reads.old reads.new steps.old steps.new }
+{
+    take_texts(tree, nodes, reads, steps)?;
+    summed(alloc, tree, nodes)
+}
+
+/// The numbers of some nodes added in turn, each sum in range.
+fn summed(alloc: Global, tree: &Tree, nodes: &[NodeId]) -> Result<Num, EvalError>
+    ensures { Gives result (sum_from tree.now.nodes (Whole (pos 0)) nodes.now) }
+{
+    let mut sum = Num::Whole(0);
+    for n in nodes {
+        let text = tree.string_value(alloc, *n)?;
+        let number = text_to_number(text.as_str())?;
+        sum = arith(ArithOp::Add, sum, number)?;
+    }
+    Ok(sum)
+}
+
+/// The value as it is wanted.
+pub fn as_wanted<L: Ledger>(
+    alloc: Global,
+    tree: &Tree,
+    want: Want,
+    value: Value,
+    reads: &mut Recorder,
+    steps: &mut Steps<L>,
+) -> Result<Value, EvalError>
+    ensures { Ran (as_wanted tree.now.nodes want value) (shown result) reads.old reads.new steps.old steps.new }
+{
+    match want {
+        Want::AsItIs => Ok(value),
+        Want::AsText => Ok(Value::Chars(text_in(alloc, tree, &value, reads, steps)?)),
+        Want::AsNumber => Ok(Value::Number(number_in(alloc, tree, &value, reads, steps)?)),
+    }
+}

@@ -1,0 +1,105 @@
+//! The recording of what evaluation reads.
+
+ghost use Rattle.std.specs.Prelude.{◌≡◌, OnOk, OnErr, option_map};
+ghost use Rattle.std.specs.Option.{option_to_list};
+ghost use Rattle.doc_tree.specs.Table.{kind_of};
+ghost use Rattle.doc_tree.specs.Kinds.{holds_kids, is_element};
+ghost use Rattle.xp_outcome.specs.Outcome.{cell, done};
+ghost use Rattle.xp_outcome.specs.Recorded.{note_all};
+ghost use Rattle.xp_outcome.specs.Running.{Ran};
+ghost use Rattle.xp_convert.specs.Reads.{axis_reads, sibling_reads, text_read, taking};
+ghost use Rattle.xp_convert.specs.Results.{shown_alloc};
+
+use doc_tree::{Axis, Cell, Kind, NodeId, Tree};
+use std::alloc::AllocError;
+use std::sync::ledger::Ledger;
+use xp_outcome::{Recorder, Steps};
+
+/// The kind of a node, None for a number that isn't live.
+fn kind_of(tree: &Tree, n: NodeId) -> Option<Kind>
+    ensures { result ≡ kind_of tree.now.nodes n }
+{
+    if tree.contains(n) {
+        Some(tree.kind(n))
+    } else {
+        None
+    }
+}
+
+/// Whether the node is of a kind that has kids: the root or an element.
+fn holds_kids(tree: &Tree, n: NodeId) -> bool
+    ensures { result ≡ holds_kids (kind_of tree.now.nodes n) }
+{
+    matches!(kind_of(tree, n), Some(Kind::Root | Kind::Element))
+}
+
+/// Whether the node is an element.
+pub fn is_element(tree: &Tree, n: NodeId) -> bool
+    ensures { result ≡ is_element (kind_of tree.now.nodes n) }
+{
+    matches!(kind_of(tree, n), Some(Kind::Element))
+}
+
+/// The cell that a step along an axis from a node looks at, if there is one.
+fn axis_cell(tree: &Tree, axis: Axis, n: NodeId) -> Option<Cell>
+    ensures { option_to_list (option_map cell result) ≡ axis_reads tree.now.nodes axis n }
+{
+    match axis {
+        Axis::Child => holds_kids(tree, n).then_some(Cell::Kids(n)),
+        Axis::Descendant | Axis::DescendantOrSelf => {
+            holds_kids(tree, n).then_some(Cell::Shape(n))
+        }
+        Axis::Following | Axis::Preceding => Some(Cell::Shape(tree.root())),
+        Axis::FollowingSibling | Axis::PrecedingSibling => sibling_cell(tree, n),
+        Axis::Attribute => is_element(tree, n).then_some(Cell::Attrs(n)),
+        Axis::SelfNode | Axis::Parent | Axis::Ancestor | Axis::AncestorOrSelf => None,
+    }
+}
+
+/// The list of kids in which the node stands; an attribute stands in none.
+fn sibling_cell(tree: &Tree, n: NodeId) -> Option<Cell>
+    ensures { option_to_list (option_map cell result) ≡ sibling_reads tree.now.nodes n }
+{
+    match kind_of(tree, n) {
+        Some(Kind::Attribute) => None,
+        _ => Some(Cell::Kids(tree.parent(n)?)),
+    }
+}
+
+/// Records what a step along an axis from a node looks at.
+pub fn read_axis(tree: &Tree, axis: Axis, n: NodeId, reads: &mut Recorder) -> Result<(), AllocError>
+    ensures read { OnOk result (reads.new ≡ note_all reads.old (axis_reads tree.now.nodes axis n)) }
+    ensures unchanged { OnErr result (reads.new ≡ reads.old) }
+{
+    match axis_cell(tree, axis, n) {
+        Some(cell) => reads.add(cell),
+        None => Ok(()),
+    }
+}
+
+/// The cell in which a node's string-value is read.
+fn text_cell(tree: &Tree, n: NodeId) -> Cell
+    ensures { cell result ≡ text_read tree.now.nodes n }
+{
+    if holds_kids(tree, n) {
+        Cell::Text(n)
+    } else {
+        Cell::Value(n)
+    }
+}
+
+/// Records that the string-values of some nodes are taken, with one step each.
+pub fn take_texts<L: Ledger>(
+    tree: &Tree,
+    nodes: &[NodeId],
+    reads: &mut Recorder,
+    steps: &mut Steps<L>,
+) -> Result<(), AllocError>
+    ensures { Ran (taking tree.now.nodes nodes.now (done tt)) (shown_alloc result) reads.old reads.new steps.old steps.new }
+{
+    for n in nodes {
+        reads.add(text_cell(tree, *n))?;
+        steps.tick();
+    }
+    Ok(())
+}

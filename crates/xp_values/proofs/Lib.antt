@@ -1,0 +1,6 @@
+pub mod NumeralLemmas
+pub mod TextLemmas
+pub mod CompareLemmas
+pub mod PositionLemmas
+pub mod SpaceLemmas
+pub mod ReplaceLemmas

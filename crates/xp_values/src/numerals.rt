@@ -1,0 +1,164 @@
+//! How a text is read as a number (XPath 1.0, sections 3.7 and 4.4).
+
+ghost use Rattle.std.specs.Prelude.{◌≡◌, ◌≤◌, not, position, IfOk};
+ghost use Rattle.std.specs.List.{list_all};
+ghost use Rattle.xp_values.specs.Numbers.{InRange};
+ghost use Rattle.xp_values.specs.Numerals.{is_space, is_digit, front, past, fraction, past_fraction, decimal_value, bounded, signed, are_zeros, number_written, number_ended, unsigned_number, text_to_number};
+ghost use Rattle.xp_values.specs.declared.numbers.TheConstants.{MAX_WHOLE};
+
+use super::numbers::{MAX_WHOLE, Num, whole_number};
+use super::values::EvalFault;
+
+/// Reads a text as a number: optional whitespace, optional `-`, digits with an optional point and optional digits behind
+/// it, or a point and digits, optional whitespace. Any other text is NaN.
+///
+/// The fault is NotWhole for a digit other than 0 behind the point, and else NumberRange for a value outside the range.
+pub fn text_to_number(s: &str) -> Result<Num, EvalFault>
+    ensures value { result ≡ text_to_number s.now }
+    ensures in_range { IfOk result InRange }
+{
+    let text = past_spaces(s.as_bytes());
+    match text.split_first() {
+        Some((b'-', rest)) => unsigned_number(true, rest),
+        _ => unsigned_number(false, text),
+    }
+}
+
+/// Whether the byte is whitespace (XML 1.0, section 2.3).
+fn is_space(b: u8) -> bool
+    ensures { result ≡ is_space b }
+{
+    b == b' ' || b == b'\t' || b == b'\n' || b == b'\r'
+}
+
+/// Whether the byte is a digit from 0 to 9.
+fn is_digit(b: u8) -> bool
+    ensures { result ≡ is_digit b }
+{
+    (b'0'..=b'9').contains(&b)
+}
+
+/// The place of the first byte that isn't whitespace.
+fn first_other(text: &[u8]) -> Option<usize>
+    ensures { result ≡ position (λ b. not (is_space b)) text.now }
+{
+    text.iter().position(|b| !is_space(*b))
+}
+
+/// What stands behind the whitespace at the front.
+fn past_spaces(text: &[u8]) -> &[u8]
+    ensures { result.now ≡ past is_space text.now }
+{
+    match first_other(text) {
+        Some(start) => text.split_at(start).1,
+        None => &[],
+    }
+}
+
+/// The place of the first byte that is no digit.
+fn first_no_digit(text: &[u8]) -> Option<usize>
+    ensures { result ≡ position (λ b. not (is_digit b)) text.now }
+{
+    text.iter().position(|b| !is_digit(*b))
+}
+
+/// The digits at the front, and what stands behind them.
+fn split_digits(text: &[u8]) -> (&[u8], &[u8])
+    ensures digits { result.0.now ≡ front is_digit text.now }
+    ensures rest { result.1.now ≡ past is_digit text.now }
+{
+    match first_no_digit(text) {
+        Some(end) => text.split_at(end),
+        None => (text, &[]),
+    }
+}
+
+/// The digits behind a point at the front, and what stands behind them.
+fn split_fraction(text: &[u8]) -> (&[u8], &[u8])
+    ensures digits { result.0.now ≡ fraction text.now }
+    ensures rest { result.1.now ≡ past_fraction text.now }
+{
+    match text.split_first() {
+        Some((b'.', rest)) => split_digits(rest),
+        _ => (&[], text),
+    }
+}
+
+/// The number behind the sign.
+fn unsigned_number(negative: bool, text: &[u8]) -> Result<Num, EvalFault>
+    ensures value { result ≡ unsigned_number negative text.now }
+    ensures in_range { IfOk result InRange }
+{
+    let (digits, rest) = split_digits(text);
+    let (fraction, rest) = split_fraction(rest);
+    number_ended(negative, digits, fraction, rest)
+}
+
+/// The number of a numeral with these digits before and behind its point, where only whitespace stands behind it.
+fn number_ended(
+    negative: bool,
+    digits: &[u8],
+    fraction: &[u8],
+    rest: &[u8],
+) -> Result<Num, EvalFault>
+    ensures value { result ≡ number_ended negative digits.now fraction.now rest.now }
+    ensures in_range { IfOk result InRange }
+{
+    if digits.len() + fraction.len() != 0 && are_spaces(rest) {
+        number_written(negative, digits, fraction)
+    } else {
+        Ok(Num::NaN)
+    }
+}
+
+fn are_spaces(text: &[u8]) -> bool
+    ensures { result ≡ list_all is_space text.now }
+{
+    text.iter().all(|b| is_space(*b))
+}
+
+fn are_zeros(digits: &[u8]) -> bool
+    ensures { result ≡ are_zeros digits.now }
+{
+    digits.iter().all(|digit| *digit == b'0')
+}
+
+/// The number with these digits before and behind its point.
+fn number_written(negative: bool, digits: &[u8], fraction: &[u8]) -> Result<Num, EvalFault>
+    ensures value { result ≡ number_written negative digits.now fraction.now }
+    ensures in_range { IfOk result InRange }
+{
+    if !are_zeros(fraction) {
+        return Err(EvalFault::NotWhole);
+    }
+    match bounded_value(digits) {
+        Some(value) => whole_number(signed(negative, value)),
+        None => Err(EvalFault::NumberRange),
+    }
+}
+
+/// The number of that size, with its sign.
+fn signed(negative: bool, value: u64) -> i64
+    requires { value ≤ MAX_WHOLE }
+    ensures { result ≡ signed negative value }
+{
+    if negative {
+        -(value as i64)
+    } else {
+        value as i64
+    }
+}
+
+/// The number that digits write, None where it is greater than the range allows.
+fn bounded_value(digits: &[u8]) -> Option<u64>
+    ensures { result ≡ bounded (decimal_value digits.now) }
+{
+    let mut value = 0u64;
+    for digit in digits {
+        value = value * 10 + u64::from(digit.saturating_sub(b'0'));
+        if value > MAX_WHOLE {
+            return None;
+        }
+    }
+    Some(value)
+}
