@@ -64,10 +64,8 @@ pub fn tokenize<'a>(alloc: Global, text: &'a str) -> Result<Lexed<'a>, AllocErro
         };
         behind_operand = ends_operand(&taken.token);
         rest = after_run(Class::Whitespace, taken.rest);
-        tokens.push(Placed {
-            offset,
-            token: taken.token,
-        })?;
+        let token = taken.token;
+        tokens.push(Placed { offset, token })?;
     }
     Ok(Lexed {
         tokens,

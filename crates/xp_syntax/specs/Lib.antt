@@ -1,4 +1,5 @@
 pub mod Syntax
+pub mod Laws
 pub use Rattle.xp_tree.specs.Tree
 pub use Rattle.xp_tree.specs.View
 pub use Rattle.xp_grammar.specs.Grammar

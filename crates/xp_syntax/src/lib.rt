@@ -1,8 +1,10 @@
 //! Expressions of XPath 1.0 and match patterns of XSLT 1.0: their texts, their trees and their first faults.
 #![tactic(auto)]
 
+mod laws;
 mod parse;
 
+pub use laws::{faulty_texts_spell_nothing, first_faults_are_unique};
 pub use parse::{parse_expr, parse_pattern};
 pub use xp_grammar::{SyntaxFault, SyntaxKind};
 pub use xp_parse::ParseError;
