@@ -2,15 +2,14 @@
 use Rattle.std.proofs.Common.{◌≡◌, ℕ, true, false, List, [], length, map, append-nil, sym, subst, subst₂, ap, ◌∙◌}
 use Rattle.xp_tree.specs.Tree.{Tree}
 use Rattle.xp_grammar.specs.declared.token.Placed.{Placed}
-use Rattle.xp_grammar.specs.Grammar.{Derives}
 use Rattle.xp_lexicon.specs.Lexicon.{Tokenized}
-use Rattle.xp_lexicon.specs.Laws.{WholeTextsEnd, TextsReadOnce}
-use Rattle.xp_one_tree.specs.OneTree.{OneTree}
+use Rattle.xp_lexicon.specs.Laws.{WholeTextsEnd}
 use Rattle.xp_print.specs.Printed.{printed}
 use Rattle.xp_reprint.specs.Offsets.{without_offsets}
 use Rattle.xp_reprint.specs.PrintedTokens.{tokens_printed}
 use Rattle.xp_syntax.specs.Syntax.{Spells}
-use Rattle.xp_reprint.specs.Spelling.{OneSpelling, PrintedSpellsTheSame}
+use Rattle.xp_syntax.specs.Laws.{OneSpelling}
+use Rattle.xp_reprint.specs.Spelling.{PrintedSpellsTheSame}
 use Rattle.xp_reprint.proofs.Fits.{Fits}
 use Rattle.xp_reprint.proofs.Again.{derived-fits, fitting-derives}
 use Rattle.xp_reprint.proofs.Lexed.{Lexed, tokens-sound}
@@ -44,12 +43,6 @@ spells-again limit e F (s, T, is) = let (f, D, alike) = fitting-derives Lexed li
 pub printed-spells : WholeTextsEnd → (limit : ℕ) (text : List ℕ) (e : Tree) → Spells limit text e →
     (f : Tree) × Spells limit (printed false e) f × (without_offsets f ≡ without_offsets e)
 printed-spells ends limit text e S = let F = spelled-fits limit text e S in spells-again limit e F (fitting-read ends limit e F)
-
--- a text spells one expression where its tokens derive one
-pub one-spelling : TextsReadOnce → OneTree → (limit higher : ℕ) (text : List ℕ) (e f : Tree) → Spells limit text e → Spells higher text f → e ≡ f
-one-spelling once one limit higher text e f s u =
-    let same = once text s.tokens u.tokens true true (length text) (length text) s.tokenized u.tokenized in
-    one limit higher s.tokens e f s.derived (subst (λ l. Derives higher l f) (sym same.tokens_same) u.derived)
 
 pub nothing-else : PrintedSpellsTheSame → OneSpelling → (limit higher : ℕ) (text : List ℕ) (e f : Tree) → Spells limit text e → Spells higher (printed false e) f →
     without_offsets f ≡ without_offsets e

@@ -21,10 +21,6 @@ PrintedSpellsTheSame =
     (limit : ℕ) (text : List ℕ) (e : Tree) → Spells limit text e →
     (f : Tree) × Spells limit (printed false e) f × (without_offsets f ≡ without_offsets e)
 
--- a text spells at most one expression: no limit of nesting changes it
-abbrev pub OneSpelling : Type 0
-OneSpelling = (limit higher : ℕ) (text : List ℕ) (e f : Tree) → Spells limit text e → Spells higher text f → e ≡ f
-
 -- whatever the printed text of an expression spells that some text spells is the same expression, but for offsets
 abbrev pub PrintedSpellsNothingElse : Type 0
 PrintedSpellsNothingElse =

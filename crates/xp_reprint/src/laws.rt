@@ -1,10 +1,10 @@
 //! Laws of the definitions, for the proofs of callers.
 
 ghost use Rattle.xp_reprint.specs.Reprinted.{PrintedTokensDeriveTheSame};
-ghost use Rattle.xp_reprint.specs.Spelling.{OneSpelling, PrintedSpellsNothingElse, PrintedSpellsTheSame, PrintedTextHasThePrintedTokens};
+ghost use Rattle.xp_reprint.specs.Spelling.{PrintedSpellsNothingElse, PrintedSpellsTheSame, PrintedTextHasThePrintedTokens};
 
-use xp_lexicon::{texts_read_once, whole_texts_end};
-use xp_one_tree::one_tree;
+use xp_lexicon::whole_texts_end;
+use xp_syntax::one_spelling;
 
 /// The tokens of a printed expression derive, within the same limit, the same expression but for offsets.
 pub fn printed_tokens_derive_the_same()
@@ -24,14 +24,6 @@ pub fn printed_spells_the_same_tree()
     ensures { PrintedSpellsTheSame }
 {
     whole_texts_end();
-}
-
-/// A text spells at most one expression, at whatever limits of nesting.
-pub fn one_spelling()
-    ensures { OneSpelling }
-{
-    texts_read_once();
-    one_tree();
 }
 
 /// The text of a printed expression that some text spells, spells nothing else than that expression, but for offsets.

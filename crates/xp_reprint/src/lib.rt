@@ -5,6 +5,6 @@
 mod laws;
 
 pub use laws::{
-    one_spelling, printed_spells_nothing_else, printed_spells_the_same_tree,
-    printed_text_has_the_printed_tokens, printed_tokens_derive_the_same,
+    printed_spells_nothing_else, printed_spells_the_same_tree, printed_text_has_the_printed_tokens,
+    printed_tokens_derive_the_same,
 };

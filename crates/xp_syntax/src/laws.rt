@@ -1,8 +1,26 @@
 //! Laws of the definitions, for the proofs of callers.
 
-ghost use Rattle.xp_syntax.specs.Laws.{FirstFaultsAreUnique, FaultyTextsSpellNothing};
+ghost use Rattle.xp_syntax.specs.Laws.{FirstFaultsAreUnique, FaultyTextsSpellNothing, OneSpelling, OnePatternSpelling};
 
 use xp_lexicon::texts_read_once;
+use xp_one_pattern::one_pattern;
+use xp_one_tree::one_tree;
+
+/// A text spells at most one expression, at whatever limits of nesting.
+pub fn one_spelling()
+    ensures { OneSpelling }
+{
+    texts_read_once();
+    one_tree();
+}
+
+/// A text spells at most one pattern, at whatever limits of nesting.
+pub fn one_pattern_spelling()
+    ensures { OnePatternSpelling }
+{
+    texts_read_once();
+    one_pattern();
+}
 
 /// A text has no two first faults.
 pub fn first_faults_are_unique()

@@ -4,7 +4,9 @@
 mod laws;
 mod parse;
 
-pub use laws::{faulty_texts_spell_nothing, first_faults_are_unique};
+pub use laws::{
+    faulty_texts_spell_nothing, first_faults_are_unique, one_pattern_spelling, one_spelling,
+};
 pub use parse::{parse_expr, parse_pattern};
 pub use xp_grammar::{SyntaxFault, SyntaxKind};
 pub use xp_parse::ParseError;

@@ -1,5 +1,0 @@
-use Rattle.xp_reprint.proofs.Whole.{one-spelling}
-use Rattle.xp_reprint.proofs.laws.one_spelling.Goals as goal
-
-pub returns : goal.returns
-returns c = one-spelling c.texts_read_once.ensures c.one_tree.ensures
