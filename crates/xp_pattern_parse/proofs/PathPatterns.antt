@@ -19,9 +19,9 @@ use Rattle.xp_grammar.specs.declared.token.Token.TheVariants as token
 use Rattle.xp_grammar.specs.Parts.{offset_at, level_of}
 use Rattle.xp_parse.specs.declared.stop.Stop.{Stop}
 use Rattle.xp_parse.specs.Places.{IsFirst, Took, IsOperatorOf, NoOperatorOf, is_step_token, is_at_step}
-use Rattle.xp_parse.proofs.Failing.{took_shorter, first_token}
+use Rattle.xp_parse.proofs.Failing.{took_shorter}
 use Rattle.xp_patterns.specs.PatternGrammar.{path_tree, IsRelative, relative, IsPathPattern, root_alone, from_root, from_anywhere, from_here, from_id_key, IsPattern, pattern, IsMorePaths, no_more_paths, more_paths}
-use Rattle.xp_patterns.specs.PatternMachine.{Place, want_path, want_step, behind_root, behind_call, behind_step, first_place, step_turn, path_turn, union_turn, pattern_load, pattern_halt}
+use Rattle.xp_patterns.specs.PatternMachine.{Place, want_path, want_step, behind_root, behind_call, behind_step, first_place, step_turn, union_turn, pattern_load, pattern_halt}
 use Rattle.xp_patterns.proofs.PatternDrives.{BeginsStep, path_begins, step_begins, root_begins, drive_step, drive_id_key, path_slash, path_double}
 use Rattle.xp_pattern_parse.specs.PatternReading.{FailsAt, IsStepPlace, IsEndedAt, StepsFound, MoreStepsFound, CallFound, PathFound, MorePathsFound, PatternFound, PathsReached}
 use Rattle.xp_pattern_parse.proofs.PlaceFails.{fails_beyond, took_over, step_fails}
@@ -158,22 +158,6 @@ call_path_found s m u it none r at empty x = record {
   ended = x.ended;
   shorter = let a = r.shorter in let b = x.shorter in omega (arith, a, b);
   halts = drive_id_key 64 r.derives ∙ x.halts;
-}
-
--- where a path pattern must begin with a step
-no_path_turn : (t : Token) → (t ≡ token.Slash → ⊥) → (t ≡ token.DoubleSlash → ⊥) → ((n : List ℕ) → t ≡ token.Function n → ⊥) → path_turn t ≡ None
-no_path_turn token.Slash a b c = absurd (a refl)
-no_path_turn token.DoubleSlash a b c = absurd (b refl)
-no_path_turn (token.Function n) a b c = absurd (c n refl)
-no_path_turn _ a b c = refl
-
-pub path_steps : (s : List Placed) (t : Token) → IsFirst t s → (t ≡ token.Slash → ⊥) → (t ≡ token.DoubleSlash → ⊥) →
-    ((n : List ℕ) → t ≡ token.Function n → ⊥) → IsStepPlace want_path s
-path_steps s t f a b c = record {
-  at_end = λ _. tt;
-  at_token = λ p rest is.
-      let none : path_turn p.token ≡ None = ap path_turn (first_token t s f p rest is) ∙ no_path_turn t a b c in
-      ap (λ o. first_place o (step_turn p.token)) none;
 }
 
 -- path patterns behind others
