@@ -5,25 +5,14 @@ ghost use Rattle.xp_grammar.specs.declared.token.Token.TheVariants as token;
 ghost use Rattle.xp_grammar.specs.Parts.{offset_at};
 ghost use Rattle.xp_parse.specs.Places.{IsFirst};
 ghost use Rattle.xp_parse.specs.Parsing.{PredicatesRead};
-ghost use Rattle.xp_patterns.specs.PatternGrammar.{pattern_axis};
 ghost use Rattle.xp_patterns.specs.PatternMachine.{Place, want_step, behind_step, in_test, test};
 ghost use Rattle.xp_pattern_parse.specs.PatternReading.{FailsAt, IsClosedAt, TestedFound, StepFound, StepsFound, MoreStepsFound, TookJoin, NoJoin};
 
 use crate::parser::PatternParser;
 use xp_grammar::Token;
 use xp_parse::Stop;
+use xp_patterns::pattern_axis;
 use xp_tree::{AxisName, Expr, Join, Level, PatternStep};
-
-/// Whether the axis, which a pattern may name, is attribute; None for the other axes.
-fn pattern_axis(axis: AxisName) -> Option<bool>
-    ensures { result ≡ pattern_axis axis }
-{
-    match axis {
-        AxisName::Child => Some(false),
-        AxisName::Attribute => Some(true),
-        _ => None,
-    }
-}
 
 impl<'t, 'a> PatternParser<'t, 'a> {
     /// Steps, the first one behind this join.

@@ -38,8 +38,8 @@ fn fault_of(rest: &Cursor, stop: Stop, whole: bool, end: u32) -> ParseError
     }
 }
 
-/// The pattern that the tokens are, or the first fault; the tokens were read up to a place, to the end of the text or to
-/// where no token can be read. Costs time linear in the number of tokens.
+/// The pattern that the tokens are, or the first fault; the tokens were read up to a place, to the end of the text or
+/// to where no token can be read. Costs time linear in the number of tokens.
 pub fn parse_pattern_tokens(
     alloc: Global,
     tokens: &[Placed],
