@@ -1,0 +1,4 @@
+pub mod Negations
+pub mod JoinedTexts
+pub mod Languages
+pub mod FirstArgument

@@ -1,0 +1,258 @@
+//! The application of functions (XPath 1.0, section 4; XSLT 1.0, section 12.4).
+
+ghost use Rattle.std.specs.Prelude.{◌≡◌, ℕ, List, [], ◌∷◌, length, Result, IfOk};
+ghost use Rattle.xp_outcome.specs.Outcome.{bind, done};
+ghost use Rattle.xp_outcome.specs.Running.{Ran};
+ghost use Rattle.xp_convert.specs.Results.{shown};
+ghost use Rattle.xp_values.specs.Outcomes.{Gives};
+ghost use Rattle.xp_values.specs.declared.values.Value.TheVariants as values;
+ghost use Rattle.xp_values.specs.declared.values.EvalFault.{EvalFault};
+ghost use Rattle.xp_values.specs.Texts.{normalize_space, string_length};
+ghost use Rattle.xp_convert.specs.Conversions.{sum_in};
+ghost use Rattle.xp_meaning.specs.Functions.{applied, as_chars, as_number, as_text, as_truth, counted, nodes_at, number_or_own, text_or_own};
+ghost use Rattle.xp_meaning.specs.Language.{in_language};
+
+use crate::arguments::{
+    length_in, named_node, nodes_at, number_at, number_of, text_at, text_of, truth_at,
+};
+use crate::joining::joined;
+use crate::language::in_language;
+use crate::names::{local_name, namespace_uri, written_name};
+use doc_tree::{NodeId, NodeList, Tree};
+use sch_base::{ItemList, Text};
+use std::alloc::{AllocError, Global};
+use std::sync::ledger::Ledger;
+use xp_convert::{number_in, sum_in, text_in};
+use xp_meaning::Context;
+use xp_outcome::{Recorder, Steps};
+use xp_typed::Function;
+use xp_values::{
+    EvalError, Num, Value, contains, normalize_space, starts_with, string_length, substring,
+    substring_after, substring_before, translate,
+};
+
+/// What the function gives for arguments that are evaluated and converted as it wants them.
+///
+/// The faults are TextLimit of `concat` and `translate`, and those of `sum` and of `number` without an argument.
+pub fn applied<L: Ledger>(
+    alloc: Global,
+    tree: &Tree,
+    function: Function,
+    at: &Context,
+    args: &[Value],
+    reads: &mut Recorder,
+    steps: &mut Steps<L>,
+) -> Result<Value, EvalError>
+    ensures { Ran (applied tree.now.nodes function at.now args.now) (shown result) reads.old reads.new steps.old steps.new }
+{
+    match function {
+        Function::Last => Ok(counted(at.size)),
+        Function::Position => Ok(counted(at.position)),
+        Function::Current => node_set_of(alloc, at.current),
+        Function::Count => Ok(count(nodes_at(args, 0))),
+        Function::Sum => sum(alloc, tree, args, reads, steps),
+        Function::LocalName => as_chars(local_name(alloc, tree, named_node(at, args))),
+        Function::NamespaceUri => as_chars(namespace_uri(alloc, tree, named_node(at, args))),
+        Function::Name => as_chars(written_name(alloc, tree, named_node(at, args))),
+        Function::String => string(alloc, tree, at, args, reads, steps),
+        Function::Number => number(alloc, tree, at, args, reads, steps),
+        Function::Boolean => Ok(Value::Truth(truth_at(args, 0))),
+        Function::Not => Ok(Value::Truth(!truth_at(args, 0))),
+        Function::True => Ok(Value::Truth(true)),
+        Function::False => Ok(Value::Truth(false)),
+        Function::Concat => as_value(joined(alloc, args)),
+        Function::StartsWith => Ok(Value::Truth(starts_with(text_at(args, 0), text_at(args, 1)))),
+        Function::Contains => Ok(Value::Truth(contains(text_at(args, 0), text_at(args, 1)))),
+        Function::SubstringBefore => {
+            as_chars(substring_before(alloc, text_at(args, 0), text_at(args, 1)))
+        }
+        Function::SubstringAfter => {
+            as_chars(substring_after(alloc, text_at(args, 0), text_at(args, 1)))
+        }
+        Function::Substring => {
+            as_chars(substring(alloc, text_at(args, 0), number_at(args, 1), length_in(args)))
+        }
+        Function::StringLength => length_of(alloc, tree, at, args, reads, steps),
+        Function::NormalizeSpace => normalized(alloc, tree, at, args, reads, steps),
+        Function::Translate => {
+            as_value(translate(alloc, text_at(args, 0), text_at(args, 1), text_at(args, 2)))
+        }
+        Function::Lang => is_in_language(tree, at.node, text_at(args, 0), reads),
+        Function::Floor => Ok(Value::Number(number_at(args, 0))),
+        Function::Ceiling => Ok(Value::Number(number_at(args, 0))),
+        Function::Round => Ok(Value::Number(number_at(args, 0))),
+    }
+}
+
+/// A position or a size as a number.
+fn counted(count: u32) -> Value
+    ensures { result ≡ counted count }
+{
+    Value::Number(Num::Whole(i64::from(count)))
+}
+
+/// How many nodes there are.
+fn count(nodes: &[NodeId]) -> Value
+    ensures { result ≡ counted (length nodes.now) }
+{
+    Value::Number(Num::Whole(nodes.len() as i64))
+}
+
+/// The node-set of one node.
+fn one_node(alloc: Global, n: NodeId) -> Result<NodeList, AllocError>
+    ensures { IfOk result (λ nodes. nodes ≡ n ∷ []) }
+{
+    let mut nodes = ItemList::new(alloc);
+    nodes.push(n)?;
+    Ok(nodes)
+}
+
+/// `one_node` as a value.
+fn node_set_of(alloc: Global, n: NodeId) -> Result<Value, EvalError>
+    ensures { Gives result (Ok (values.NodeSet (n ∷ []))) }
+{
+    let nodes = one_node(alloc, n)?;
+    Ok(Value::NodeSet(nodes))
+}
+
+/// A text as a value.
+fn as_chars(text: Result<Text, AllocError>) -> Result<Value, EvalError>
+    ensures { (meant : List ℕ) → IfOk text (λ t. t ≡ meant) → Gives result (Ok (values.Chars meant)) }
+{
+    match text {
+        Ok(text) => Ok(Value::Chars(text)),
+        Err(_) => Err(EvalError::Memory),
+    }
+}
+
+/// A text or a fault as a value or that fault.
+fn as_value(text: Result<Text, EvalError>) -> Result<Value, EvalError>
+    ensures { (meant : Result (List ℕ) EvalFault) → Gives text meant → Gives result (as_chars meant) }
+{
+    match text {
+        Ok(text) => Ok(Value::Chars(text)),
+        Err(error) => Err(error),
+    }
+}
+
+/// `sum`: the sum of the numbers of the argument's nodes.
+fn sum<L: Ledger>(
+    alloc: Global,
+    tree: &Tree,
+    args: &[Value],
+    reads: &mut Recorder,
+    steps: &mut Steps<L>,
+) -> Result<Value, EvalError>
+    ensures { Ran (as_number (sum_in tree.now.nodes (nodes_at args.now 0))) (shown result) reads.old reads.new steps.old steps.new }
+{
+    let number = sum_in(alloc, tree, nodes_at(args, 0), reads, steps)?;
+    Ok(Value::Number(number))
+}
+
+/// The text of the argument, or the string-value of the context node without one.
+fn text_or_own<L: Ledger>(
+    alloc: Global,
+    tree: &Tree,
+    at: &Context,
+    args: &[Value],
+    reads: &mut Recorder,
+    steps: &mut Steps<L>,
+) -> Result<Text, EvalError>
+    ensures { Ran (text_or_own tree.now.nodes at.now args.now) (shown result) reads.old reads.new steps.old steps.new }
+{
+    match args.first() {
+        Some(value) => Ok(Text::copy(alloc, text_of(value))?),
+        None => text_in(alloc, tree, &node_set_of(alloc, at.node)?, reads, steps),
+    }
+}
+
+/// The number of the argument, or that of the context node without one.
+fn number_or_own<L: Ledger>(
+    alloc: Global,
+    tree: &Tree,
+    at: &Context,
+    args: &[Value],
+    reads: &mut Recorder,
+    steps: &mut Steps<L>,
+) -> Result<Num, EvalError>
+    ensures { Ran (number_or_own tree.now.nodes at.now args.now) (shown result) reads.old reads.new steps.old steps.new }
+{
+    match args.first() {
+        Some(value) => Ok(number_of(value)),
+        None => number_in(alloc, tree, &node_set_of(alloc, at.node)?, reads, steps),
+    }
+}
+
+/// `string`.
+fn string<L: Ledger>(
+    alloc: Global,
+    tree: &Tree,
+    at: &Context,
+    args: &[Value],
+    reads: &mut Recorder,
+    steps: &mut Steps<L>,
+) -> Result<Value, EvalError>
+    ensures { Ran (as_text (text_or_own tree.now.nodes at.now args.now)) (shown result) reads.old reads.new steps.old steps.new }
+{
+    let text = text_or_own(alloc, tree, at, args, reads, steps)?;
+    Ok(Value::Chars(text))
+}
+
+/// `number`.
+fn number<L: Ledger>(
+    alloc: Global,
+    tree: &Tree,
+    at: &Context,
+    args: &[Value],
+    reads: &mut Recorder,
+    steps: &mut Steps<L>,
+) -> Result<Value, EvalError>
+    ensures { Ran (as_number (number_or_own tree.now.nodes at.now args.now)) (shown result) reads.old reads.new steps.old steps.new }
+{
+    let number = number_or_own(alloc, tree, at, args, reads, steps)?;
+    Ok(Value::Number(number))
+}
+
+/// `string-length`.
+fn length_of<L: Ledger>(
+    alloc: Global,
+    tree: &Tree,
+    at: &Context,
+    args: &[Value],
+    reads: &mut Recorder,
+    steps: &mut Steps<L>,
+) -> Result<Value, EvalError>
+    ensures { Ran (bind (text_or_own tree.now.nodes at.now args.now) (λ text. done (values.Number (string_length text)))) (shown result) reads.old reads.new steps.old steps.new }
+{
+    let text = text_or_own(alloc, tree, at, args, reads, steps)?;
+    Ok(Value::Number(string_length(text.as_str())))
+}
+
+/// `normalize-space`.
+fn normalized<L: Ledger>(
+    alloc: Global,
+    tree: &Tree,
+    at: &Context,
+    args: &[Value],
+    reads: &mut Recorder,
+    steps: &mut Steps<L>,
+) -> Result<Value, EvalError>
+    ensures { Ran (bind (text_or_own tree.now.nodes at.now args.now) (λ text. done (values.Chars (normalize_space text)))) (shown result) reads.old reads.new steps.old steps.new }
+{
+    let text = text_or_own(alloc, tree, at, args, reads, steps)?;
+    let text = normalize_space(alloc, text.as_str())?;
+    Ok(Value::Chars(text))
+}
+
+/// `lang`.
+fn is_in_language(
+    tree: &Tree,
+    n: NodeId,
+    wanted: &str,
+    reads: &mut Recorder,
+) -> Result<Value, EvalError>
+    ensures { (count : ℕ) → Ran (as_truth (in_language tree.now.nodes n wanted.now)) (shown result) reads.old reads.new count count }
+{
+    let truth = in_language(tree, n, wanted, reads)?;
+    Ok(Value::Truth(truth))
+}

@@ -1,0 +1,138 @@
+//! The arguments of calls.
+
+ghost use Rattle.std.specs.Prelude.{◌≡◌, Option, option_map};
+ghost use Rattle.std.specs.Option.{option_copied};
+ghost use Rattle.xp_meaning.specs.Functions.{wanted, text_then_numbers, text_of, number_of, argument, nodes_at, text_at, number_at, length_in, named_node};
+ghost use Rattle.xp_values.specs.Conversions.{to_truth};
+
+use doc_tree::NodeId;
+use xp_convert::{Want, nodes_of};
+use xp_meaning::Context;
+use xp_typed::Function;
+use xp_values::{Num, Value, to_truth};
+
+/// What the argument at a place, counted from 0, is converted to (XPath 1.0, sections 3.2 and 4).
+pub fn wanted(function: Function, place: usize) -> Want
+    ensures { result ≡ wanted function place }
+{
+    match function {
+        Function::Last => Want::AsItIs,
+        Function::Position => Want::AsItIs,
+        Function::Current => Want::AsItIs,
+        Function::Count => Want::AsItIs,
+        Function::Sum => Want::AsItIs,
+        Function::LocalName => Want::AsItIs,
+        Function::NamespaceUri => Want::AsItIs,
+        Function::Name => Want::AsItIs,
+        Function::String => Want::AsText,
+        Function::Number => Want::AsNumber,
+        Function::Boolean => Want::AsItIs,
+        Function::Not => Want::AsItIs,
+        Function::True => Want::AsItIs,
+        Function::False => Want::AsItIs,
+        Function::Concat => Want::AsText,
+        Function::StartsWith => Want::AsText,
+        Function::Contains => Want::AsText,
+        Function::SubstringBefore => Want::AsText,
+        Function::SubstringAfter => Want::AsText,
+        Function::Substring => text_then_numbers(place),
+        Function::StringLength => Want::AsText,
+        Function::NormalizeSpace => Want::AsText,
+        Function::Translate => Want::AsText,
+        Function::Lang => Want::AsText,
+        Function::Floor => Want::AsNumber,
+        Function::Ceiling => Want::AsNumber,
+        Function::Round => Want::AsNumber,
+    }
+}
+
+/// A text at the first place, and numbers at the others.
+fn text_then_numbers(place: usize) -> Want
+    ensures { result ≡ text_then_numbers place }
+{
+    if place == 0 {
+        Want::AsText
+    } else {
+        Want::AsNumber
+    }
+}
+
+/// The text of a value that is one, empty for others.
+pub(crate) fn text_of(value: &Value) -> &str
+    ensures { result.now ≡ text_of value.now }
+{
+    match value {
+        Value::Chars(text) => text.as_str(),
+        _ => "",
+    }
+}
+
+/// The number of a value that is one, NaN for others.
+pub(crate) fn number_of(value: &Value) -> Num
+    ensures { result ≡ number_of value.now }
+{
+    match value {
+        Value::Number(number) => *number,
+        _ => Num::NaN,
+    }
+}
+
+/// The nodes of the argument at a place, none where it is none.
+pub(crate) fn nodes_at(args: &[Value], place: usize) -> &[NodeId]
+    ensures { result.now ≡ nodes_at args.now place }
+{
+    match args.get(place) {
+        Some(value) => nodes_of(value),
+        None => &[],
+    }
+}
+
+/// The text of the argument at a place.
+pub(crate) fn text_at(args: &[Value], place: usize) -> &str
+    ensures { result.now ≡ text_at args.now place }
+{
+    match args.get(place) {
+        Some(value) => text_of(value),
+        None => "",
+    }
+}
+
+/// The number of the argument at a place.
+pub(crate) fn number_at(args: &[Value], place: usize) -> Num
+    ensures { result ≡ number_at args.now place }
+{
+    match args.get(place) {
+        Some(value) => number_of(value),
+        None => Num::NaN,
+    }
+}
+
+/// The truth of the argument at a place.
+pub(crate) fn truth_at(args: &[Value], place: usize) -> bool
+    ensures { result ≡ to_truth (argument args.now place) }
+{
+    match args.get(place) {
+        Some(value) => to_truth(value),
+        None => false,
+    }
+}
+
+/// The third argument of `substring`, where there is one.
+pub(crate) fn length_in(args: &[Value]) -> Option<Num>
+    ensures { result ≡ length_in args.now }
+{
+    match args.get(2) {
+        Some(value) => Some(number_of(value)),
+        None => None,
+    }
+}
+
+/// The node whose name is asked for: the first of the argument's nodes, or the context node without an argument.
+pub(crate) fn named_node(at: &Context, args: &[Value]) -> Option<NodeId>
+    ensures { result ≡ named_node at.now args.now }
+{
+    match args.first() {
+        Some(value) => nodes_of(value).first().copied(),
+        None => Some(at.node),
+    }
+}

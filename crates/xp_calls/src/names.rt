@@ -1,0 +1,71 @@
+//! The names of nodes (XPath 1.0, section 4.1).
+
+ghost use Rattle.std.specs.Prelude.{◌≡◌, ◌<◌, length, option_map, IfSome, IfOk};
+ghost use Rattle.doc_tree.specs.Table.{Name, name_of, numbered};
+ghost use Rattle.xp_meaning.specs.Names.{local_in, uri_in, written_in, qualified, name_at};
+
+use doc_tree::{NameId, NodeId, Tree};
+use sch_base::Text;
+use std::alloc::{AllocError, Global};
+
+/// The local part of the node's name, empty where there is none.
+pub(crate) fn local_name(alloc: Global, tree: &Tree, n: Option<NodeId>) -> Result<Text, AllocError>
+    ensures { IfOk result (λ text. text ≡ local_in (name_at tree.now.nodes n)) }
+{
+    match name_at(tree, n) {
+        Some(name) => Text::copy(alloc, tree.local_of(name)),
+        None => Text::copy(alloc, ""),
+    }
+}
+
+/// The namespace of the node's name, empty where there is none.
+pub(crate) fn namespace_uri(
+    alloc: Global,
+    tree: &Tree,
+    n: Option<NodeId>,
+) -> Result<Text, AllocError>
+    ensures { IfOk result (λ text. text ≡ uri_in (name_at tree.now.nodes n)) }
+{
+    match name_at(tree, n) {
+        Some(name) => Text::copy(alloc, tree.uri_of(name)),
+        None => Text::copy(alloc, ""),
+    }
+}
+
+/// The node's name as it is written, empty where there is none.
+pub(crate) fn written_name(
+    alloc: Global,
+    tree: &Tree,
+    n: Option<NodeId>,
+) -> Result<Text, AllocError>
+    ensures { IfOk result (λ text. text ≡ written_in (name_at tree.now.nodes n)) }
+{
+    match name_at(tree, n) {
+        Some(name) => qualified(alloc, tree.prefix_of(name), tree.local_of(name)),
+        None => Text::copy(alloc, ""),
+    }
+}
+
+/// The name of a node, where there is a node that has one.
+fn name_at(tree: &Tree, n: Option<NodeId>) -> Option<NameId>
+    ensures name { option_map (numbered tree.now.names) result ≡ name_at tree.now.nodes n }
+    ensures known { IfSome result (λ id. id < length tree.now.names) }
+{
+    match n {
+        Some(n) => tree.name(n),
+        None => None,
+    }
+}
+
+/// A name as it is written: the prefix, where there is one, a colon, and the local part.
+fn qualified(alloc: Global, prefix: &str, local: &str) -> Result<Text, AllocError>
+    ensures { IfOk result (λ text. text ≡ qualified prefix.now local.now) }
+{
+    if prefix.is_empty() {
+        return Text::copy(alloc, local);
+    }
+    let mut name = String::from_str(alloc, prefix)?;
+    name.push_str(":")?;
+    name.push_str(local)?;
+    Ok(Text::from(name))
+}
