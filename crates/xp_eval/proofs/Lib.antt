@@ -1,0 +1,4 @@
+pub mod Views
+pub mod Loops
+pub mod Runs
+pub mod DeadNodes

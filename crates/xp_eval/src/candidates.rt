@@ -1,0 +1,87 @@
+//! The candidates of steps: the nodes on an axis that pass a test (XPath 1.0, sections 2.2 and 2.3).
+
+ghost use Rattle.std.specs.Prelude.{◌≡◌, ◌∷◌, [], ◌++◌, ℕ, true, filter, IfOk, OnOk, if◌then◌else◌};
+ghost use Rattle.doc_tree.specs.Lists.{mem};
+ghost use Rattle.doc_tree.specs.Table.{is_live};
+ghost use Rattle.doc_axes.specs.Axes.{axis_nodes};
+ghost use Rattle.doc_axes.specs.NodeTests.{passes};
+ghost use Rattle.xp_outcome.specs.Running.{Ran};
+ghost use Rattle.xp_convert.specs.Results.{shown_alloc};
+ghost use Rattle.xp_meaning.specs.Paths.{candidates};
+
+use doc_axes::{axis_nodes, passes};
+use doc_tree::{Axis, NodeId, NodeList, NodeTest, Tree};
+use sch_base::ItemList;
+use std::alloc::{AllocError, Global};
+use std::sync::ledger::Ledger;
+use xp_convert::read_axis;
+use xp_outcome::{Recorder, Steps};
+
+/// The nodes on the axis from a node that pass the test, in the axis's own order. Records what the axis looks at, and
+/// counts a step for the node and one for each node on its axis.
+pub(crate) fn candidates<L: Ledger>(
+    alloc: Global,
+    tree: &Tree,
+    axis: Axis,
+    test: &NodeTest,
+    n: NodeId,
+    reads: &mut Recorder,
+    steps: &mut Steps<L>,
+) -> Result<NodeList, AllocError>
+    ensures { Ran (candidates tree.now.nodes axis test.now n) (shown_alloc result) reads.old reads.new steps.old steps.new }
+{
+    read_axis(tree, axis, n, reads)?;
+    let nodes = nodes_on_axis(alloc, tree, axis, n)?;
+    steps.tick();
+    steps.tick_times(nodes.len());
+    passing(alloc, tree, axis, test, nodes.as_slice())
+}
+
+/// The nodes on the axis; none from a number at which no node lives.
+fn nodes_on_axis(alloc: Global, tree: &Tree, axis: Axis, n: NodeId) -> Result<NodeList, AllocError>
+    ensures nodes { IfOk result (λ nodes. nodes ≡ axis_nodes tree.now.nodes axis n) }
+    ensures live { IfOk result (λ nodes. (m : ℕ) → mem m nodes ≡ true → is_live tree.now.nodes m ≡ true) }
+{
+    tree.laws();
+    tree.scope_laws();
+    if tree.contains(n) {
+        axis_nodes(alloc, tree, n, axis)
+    } else {
+        Ok(ItemList::new(alloc))
+    }
+}
+
+/// Those of some live nodes that pass the test.
+fn passing(
+    alloc: Global,
+    tree: &Tree,
+    axis: Axis,
+    test: &NodeTest,
+    nodes: &[NodeId],
+) -> Result<NodeList, AllocError>
+    requires { (m : ℕ) → mem m nodes.now ≡ true → is_live tree.now.nodes m ≡ true }
+    ensures { IfOk result (λ found. found ≡ filter (passes tree.now.nodes axis test.now) nodes.now) }
+{
+    let mut found = ItemList::new(alloc);
+    for n in nodes {
+        push_passing(&mut found, tree, axis, test, *n)?;
+    }
+    Ok(found)
+}
+
+/// Puts a live node at the end of the list, if it passes the test.
+fn push_passing(
+    list: &mut NodeList,
+    tree: &Tree,
+    axis: Axis,
+    test: &NodeTest,
+    n: NodeId,
+) -> Result<(), AllocError>
+    requires { is_live tree.now.nodes n ≡ true }
+    ensures { OnOk result (list.new ≡ list.old ++ (if passes tree.now.nodes axis test.now n then n ∷ [] else [])) }
+{
+    if passes(tree, n, axis, test) {
+        list.push(n)?;
+    }
+    Ok(())
+}

@@ -1,0 +1,103 @@
+//! The choice of nodes by the values of predicates (XPath 1.0, section 2.4), and of sets of nodes.
+
+ghost use Rattle.std.specs.Prelude.{◌≡◌, ◌∷◌, [], ◌++◌, length, flat_map, IfOk, OnOk};
+ghost use Rattle.doc_axes.specs.Sets.{in_order};
+ghost use Rattle.xp_convert.specs.Conversions.{nodes_of};
+ghost use Rattle.xp_eval.specs.Wants.{wanted_by};
+ghost use Rattle.xp_meaning.specs.Paths.{chosen, holds_at};
+
+use doc_axes::in_document_order;
+use doc_tree::{NodeId, NodeList, Tree};
+use sch_base::ItemList;
+use std::alloc::{AllocError, Global};
+use xp_calls::wanted;
+use xp_convert::{Want, nodes_of};
+use xp_typed::Function;
+use xp_values::{Num, Value, to_truth};
+
+/// Whether a predicate holds at a position: a number where it is the position, another value by its truth.
+fn holds_at(position: u32, value: &Value) -> bool
+    ensures { result ≡ holds_at position value.now }
+{
+    match value {
+        Value::Number(Num::Whole(whole)) => *whole == i64::from(position),
+        Value::Number(Num::NaN) => false,
+        _ => to_truth(value),
+    }
+}
+
+/// Puts the node at the end of the list, if the predicate's value lets it stay.
+pub(crate) fn push_chosen(
+    list: &mut NodeList,
+    position: u32,
+    n: NodeId,
+    value: &Value,
+) -> Result<(), AllocError>
+    ensures { OnOk result (list.new ≡ list.old ++ chosen position n value.now) }
+{
+    if holds_at(position, value) {
+        list.push(n)?;
+    }
+    Ok(())
+}
+
+/// How many nodes there are, as the size of a context. A list with more nodes than a size counts, which no tree has, is
+/// as if memory were wanting.
+pub(crate) fn size_of(nodes: &[NodeId]) -> Result<u32, AllocError>
+    ensures { IfOk result (λ size. size ≡ length nodes.now) }
+{
+    match u32::try_from(nodes.len()) {
+        Ok(size) => Ok(size),
+        Err(_) => Err(AllocError),
+    }
+}
+
+/// Puts nodes at the end of the list.
+pub(crate) fn push_all(list: &mut NodeList, nodes: &[NodeId]) -> Result<(), AllocError>
+    ensures { OnOk result (list.new ≡ list.old ++ nodes.now) }
+{
+    for n in nodes {
+        list.push(*n)?;
+    }
+    Ok(())
+}
+
+/// The union of the node-sets among some values, in document order.
+pub(crate) fn union_of(alloc: Global, tree: &Tree, values: &[Value]) -> Result<NodeList, AllocError>
+    ensures { IfOk result (λ nodes. nodes ≡ in_order tree.now.nodes (flat_map nodes_of values.now)) }
+{
+    let mut all = ItemList::new(alloc);
+    for value in values {
+        push_all(&mut all, nodes_of(value))?;
+    }
+    in_document_order(alloc, tree, &all)
+}
+
+/// The nodes of a node-set, none of another value, as a list of its own.
+pub(crate) fn nodes_in(alloc: Global, value: Value) -> NodeList
+    ensures { result ≡ nodes_of value }
+{
+    match value {
+        Value::NodeSet(nodes) => nodes,
+        _ => ItemList::new(alloc),
+    }
+}
+
+/// The list of one node.
+pub(crate) fn one_node(alloc: Global, n: NodeId) -> Result<NodeList, AllocError>
+    ensures { IfOk result (λ nodes. nodes ≡ n ∷ []) }
+{
+    let mut nodes = ItemList::new(alloc);
+    nodes.push(n)?;
+    Ok(nodes)
+}
+
+/// What the operand at a place is converted to: an argument as its function wants it, an operand of a union not at all.
+pub(crate) fn wanted_by(function: Option<Function>, place: usize) -> Want
+    ensures { result ≡ wanted_by function place }
+{
+    match function {
+        Some(function) => wanted(function, place),
+        None => Want::AsItIs,
+    }
+}

@@ -1,0 +1,12 @@
+//! The evaluation of expressions of XPath 1.0: values or first faults, with what is read and counted on the way.
+#![tactic(auto)]
+
+mod calling;
+mod candidates;
+mod choosing;
+mod evaluating;
+mod variables;
+
+pub use calling::{eval, step_at};
+pub use xp_meaning::{Context, Lets};
+pub use xp_outcome::{Recorder, Steps};

@@ -1,0 +1,64 @@
+//! The values of variables.
+
+ghost use Rattle.std.specs.Prelude.{◌≡◌, ℕ, IfOk};
+ghost use Rattle.xp_values.specs.Outcomes.{Gives};
+ghost use Rattle.xp_outcome.specs.Outcome.{reading, variable};
+ghost use Rattle.xp_outcome.specs.Running.{Ran};
+ghost use Rattle.xp_outcome.specs.Slots.{in_slot};
+ghost use Rattle.xp_convert.specs.Results.{shown};
+ghost use Rattle.xp_meaning.specs.Evaluation.{slot_value};
+
+use crate::choosing::push_all;
+use doc_tree::NodeList;
+use sch_base::{ItemList, Text};
+use std::alloc::{AllocError, Global};
+use xp_meaning::Lets;
+use xp_outcome::Recorder;
+use xp_values::{EvalError, EvalFault, Value};
+
+/// The value or the fault that the slot of a variable holds; the slot is recorded.
+pub(crate) fn variable(
+    alloc: Global,
+    lets: &Lets,
+    slot: u32,
+    reads: &mut Recorder,
+) -> Result<Value, EvalError>
+    ensures { (count : ℕ) → Ran (reading (variable slot) (slot_value (in_slot lets.now slot))) (shown result) reads.old reads.new count count }
+{
+    reads.add_let(slot)?;
+    match lets.get(slot) {
+        Some(held) => held_in(alloc, held),
+        None => Ok(Value::NodeSet(ItemList::new(alloc))),
+    }
+}
+
+/// What a slot holds: a value, of which a copy is made, or a fault.
+fn held_in(alloc: Global, held: &Result<Value, EvalFault>) -> Result<Value, EvalError>
+    ensures { Gives result held.now }
+{
+    match held {
+        Ok(value) => Ok(copied(alloc, value)?),
+        Err(fault) => Err(EvalError::Fault(*fault)),
+    }
+}
+
+/// The same value once more.
+fn copied(alloc: Global, value: &Value) -> Result<Value, AllocError>
+    ensures { IfOk result (λ v. v ≡ value.now) }
+{
+    match value {
+        Value::NodeSet(nodes) => Ok(Value::NodeSet(copied_nodes(alloc, nodes)?)),
+        Value::Truth(truth) => Ok(Value::Truth(*truth)),
+        Value::Number(number) => Ok(Value::Number(*number)),
+        Value::Chars(text) => Ok(Value::Chars(Text::copy(alloc, text.as_str())?)),
+    }
+}
+
+/// The same nodes once more.
+fn copied_nodes(alloc: Global, nodes: &NodeList) -> Result<NodeList, AllocError>
+    ensures { IfOk result (λ list. list ≡ nodes.now) }
+{
+    let mut list = ItemList::new(alloc);
+    push_all(&mut list, nodes.as_slice())?;
+    Ok(list)
+}
