@@ -1,13 +1,14 @@
 //! The choice of nodes by the values of predicates (XPath 1.0, section 2.4), and of sets of nodes.
 
-ghost use Rattle.std.specs.Prelude.{◌≡◌, ◌∷◌, [], ◌++◌, length, flat_map, IfOk, OnOk};
+ghost use Rattle.std.specs.Prelude.{◌≡◌, ◌∷◌, [], ◌++◌, false, length, flat_map, IfOk, IfSome, OnOk};
+ghost use Rattle.doc_axes.specs.Axes.{is_reverse};
 ghost use Rattle.doc_axes.specs.Sets.{in_order};
 ghost use Rattle.xp_convert.specs.Conversions.{nodes_of};
 ghost use Rattle.xp_eval.specs.Wants.{wanted_by};
 ghost use Rattle.xp_meaning.specs.Paths.{chosen, holds_at};
 
 use doc_axes::in_document_order;
-use doc_tree::{NodeId, NodeList, Tree};
+use doc_tree::{Axis, NodeId, NodeList, Tree};
 use sch_base::ItemList;
 use std::alloc::{AllocError, Global};
 use xp_calls::wanted;
@@ -49,6 +50,30 @@ pub(crate) fn size_of(nodes: &[NodeId]) -> Result<u32, AllocError>
     match u32::try_from(nodes.len()) {
         Ok(size) => Ok(size),
         Err(_) => Err(AllocError),
+    }
+}
+
+/// Whether the axis runs backwards (XPath 1.0, section 2.4).
+fn runs_backwards(axis: Axis) -> bool
+    ensures { result ≡ is_reverse axis }
+{
+    matches!(
+        axis,
+        Axis::Ancestor | Axis::AncestorOrSelf | Axis::Preceding | Axis::PrecedingSibling
+    )
+}
+
+/// The one node of a set, where there is one alone and the axis runs forward: a step from it selects its nodes in
+/// document order already.
+pub(crate) fn alone(axis: Axis, nodes: &[NodeId]) -> Option<NodeId>
+    ensures { IfSome result (λ n. (nodes.now ≡ n ∷ []) × (is_reverse axis ≡ false)) }
+{
+    if runs_backwards(axis) {
+        return None;
+    }
+    match nodes {
+        [n] => Some(*n),
+        _ => None,
     }
 }
 

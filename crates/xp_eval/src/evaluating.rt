@@ -13,7 +13,9 @@ ghost use Rattle.xp_eval.specs.Steps.{step_meant};
 ghost use Rattle.xp_eval.specs.Wants.{wanted_by};
 
 use crate::candidates::candidates;
-use crate::choosing::{nodes_in, one_node, push_all, push_chosen, size_of, union_of, wanted_by};
+use crate::choosing::{
+    alone, nodes_in, one_node, push_all, push_chosen, size_of, union_of, wanted_by,
+};
 use crate::variables::variable;
 use doc_axes::in_document_order;
 use doc_tree::{NodeId, NodeList, Tree};
@@ -280,6 +282,10 @@ fn step_set<L: Ledger>(
 ) -> Result<NodeList, EvalError>
     ensures { Ran (step_from tree.now.nodes (step_meant tree.now.nodes lets.now step.now) current nodes.now) (shown result) reads.old reads.new steps.old steps.new }
 {
+    tree.laws();
+    if let Some(n) = alone(step.axis, nodes) {
+        return step_nodes(alloc, tree, lets, step, current, n, reads, steps);
+    }
     let mut selected = ItemList::new(alloc);
     for n in nodes {
         let found = step_nodes(alloc, tree, lets, step, current, *n, reads, steps)?;

@@ -14,6 +14,7 @@ use Rattle.xp_meaning.specs.Functions.{applied}
 use Rattle.xp_meaning.specs.Evaluation.{meaning, meanings}
 use Rattle.xp_eval.specs.Steps.{step_meant}
 use Rattle.xp_eval.specs.Wants.{wanted_by}
+use Rattle.xp_eval.proofs.Alone.{step_alone}
 use Rattle.xp_eval.proofs.Loops.{some_true-next, some_true-end, all_true-next, all_true-end, filtered-next, filtered-end, compared-next, compared-end, combined-next, combined-end, path-next, path-end}
 use Rattle.xp_eval.proofs.Runs.{onto_goes, onto_stops, chosen_yes, chosen_no, gather_goes, gather_stops, gather_ends, gather_begins, gather_begins_alone, ran_given_fault, ran_given_ok, placed_is}
 use Rattle.xp_eval.proofs.Views.{view-Or, view-And, view-Compare, view-Arith, view-Negate, view-Union, view-Path, view-Filter, view-Variable, view-Literal, view-Number, view-Call, view-Root, view-Here, view-From}
@@ -122,6 +123,10 @@ path_nodes-loop-step-preserved g t c =
 pub path_nodes-returns : goal.path_nodes-returns
 path_nodes-returns g t c =
     onto_done (onto_alike (path-end c.args.tree.now.nodes c.args.lets.now c.args.path_steps.now c.loop-step.step-index c.args.current c.loop-step.nodes c.loop-step-test.false) c.loop-step.invariant)
+
+pub step_set-returns-in-Some : goal.step_set-returns-in-Some
+step_set-returns-in-Some g t c =
+    ran_alike (ap (λ ns. step_from c.args.tree.now.nodes (step_meant c.args.tree.now.nodes c.args.lets.now c.args.step.now) c.args.current ns) c.in-Some.ensures.0 ∙ step_alone c.args.tree.now.nodes c.laws.ensures.ordered (step_meant c.args.tree.now.nodes c.args.lets.now c.args.step.now) c.in-Some.ensures.1 c.args.current c.in-Some.n) c.step_nodes.ensures
 
 pub step_set-loop-n-init : goal.step_set-loop-n-init
 step_set-loop-n-init g t c =
