@@ -14,41 +14,48 @@ use Rattle.xp_grammar.proofs.Finds.{fault_at_token, fault_over_limit, fault_at_e
 use Rattle.xp_parse.specs.declared.stop.Stop.{Stop}
 use Rattle.xp_parse.specs.declared.stop.Stop.TheVariants as stop
 use Rattle.xp_parse.specs.declared.error.ParseError.{ParseError}
+use Rattle.xp_parse.specs.declared.error.ParseError.TheVariants as error
 use Rattle.xp_parse.specs.Places.{IsFirst}
 use Rattle.xp_parse.specs.Parsing.{Stuck, OperandFails, ChainRead}
-use Rattle.xp_parse.specs.Whole.{Faults, OnlyIfNoMemory, IsWhole, at_end_fault}
+use Rattle.xp_parse.specs.Whole.{Faults, OnlyIfNoMemory, IsWhole, at_end_fault, stopped_fault}
 use Rattle.xp_parse.proofs.Paths.{no_operator, fresh_start}
 use Rattle.xp_parse.proofs.Primaries.{unclosed_top}
 
-at_stop : (tokens rest : List Placed) (why why' : Stop) → why ≡ why' → OnlyIfNoMemory why (Stuck 64 (want true 0 false) [] tokens rest why) →
-    OnlyIfNoMemory why' (Stuck 64 (want true 0 false) [] tokens rest why')
-at_stop tokens rest why why' is x = subst (λ w. OnlyIfNoMemory w (Stuck 64 (want true 0 false) [] tokens rest w)) is x
+-- the fault by the reason and the place
+pub nested_is : (rest : List Placed) (whole : Bool) (end offset : ℕ) (why : Stop) → why ≡ stop.TooNested → offset ≡ offset_at rest →
+    error.Fault (record { kind = kind.TooNested; offset = offset }) ≡ stopped_fault why rest whole end
+nested_is rest whole end offset why is at =
+    ap (λ o. error.Fault (record { kind = kind.TooNested; offset = o })) at ∙ ap (λ w. stopped_fault w rest whole end) (sym is)
 
-pub nested_fault : (tokens rest : List Placed) (whole : Bool) (end offset : ℕ) (why : Stop) → why ≡ stop.TooNested → offset ≡ offset_at rest →
-    OnlyIfNoMemory why (Stuck 64 (want true 0 false) [] tokens rest why) → IsFirstFault 64 tokens whole end kind.TooNested offset
-nested_fault tokens rest whole end offset why is at x =
-    let s = at_stop tokens rest why stop.TooNested is x tt in
-    let q = s.cause in
-    subst (λ o. IsFirstFault 64 tokens whole end kind.TooNested o) (sym (at ∙ ap offset_at q.is))
-    (fault_over_limit 64 tokens whole end s.mode s.stack q.placed q.rest (s.reaches ∙ ap (halt 64 s.mode s.stack) q.is) q.limited)
+pub token_is : (rest : List Placed) (whole : Bool) (end offset : ℕ) (t : Token) (why : Stop) → why ≡ stop.Unexpected → IsFirst t rest →
+    offset ≡ offset_at rest → error.Fault (record { kind = kind.Unexpected; offset = offset }) ≡ stopped_fault why rest whole end
+token_is rest whole end offset t why is f at =
+    ap (λ o. error.Fault (record { kind = kind.Unexpected; offset = o })) (at ∙ ap offset_at f.is)
+    ∙ ap (λ v. stopped_fault stop.Unexpected v whole end) (sym f.is) ∙ ap (λ w. stopped_fault w rest whole end) (sym is)
 
-pub token_fault : (tokens rest : List Placed) (whole : Bool) (end offset : ℕ) (t : Token) (why : Stop) → why ≡ stop.Unexpected → IsFirst t rest →
-    offset ≡ offset_at rest → OnlyIfNoMemory why (Stuck 64 (want true 0 false) [] tokens rest why) → IsFirstFault 64 tokens whole end kind.Unexpected offset
-token_fault tokens rest whole end offset t why is f at x =
-    let s = at_stop tokens rest why stop.Unexpected is x tt in
-    subst (λ o. IsFirstFault 64 tokens whole end kind.Unexpected o) (sym (at ∙ ap offset_at f.is))
-    (fault_at_token 64 tokens whole end s.mode s.stack f.placed f.rest (s.reaches ∙ ap (halt 64 s.mode s.stack) f.is) (s.cause.at_token f.placed f.rest f.is))
+pub end_is : (rest : List Placed) (whole : Bool) (end : ℕ) (f : SyntaxFault) (why : Stop) → why ≡ stop.Unexpected → rest ≡ [] →
+    f ≡ at_end_fault whole end → error.Fault f ≡ stopped_fault why rest whole end
+end_is rest whole end f why is none fault =
+    ap error.Fault fault ∙ ap (λ v. stopped_fault stop.Unexpected v whole end) (sym none) ∙ ap (λ w. stopped_fault w rest whole end) (sym is)
 
-end_fault : (tokens rest : List Placed) (whole : Bool) (end : ℕ) → rest ≡ [] → Stuck 64 (want true 0 false) [] tokens rest stop.Unexpected →
+end_fault : (tokens : List Placed) (whole : Bool) (end : ℕ) → Stuck 64 (want true 0 false) [] tokens [] stop.Unexpected →
     IsFirstFault 64 tokens whole end (at_end_fault whole end).kind (at_end_fault whole end).offset
-end_fault tokens rest true end none s = fault_at_end 64 tokens end s.mode s.stack (s.reaches ∙ ap (halt 64 s.mode s.stack) none) (s.cause.at_end none)
-end_fault tokens rest false end none s = fault_no_token 64 tokens end s.mode s.stack (s.reaches ∙ ap (halt 64 s.mode s.stack) none)
+end_fault tokens true end s = fault_at_end 64 tokens end s.mode s.stack s.reaches (s.cause.at_end refl)
+end_fault tokens false end s = fault_no_token 64 tokens end s.mode s.stack s.reaches
 
-pub ended_fault : (tokens rest : List Placed) (whole : Bool) (end : ℕ) (f : SyntaxFault) (why : Stop) → why ≡ stop.Unexpected → rest ≡ [] →
-    f ≡ at_end_fault whole end → OnlyIfNoMemory why (Stuck 64 (want true 0 false) [] tokens rest why) → IsFirstFault 64 tokens whole end f.kind f.offset
-ended_fault tokens rest whole end f why is none fault x =
-    subst (λ g. IsFirstFault 64 tokens whole end g.kind g.offset) (sym fault)
-    (end_fault tokens rest whole end none (at_stop tokens rest why stop.Unexpected is x tt))
+-- where the machine stands is the first fault
+stuck_fault : (tokens rest : List Placed) (whole : Bool) (end : ℕ) (why : Stop) → OnlyIfNoMemory why (Stuck 64 (want true 0 false) [] tokens rest why) →
+    Faults 64 tokens whole end (stopped_fault why rest whole end)
+stuck_fault tokens rest whole end stop.Memory x = tt
+stuck_fault tokens rest whole end stop.TooNested x =
+    let s = x tt in
+    let q = s.cause in
+    subst (λ o. IsFirstFault 64 tokens whole end kind.TooNested o) (sym (ap offset_at q.is))
+    (fault_over_limit 64 tokens whole end s.mode s.stack q.placed q.rest (s.reaches ∙ ap (halt 64 s.mode s.stack) q.is) q.limited)
+stuck_fault tokens [] whole end stop.Unexpected x = end_fault tokens whole end (x tt)
+stuck_fault tokens (p ∷ rest) whole end stop.Unexpected x =
+    let s = x tt in
+    fault_at_token 64 tokens whole end s.mode s.stack p rest s.reaches (s.cause.at_token p rest refl)
 
 -- a whole expression with more behind it
 pub more_behind : (tokens rest : List Placed) (e : Tree) (t : Token) → ChainRead 64 level.Or 0 tokens rest e → IsFirst t rest →
@@ -63,14 +70,14 @@ more_behind tokens rest e t r f = record {
   };
 }
 
-pub cut_behind : (tokens rest : List Placed) (whole : Bool) (end : ℕ) (f : SyntaxFault) (e : Tree) → ChainRead 64 level.Or 0 tokens rest e → rest ≡ [] → whole ≡ false →
-    f ≡ at_end_fault whole end → IsFirstFault 64 tokens whole end f.kind f.offset
-cut_behind tokens rest whole end f e r none cut fault =
+pub cut_behind : (tokens rest : List Placed) (whole : Bool) (end : ℕ) (e : Tree) → ChainRead 64 level.Or 0 tokens rest e → rest ≡ [] → whole ≡ false →
+    Faults 64 tokens whole end (stopped_fault stop.Unexpected rest whole end)
+cut_behind tokens rest whole end e r none cut =
     let to : halt 64 (want true 0 false) [] tokens ≡ halt 64 (after r.reads.ending) [] [] =
     r.reads.halts true 0 false [] refl ∙ ap (halt 64 (after r.reads.ending) []) none in
-    let same : f ≡ at_end_fault false end = fault ∙ ap (λ b. at_end_fault b end) cut in
-    subst (λ g. IsFirstFault 64 tokens whole end g.kind g.offset) (sym same)
-    (subst (λ b. IsFirstFault 64 tokens b end kind.BadToken end) (sym cut) (fault_no_token 64 tokens end (after r.reads.ending) [] to))
+    let fault : Faults 64 tokens false end (stopped_fault stop.Unexpected [] false end) = fault_no_token 64 tokens end (after r.reads.ending) [] to in
+    subst (λ b. Faults 64 tokens b end (stopped_fault stop.Unexpected rest b end)) (sym cut)
+    (subst (λ v. Faults 64 tokens false end (stopped_fault stop.Unexpected v false end)) (sym none) fault)
 
 pub whole_read : (tokens rest : List Placed) (whole : Bool) (e : Tree) → ChainRead 64 level.Or 0 tokens rest e → rest ≡ [] → whole ≡ true → IsWhole whole tokens e
 whole_read tokens rest whole e r none all = record {
@@ -78,17 +85,25 @@ whole_read tokens rest whole e r none all = record {
   spells = subst (λ u. IsChain 64 level.Or 0 tokens u e) none r.derives;
 }
 
+-- the same for an answer that is that fault
+answered : (tokens s : List Placed) (whole : Bool) (end : ℕ) (out fault : ParseError) → s ≡ tokens → out ≡ fault → Faults 64 s whole end fault →
+    Faults 64 tokens whole end out
+answered tokens s whole end out fault is same x =
+    subst (λ t. Faults 64 t whole end out) is (subst (λ o. Faults 64 s whole end o) (sym same) x)
+
 pub failed : (tokens s rest : List Placed) (whole : Bool) (end : ℕ) (why : Stop) (out : ParseError) → s ≡ tokens → OperandFails 64 level.Or 0 s rest why →
-    ((t : List Placed) → OnlyIfNoMemory why (Stuck 64 (want true 0 false) [] t rest why) → Faults 64 t whole end out) → Faults 64 tokens whole end out
-failed tokens s rest whole end why out is f h =
-    subst (λ t. Faults 64 t whole end out) is (h s (λ nm. (f.from true 0 false (fresh_start level.Or s (λ t. tt))).stuck nm [] refl))
+    out ≡ stopped_fault why rest whole end → Faults 64 tokens whole end out
+failed tokens s rest whole end why out is f same =
+    answered tokens s whole end out (stopped_fault why rest whole end) is same
+    (stuck_fault s rest whole end why (λ nm. (f.from true 0 false (fresh_start level.Or s (λ t. tt))).stuck nm [] refl))
 
 pub more_failed : (tokens s rest : List Placed) (whole : Bool) (end : ℕ) (out : ParseError) (e : Tree) (t : Token) → s ≡ tokens → ChainRead 64 level.Or 0 s rest e →
-    IsFirst t rest → ((t : List Placed) → OnlyIfNoMemory stop.Unexpected (Stuck 64 (want true 0 false) [] t rest stop.Unexpected) → Faults 64 t whole end out) →
-    Faults 64 tokens whole end out
-more_failed tokens s rest whole end out e t is r f h = subst (λ x. Faults 64 x whole end out) is (h s (λ _. more_behind s rest e t r f))
+    IsFirst t rest → out ≡ stopped_fault stop.Unexpected rest whole end → Faults 64 tokens whole end out
+more_failed tokens s rest whole end out e t is r f same =
+    answered tokens s whole end out (stopped_fault stop.Unexpected rest whole end) is same
+    (stuck_fault s rest whole end stop.Unexpected (λ _. more_behind s rest e t r f))
 
-pub cut_failed : (tokens s rest : List Placed) (whole : Bool) (end : ℕ) (f : SyntaxFault) (e : Tree) → s ≡ tokens → ChainRead 64 level.Or 0 s rest e → rest ≡ [] → whole ≡ false →
-    f ≡ at_end_fault whole end → IsFirstFault 64 tokens whole end f.kind f.offset
-cut_failed tokens s rest whole end f e is r none cut fault =
-    subst (λ x. IsFirstFault 64 x whole end f.kind f.offset) is (cut_behind s rest whole end f e r none cut fault)
+pub cut_failed : (tokens s rest : List Placed) (whole : Bool) (end : ℕ) (out : ParseError) (e : Tree) → s ≡ tokens → ChainRead 64 level.Or 0 s rest e → rest ≡ [] → whole ≡ false →
+    out ≡ stopped_fault stop.Unexpected rest whole end → Faults 64 tokens whole end out
+cut_failed tokens s rest whole end out e is r none cut same =
+    answered tokens s whole end out (stopped_fault stop.Unexpected rest whole end) is same (cut_behind s rest whole end e r none cut)

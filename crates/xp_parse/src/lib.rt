@@ -8,6 +8,7 @@ mod parser;
 mod primary;
 mod steps;
 mod stop;
+mod stopped;
 mod whole;
 mod words;
 
@@ -15,7 +16,8 @@ pub use cursor::Cursor;
 pub use error::ParseError;
 pub use parser::Parser;
 pub use stop::Stop;
-pub use whole::{fault_at_end, parse_tokens};
+pub use stopped::fault_of;
+pub use whole::parse_tokens;
 
 #[cfg(test)]
 mod tests;

@@ -1,6 +1,6 @@
 //! Tests of the expressions that XPath 1.0 gives as examples in its sections 2 to 4.
 
-use crate::{Expr, parse_expr, print_expr};
+use crate::{Expr, MAX_EXPRESSION_BYTES, parse_expr, print_expr};
 use std::alloc::Global;
 use std::process::Abort;
 use std::test::Fail;
@@ -8,10 +8,10 @@ use std::test::Fail;
 /// Whether each of the texts is an expression, whose printed text is an expression that prints the same.
 fn stay(rt: &impl Abort, alloc: Global, texts: &[&str]) -> Result<(), Fail> {
     for text in texts {
-        assert!(rt; text.len() <= 65_536);
+        assert!(rt; text.len() <= MAX_EXPRESSION_BYTES);
         let printed = print_expr(alloc, &parse_expr(alloc, text)?)?;
         let again = printed.as_str();
-        assert!(rt; again.len() <= 65_536);
+        assert!(rt; again.len() <= MAX_EXPRESSION_BYTES);
         let twice = print_expr(alloc, &parse_expr(alloc, again)?)?;
         assert_eq!(rt; twice.as_str(), again);
     }
@@ -20,7 +20,7 @@ fn stay(rt: &impl Abort, alloc: Global, texts: &[&str]) -> Result<(), Fail> {
 
 /// Whether the text is short for the other one.
 fn means(rt: &impl Abort, alloc: Global, short: &str, full: &str) -> Result<(), Fail> {
-    assert!(rt; short.len() <= 65_536);
+    assert!(rt; short.len() <= MAX_EXPRESSION_BYTES);
     let printed = print_expr(alloc, &parse_expr(alloc, short)?)?;
     assert_eq!(rt; printed.as_str(), full);
     Ok(())

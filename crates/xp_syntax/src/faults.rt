@@ -1,12 +1,12 @@
 //! Tests of first faults.
 
-use crate::{ParseError, SyntaxFault, SyntaxKind, parse_expr};
+use crate::{MAX_EXPRESSION_BYTES, ParseError, SyntaxFault, SyntaxKind, parse_expr};
 use std::alloc::Global;
 use std::process::Abort;
 use std::test::Fail;
 
 fn refused(rt: &impl Abort, alloc: Global, text: &str, kind: SyntaxKind, offset: u32) {
-    assert!(rt; text.len() <= 65_536);
+    assert!(rt; text.len() <= MAX_EXPRESSION_BYTES);
     let fault = SyntaxFault { kind, offset };
     assert_eq!(rt;
         parse_expr(alloc, text).err(),
@@ -27,7 +27,7 @@ fn too_nested(rt: &impl Abort, alloc: Global, text: &str, offset: u32) {
 }
 
 fn accepted(rt: &impl Abort, alloc: Global, text: &str) {
-    assert!(rt; text.len() <= 65_536);
+    assert!(rt; text.len() <= MAX_EXPRESSION_BYTES);
     assert!(rt; parse_expr(alloc, text).is_ok());
 }
 

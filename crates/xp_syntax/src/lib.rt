@@ -8,6 +8,7 @@ pub use laws::{
     faulty_texts_spell_nothing, first_faults_are_unique, one_pattern_spelling, one_spelling,
 };
 pub use parse::{parse_expr, parse_pattern};
+pub use sch_base::MAX_EXPRESSION_BYTES;
 pub use xp_grammar::{SyntaxFault, SyntaxKind};
 pub use xp_parse::ParseError;
 pub use xp_print::print_expr;

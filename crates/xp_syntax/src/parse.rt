@@ -5,6 +5,7 @@ ghost use Rattle.xp_tree.specs.View.{tree_of};
 ghost use Rattle.xp_tree.specs.PatternTree.{pattern_of};
 ghost use Rattle.xp_syntax.specs.Syntax.{Spells, IsSyntaxFault, SpellsPattern, IsPatternFault, UnlessMemory};
 
+use sch_base::MAX_EXPRESSION_BYTES;
 use std::alloc::Global;
 use xp_lexicon::{tokenize, whole_texts_end};
 use xp_parse::{ParseError, parse_tokens};
@@ -16,7 +17,7 @@ use xp_tree::{Expr, Pattern};
 /// The text has at most 65,536 bytes. Brackets and signs nest at most 64 deep. An error is the first fault of the text,
 /// with the number of bytes before it, or want of memory. The time grows with the text's length.
 pub fn parse_expr(alloc: Global, text: &str) -> Result<Expr, ParseError>
-    requires { length text.now ≤ 65536 }
+    requires { length text.now ≤ MAX_EXPRESSION_BYTES }
     ensures { MatchResult result (λ e. Spells 64 text.now (tree_of e)) (UnlessMemory (IsSyntaxFault 64 text.now)) }
 {
     whole_texts_end();
@@ -29,7 +30,7 @@ pub fn parse_expr(alloc: Global, text: &str) -> Result<Expr, ParseError>
 /// The text has at most 65,536 bytes. Brackets and signs nest at most 64 deep. An error is the first fault of the text,
 /// with the number of bytes before it, or want of memory. The time grows with the text's length.
 pub fn parse_pattern(alloc: Global, text: &str) -> Result<Pattern, ParseError>
-    requires { length text.now ≤ 65536 }
+    requires { length text.now ≤ MAX_EXPRESSION_BYTES }
     ensures { MatchResult result (λ p. SpellsPattern 64 text.now (pattern_of p)) (UnlessMemory (IsPatternFault 64 text.now)) }
 {
     whole_texts_end();

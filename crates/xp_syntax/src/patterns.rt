@@ -1,13 +1,15 @@
 //! Match patterns: their trees, and their first faults.
 
-use super::{Join, ParseError, PatternStart, SyntaxFault, SyntaxKind, parse_pattern};
+use super::{
+    Join, MAX_EXPRESSION_BYTES, ParseError, PatternStart, SyntaxFault, SyntaxKind, parse_pattern,
+};
 use std::alloc::Global;
 use std::process::Abort;
 use std::test::Fail;
 
 /// Asserts the first fault of a text that is no pattern.
 fn no_pattern(rt: &impl Abort, alloc: Global, text: &str, kind: SyntaxKind, offset: u32) {
-    assert!(rt; text.len() <= 65_536);
+    assert!(rt; text.len() <= MAX_EXPRESSION_BYTES);
     let found = parse_pattern(alloc, text).err();
     let wanted = SyntaxFault { kind, offset };
     assert_eq!(rt; found, Some(ParseError::Fault(wanted)), "at {text}");

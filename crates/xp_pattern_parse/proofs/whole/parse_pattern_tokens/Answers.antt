@@ -8,4 +8,4 @@ pub returns-in-Some : goal.returns-in-Some
 returns-in-Some c = more_failed _ _ _ _ _ _ _ _ c.new.ensures c.in-Ok.ensures c.in-Some.ensures c.fault_of-in-Some.ensures
 
 pub returns-in-None-2 : goal.returns-in-None-2
-returns-in-None-2 c = cut_failed _ _ _ _ _ _ _ c.new.ensures c.in-Ok.ensures c.in-None-2.ensures c.if-whole.false c.fault_at_end.ensures
+returns-in-None-2 c = cut_failed _ _ _ _ _ _ _ c.new.ensures c.in-Ok.ensures c.in-None-2.ensures c.if-whole.false c.fault_of-in-None-2.ensures
