@@ -1,5 +1,5 @@
 -- Laws of evaluation, in the words of XPath 1.0.
-use Rattle.std.specs.Prelude.{◌≡◌, ℕ, suc, pos, ◌+◌, true, List, [], ◌∷◌, length, filter, Ok, slice_get}
+use Rattle.std.specs.Prelude.{◌≡◌, ℕ, suc, pos, ◌+◌, true, List, [], ◌∷◌, length, filter, Ok, slice_get, Some}
 use Rattle.std.specs.Option.{option_to_list}
 use Rattle.doc_tree.specs.declared.axes.Axis.{Axis}
 use Rattle.doc_tree.specs.declared.axes.Axis.TheVariants as axes
@@ -12,7 +12,9 @@ use Rattle.doc_axes.specs.NodeTests.{passes}
 use Rattle.doc_axes.specs.Sets.{IsNodeSet}
 use Rattle.xp_typed.specs.declared.function.Function.TheVariants.{Count}
 use Rattle.xp_typed.specs.TypedTree.{TypedTree, union, location, whole, application, at_context, no_more_steps, typed_step, no_typed, typed}
-use Rattle.xp_values.specs.declared.values.Value.TheVariants.{NodeSet}
+use Rattle.xp_outcome.specs.Slots.{in_slot}
+use Rattle.xp_values.specs.declared.values.Value.{Value}
+use Rattle.xp_values.specs.declared.values.Value.TheVariants.{NodeSet, Truth, Number, Chars}
 use Rattle.xp_meaning.specs.declared.context.Context.{Context}
 use Rattle.xp_meaning.specs.Paths.{Step, step_at}
 use Rattle.xp_meaning.specs.Functions.{counted}
@@ -43,3 +45,20 @@ abbrev pub DotIsContext : Table → Type 0
 DotIsContext T =
     (L : Lets) (c : Context) → is_live T c.node ≡ true →
     (meaning T L (location at_context (typed_step axes.SelfNode tests.Any no_typed no_more_steps)) c).answer ≡ Ok (NodeSet (c.node ∷ []))
+
+-- a value that is a node-set has live nodes in document order, each once
+abbrev pub IsProper : Table → Value → Type 0
+IsProper T (NodeSet nodes) = IsNodeSet T nodes
+IsProper T (Truth truth) = Unit {0}
+IsProper T (Number number) = Unit {0}
+IsProper T (Chars characters) = Unit {0}
+
+-- so are the values of the lets
+abbrev pub LetsAreProper : Table → Lets → Type 0
+LetsAreProper T L = (place : ℕ) (v : Value) → in_slot L place ≡ Some (Ok v) → IsProper T v
+
+-- then each expression's value is so too (section 3.3), wherever the context node and the rule's node live
+abbrev pub ValuesAreProper : Table → Type 0
+ValuesAreProper T =
+    (L : Lets) (t : TypedTree) (c : Context) (v : Value) → LetsAreProper T L → is_live T c.node ≡ true → is_live T c.current ≡ true →
+    (meaning T L t c).answer ≡ Ok v → IsProper T v

@@ -1,6 +1,6 @@
 //! Laws of evaluation, for the proofs of callers.
 
-ghost use Rattle.xp_meaning.specs.Laws.{NumberIsPosition, UnionCountsOnce, DotIsContext};
+ghost use Rattle.xp_meaning.specs.Laws.{NumberIsPosition, UnionCountsOnce, DotIsContext, ValuesAreProper};
 
 use doc_tree::Tree;
 
@@ -17,6 +17,13 @@ pub fn union_counts_once()
 /// `.` is the context node (XPath 1.0, section 2.5).
 pub fn dot_is_context(tree: &Tree)
     ensures { DotIsContext tree.now.nodes }
+{
+    tree.laws();
+}
+
+/// The node-sets among values are node-sets of the tree: live nodes in document order, each once.
+pub fn values_are_proper(tree: &Tree)
+    ensures { ValuesAreProper tree.now.nodes }
 {
     tree.laws();
 }

@@ -8,4 +8,4 @@ mod context;
 mod laws;
 
 pub use context::{Context, Lets};
-pub use laws::{dot_is_context, number_is_position, union_counts_once};
+pub use laws::{dot_is_context, number_is_position, union_counts_once, values_are_proper};
