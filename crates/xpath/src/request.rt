@@ -1,0 +1,28 @@
+//! What the words of the command line ask for.
+
+use crate::fault::Fault;
+
+/// The word that asks for the printed expression.
+const PRINT: &str = "--print";
+
+/// What the words ask for.
+#[derive(Clone, Copy, Debug)]
+pub(crate) enum Request<'w> {
+    /// The value of the expression over the document on standard input.
+    Value { expression: &'w str },
+    /// The expression without abbreviations.
+    Print { expression: &'w str },
+}
+
+/// What the words behind the program's name ask for.
+pub(crate) fn request_of(words: &[String]) -> Result<Request<'_>, Fault> {
+    match words {
+        [expression] => Ok(Request::Value {
+            expression: expression.as_str(),
+        }),
+        [option, expression] if option.as_str() == PRINT => Ok(Request::Print {
+            expression: expression.as_str(),
+        }),
+        _ => Err(Fault::Usage),
+    }
+}

@@ -1,0 +1,210 @@
+//! Documents whose nodes have names, and what expressions give on them.
+
+ghost use Rattle.std.specs.Prelude.{◌≡◌, false, IfOk};
+
+use crate::evaluation::{alone, checked, value_of};
+use crate::fault::Fault;
+use doc_tree::{Cell, NodeId, NodeList, Tree};
+use name_scopes::load_tree;
+use std::alloc::Global;
+use std::process::Abort;
+use std::test::Fail;
+use xp_eval::{Lets, Recorder};
+use xp_typed::ValueType;
+use xp_types::Env;
+use xp_values::{Num, Value};
+
+/// A document, its nodes in document order with their names, and the name and the value of its one variable.
+#[derive(Drop)]
+pub(crate) struct Sample {
+    pub(crate) alloc: Global,
+    pub(crate) tree: Tree,
+    nodes: NodeList,
+    names: &'static [&'static str],
+    lets: Lets,
+}
+
+/// A document of some bytes.
+fn load_sample(
+    rt: &impl Abort,
+    alloc: Global,
+    bytes: &[u8],
+    names: &'static [&'static str],
+) -> Result<Sample, Fail> {
+    assert!(rt; bytes.len() <= 16_777_216);
+    let tree = load_tree(alloc, bytes)?;
+    let nodes = tree.nodes_in_order(alloc)?;
+    assert_eq!(rt; nodes.len(), names.len());
+    let lets = Lets::new(alloc);
+    Ok(Sample {
+        alloc,
+        tree,
+        nodes,
+        names,
+        lets,
+    })
+}
+
+/// An element a with a b that has an attribute, and with a c that has two more.
+pub(crate) fn three_bs(rt: &impl Abort, alloc: Global) -> Result<Sample, Fail> {
+    let bytes = b"(a\n(b\nAx 1\n)b\n(c\n(b\n)b\n(b\n)b\n)c\n)a\n";
+    load_sample(
+        rt,
+        alloc,
+        bytes,
+        &["root", "a", "b1", "@x", "c", "b2", "b3"],
+    )
+}
+
+/// A p with an x between two texts.
+pub(crate) fn two_texts(rt: &impl Abort, alloc: Global) -> Result<Sample, Fail> {
+    let bytes = b"(p\n-ab\n(x\n)x\n-cd\n)p\n";
+    load_sample(rt, alloc, bytes, &["root", "p", "t1", "x", "t2"])
+}
+
+/// A note that holds `ok`, and a q; the variable x has the note.
+pub(crate) fn a_note(rt: &impl Abort, alloc: Global) -> Result<Sample, Fail> {
+    let bytes = b"(r\n(note\n-ok\n)note\n(q\n)q\n)r\n";
+    let mut sample = load_sample(rt, alloc, bytes, &["root", "r", "note", "t", "q"])?;
+    let mut note = NodeList::new(alloc);
+    note.push(node(rt, &sample, "note"))?;
+    sample.lets.set(0, Ok(Value::NodeSet(note)))?;
+    Ok(sample)
+}
+
+/// The node with a name.
+fn node(rt: &impl Abort, sample: &Sample, name: &str) -> NodeId {
+    for (found, node) in sample.names.iter().zip(sample.nodes.as_slice()) {
+        if *found == name {
+            return *node;
+        }
+    }
+    assert!(rt; false, "there is no {name}");
+    sample.tree.root()
+}
+
+/// A scope with the variable x.
+fn scope(alloc: Global) -> Result<Env, Fault>
+    ensures { IfOk result (λ env. env.in_pattern ≡ false) }
+{
+    let mut env = Env::new(alloc, false);
+    env.add_var("x", 0, ValueType::NodeSet)?;
+    Ok(env)
+}
+
+/// The value of an expression at a node that is the context alone.
+fn value_for(
+    sample: &Sample,
+    at: NodeId,
+    text: &str,
+    reads: &mut Recorder,
+) -> Result<Value, Fault> {
+    let alloc = sample.alloc;
+    let env = scope(alloc)?;
+    let expr = checked(alloc, text, &env)?;
+    value_of(alloc, &sample.tree, &expr, &alone(at), &sample.lets, reads)
+}
+
+/// What an expression gives at a node that is the context alone: its value, or its first fault.
+fn given(sample: &Sample, at: NodeId, text: &str, reads: &mut Recorder) -> Result<String, Fail> {
+    match value_for(sample, at, text, reads) {
+        Ok(value) => value_told(sample, &value),
+        Err(fault) => Ok(format!(in sample.alloc; "{fault}")?),
+    }
+}
+
+/// The value and its type.
+fn value_told(sample: &Sample, value: &Value) -> Result<String, Fail> {
+    let alloc = sample.alloc;
+    match value {
+        Value::NodeSet(nodes) => nodes_told(sample, nodes.as_slice()),
+        Value::Truth(truth) => Ok(format!(in alloc; "truth {truth}")?),
+        Value::Number(Num::NaN) => Ok(format!(in alloc; "number NaN")?),
+        Value::Number(Num::Whole(whole)) => Ok(format!(in alloc; "number {whole}")?),
+        Value::Chars(text) => Ok(format!(in alloc; "text '{}'", text.as_str())?),
+    }
+}
+
+/// The names of nodes, in the order of the nodes.
+fn nodes_told(sample: &Sample, nodes: &[NodeId]) -> Result<String, Fail> {
+    let mut told = String::from_str(sample.alloc, "nodes")?;
+    for wanted in nodes {
+        for (name, node) in sample.names.iter().zip(sample.nodes.as_slice()) {
+            if *node == *wanted {
+                told.push(' ')?;
+                told.push_str(name)?;
+            }
+        }
+    }
+    Ok(told)
+}
+
+/// The cells and the lets that were read, by nodes in document order, those of one node by their names.
+fn reads_told(sample: &Sample, reads: &Recorder) -> Result<String, Fail> {
+    let mut told = String::new(sample.alloc);
+    for (name, node) in sample.names.iter().zip(sample.nodes.as_slice()) {
+        for (word, cell) in cells_of(*node) {
+            if reads.cells().contains(&cell) {
+                add_read(&mut told, word, name)?;
+            }
+        }
+    }
+    if reads.lets().contains(&0) {
+        add_read(&mut told, "let", "x")?;
+    }
+    if told.is_empty() {
+        told.push_str("nothing")?;
+    }
+    Ok(told)
+}
+
+/// The cells that a node may have.
+fn cells_of(node: NodeId) -> [(&'static str, Cell); 5] {
+    [
+        ("Attrs", Cell::Attrs(node)),
+        ("Kids", Cell::Kids(node)),
+        ("Shape", Cell::Shape(node)),
+        ("Text", Cell::Text(node)),
+        ("Value", Cell::Value(node)),
+    ]
+}
+
+/// Adds what was read to a list.
+fn add_read(told: &mut String, word: &str, name: &str) -> Result<(), Fail> {
+    if !told.is_empty() {
+        told.push_str(", ")?;
+    }
+    told.push_str(word)?;
+    told.push(' ')?;
+    told.push_str(name)?;
+    Ok(())
+}
+
+/// Asserts what an expression gives at a node that is the context alone, and, where it is told, what is read for it.
+fn gives(rt: &impl Abort, sample: &Sample, at: &str, text: &str, wanted: &str) -> Result<(), Fail> {
+    let mut reads = Recorder::new(sample.alloc);
+    let found = given(sample, node(rt, sample, at), text, &mut reads)?;
+    match wanted.split_once(" reads ") {
+        Some((value, cells)) => {
+            assert_eq!(rt; found.as_str(), value, "at {text}");
+            let read = reads_told(sample, &reads)?;
+            assert_eq!(rt; read.as_str(), cells, "at {text}");
+        }
+        None => assert_eq!(rt; found.as_str(), wanted, "at {text}"),
+    }
+    Ok(())
+}
+
+/// Asserts each line of a table: a node, a colon, an expression, `=>`, its value, and perhaps `reads` with what is read.
+pub(crate) fn values_are(rt: &impl Abort, sample: &Sample, table: &str) -> Result<(), Fail> {
+    for line in table.lines() {
+        let Some((at, rest)) = line.split_once(": ") else {
+            return Err("a line without a node".into());
+        };
+        let Some((text, wanted)) = rest.split_once(" => ") else {
+            return Err("a line without `=>`".into());
+        };
+        gives(rt, sample, at, text, wanted)?;
+    }
+    Ok(())
+}

@@ -1,0 +1,56 @@
+//! The tool's one call, over a shelf and sinks.
+
+use crate::document::load_document;
+use crate::evaluation::{checked, told, unabbreviated, value_at};
+use crate::fault::Fault;
+use crate::request::{Request, request_of};
+use sch_base::Text;
+use sch_io::{Shelf, Sink, write_all, write_pieces};
+use std::alloc::Global;
+use xp_types::Env;
+
+/// Writes the answer to what the words behind the program's name ask for.
+///
+/// The document is read from the shelf's standard input. The expression is checked first, so that one with a fault
+/// asks for no document.
+pub(crate) fn run<S: Shelf, O: Sink>(
+    alloc: Global,
+    words: &[String],
+    shelf: &mut S,
+    out: &mut O,
+) -> Result<(), Fault> {
+    let answer = answer_to(alloc, request_of(words)?, shelf)?;
+    write_pieces(out, &[answer.as_str(), "\n"])?;
+    Ok(())
+}
+
+/// The answer to a request.
+fn answer_to<S: Shelf>(alloc: Global, request: Request<'_>, shelf: &mut S) -> Result<Text, Fault> {
+    match request {
+        Request::Print { expression } => unabbreviated(alloc, expression),
+        Request::Value { expression } => {
+            let expr = checked(alloc, expression, &Env::new(alloc, false))?;
+            let tree = load_document(alloc, shelf)?;
+            let value = value_at(alloc, &tree, &expr, tree.root())?;
+            told(alloc, &tree, &value)
+        }
+    }
+}
+
+/// Whether there was an answer; a fault is told by a line.
+pub(crate) fn conclude<E: Sink>(alloc: Global, done: Result<(), Fault>, err: &mut E) -> bool {
+    match done {
+        Ok(()) => true,
+        Err(fault) => {
+            let _ = tell(alloc, &fault, err);
+            false
+        }
+    }
+}
+
+/// Writes the line that tells a fault.
+fn tell<E: Sink>(alloc: Global, fault: &Fault, err: &mut E) -> Result<(), Fault> {
+    let line = format!(in alloc; "xpath: {fault}\n")?;
+    write_all(err, line.as_bytes())?;
+    Ok(())
+}
