@@ -1,5 +1,5 @@
 -- A machine that goes over the tokens of an expression, one at a time, without its tree: where it stops is the first
--- fault. It serves the proofs alone; no public clause names it.
+-- fault. It serves the proofs, and the clauses by which the parsers' own parts meet; no call of `xp_syntax` names it.
 use Rattle.std.specs.Prelude.{◌≡◌, ℕ, suc, ◌+◌, ◌<◌, nat_le, Bool, true, false, if◌then◌else◌, List, [], ◌∷◌, length, Option, None, Some}
 use Rattle.xp_tree.specs.declared.terms.Level.{Level}
 use Rattle.xp_tree.specs.declared.terms.Level.TheVariants as level
