@@ -2,6 +2,7 @@ pub mod Lists
 pub mod Table
 pub mod Numbering
 pub mod Names
+pub mod QNames
 pub mod Views
 pub mod Kinds
 pub mod Walks

@@ -16,7 +16,8 @@ use Rattle.pyx_core.specs.Nesting.{bare}
 use Rattle.doc_tree.specs.declared.limits.TheConstants.{MAX_DEPTH, MAX_LIVE_NODES}
 use Rattle.doc_tree.specs.Scope.{Decl, namespace_in}
 use Rattle.doc_tree.specs.Table.{Name, expanded}
-use Rattle.tree_write.specs.TreeText.{declaring_name, qname_of}
+use Rattle.doc_tree.specs.QNames.{qname_of}
+use Rattle.tree_write.specs.TreeText.{declaring_name}
 use Rattle.name_scopes.specs.declared.fault.DocKind.{DocKind}
 use Rattle.name_scopes.specs.declared.fault.DocKind.TheVariants.{TooManyNodes}
 use Rattle.name_scopes.specs.QNames.{prefix_part, local_part}

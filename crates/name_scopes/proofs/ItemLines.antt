@@ -9,7 +9,7 @@ use Rattle.pyx_core.specs.declared.event.Event.TheVariants as event
 use Rattle.doc_tree.specs.Lines.{Line, starts, declares, has_attribute, ends, has_text, has_comment, has_instruction}
 use Rattle.doc_tree.specs.Scope.{Decl}
 use Rattle.doc_tree.specs.Table.{Name}
-use Rattle.tree_write.specs.TreeText.{qname_of}
+use Rattle.doc_tree.specs.QNames.{qname_of}
 use Rattle.name_scopes.specs.QNames.{as_written, unprefixed}
 use Rattle.name_scopes.specs.Declarations.{declarations, plain_attrs}
 use Rattle.name_scopes.specs.ScopedTree.{attribute_line, event_lines, unscoped, written}

@@ -9,7 +9,7 @@ use Rattle.pyx_core.specs.Before.{is_nil}
 use Rattle.pyx_core.specs.Nesting.{Place, after, Nest, place_after, start, IsEnd}
 use Rattle.doc_tree.specs.Scope.{Decl}
 use Rattle.doc_tree.specs.Table.{Name}
-use Rattle.tree_write.specs.TreeText.{qname_of}
+use Rattle.doc_tree.specs.QNames.{qname_of}
 use Rattle.name_scopes.proofs.Items.{Items, nothing, an_element, a_text, a_comment, an_instruction, Pair, Fit, item_events, top_elements, top_texts}
 use Rattle.name_scopes.proofs.ItemNames.{spelled, tag-named}
 

@@ -8,7 +8,8 @@ use Rattle.doc_tree.specs.declared.limits.TheConstants.{MAX_DEPTH}
 use Rattle.doc_tree.specs.Lines.{Line, starts, declares, has_attribute, ends, has_text, has_comment, has_instruction}
 use Rattle.doc_tree.specs.Scope.{Decl}
 use Rattle.doc_tree.specs.Table.{Name, expanded}
-use Rattle.tree_write.specs.TreeText.{declaring_name, qname_of}
+use Rattle.doc_tree.specs.QNames.{qname_of}
+use Rattle.tree_write.specs.TreeText.{declaring_name}
 use Rattle.name_scopes.specs.Scoping.{AttributeInScope, ElementInScope, InstructionInScope}
 
 -- an attribute: its name and value

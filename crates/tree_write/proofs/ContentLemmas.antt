@@ -6,7 +6,8 @@ use Rattle.pyx_core.specs.Written.{start_line, attr_line, end_line, chars_line, 
 use Rattle.doc_tree.specs.declared.kinds.Kind.TheVariants.{Root, Element, Attribute, Text, Comment, Pi}
 use Rattle.doc_tree.specs.Lines.{declares, first_lines, last_lines, lines_at}
 use Rattle.doc_tree.specs.Table.{Table, Name, Content, root, element, attribute, text, comment, instruction, content_of, kind_of, kind_at, name_of, name_at, decls_of, decls_at, value_of, value_at}
-use Rattle.tree_write.specs.TreeText.{line_text, qname_of}
+use Rattle.doc_tree.specs.QNames.{qname_of}
+use Rattle.tree_write.specs.TreeText.{line_text}
 use Rattle.tree_write.specs.Parts.{closing_text, decl_text, has_name, opening_text, spelled_at}
 
 abbrev opening : Option Content → List ℕ

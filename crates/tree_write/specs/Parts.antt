@@ -7,7 +7,8 @@ use Rattle.doc_tree.specs.declared.kinds.Kind.TheVariants.{Root, Element, Attrib
 use Rattle.doc_tree.specs.Lines.{lines_below, opens, closes}
 use Rattle.doc_tree.specs.Scope.{Decl}
 use Rattle.doc_tree.specs.Table.{Name, Table}
-use Rattle.tree_write.specs.TreeText.{declaring_name, line_text, qname_of}
+use Rattle.doc_tree.specs.QNames.{qname_of}
+use Rattle.tree_write.specs.TreeText.{declaring_name, line_text}
 
 -- the text of a node and all below it
 abbrev pub text_below : Table → ℕ → List ℕ

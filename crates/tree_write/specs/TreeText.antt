@@ -4,19 +4,11 @@ use Rattle.std.specs.List.{flat_map}
 use Rattle.pyx_core.specs.Written.{start_line, attr_line, end_line, chars_line, pi_line, comment_line}
 use Rattle.doc_tree.specs.Lines.{Line, starts, declares, has_attribute, ends, has_text, has_comment, has_instruction, lines}
 use Rattle.doc_tree.specs.Scope.{xmlns_prefix}
-use Rattle.doc_tree.specs.Table.{Name, Table}
+use Rattle.doc_tree.specs.QNames.{qname_of}
+use Rattle.doc_tree.specs.Table.{Table}
 
--- the QName of a prefix and a local part: a colon between them, where there is a prefix (Namespaces in XML 1.0
--- section 4)
-abbrev pub spelled_name : List ℕ → List ℕ → List ℕ
-spelled_name [] local = local
-spelled_name (b ∷ prefix) local = (b ∷ prefix) ++ 58 ∷ local
-
--- the QName of a name
-abbrev pub qname_of : Name → List ℕ
-qname_of name = spelled_name name.prefix name.local
-
--- the attribute that declares a prefix: `xmlns:p`, and `xmlns` for the default namespace (section 3)
+-- the attribute that declares a prefix: `xmlns:p`, and `xmlns` for the default namespace (Namespaces in
+-- XML 1.0 section 3)
 abbrev pub declaring_name : List ℕ → List ℕ
 declaring_name [] = xmlns_prefix
 declaring_name (b ∷ prefix) = xmlns_prefix ++ 58 ∷ b ∷ prefix

@@ -4,7 +4,8 @@ ghost use Rattle.std.specs.Prelude.{◌++◌, codes};
 ghost use Rattle.sch_io.specs.Wrote.{Wrote};
 ghost use Rattle.pyx_core.specs.Escapes.{escaped};
 ghost use Rattle.pyx_core.specs.Written.{attr_line};
-ghost use Rattle.tree_write.specs.TreeText.{declaring_name, spelled_name};
+ghost use Rattle.doc_tree.specs.QNames.{spelled_name};
+ghost use Rattle.tree_write.specs.TreeText.{declaring_name};
 
 use pyx_write::{write_attr, write_escaped};
 use sch_io::{Failed, Sink, write_all, write_pieces};

@@ -2,7 +2,8 @@
 
 ghost use Rattle.std.specs.Prelude.{◌≡◌, ◌<◌, length, option_map, IfSome, IfOk};
 ghost use Rattle.doc_tree.specs.Table.{Name, name_of, numbered};
-ghost use Rattle.xp_meaning.specs.Names.{local_in, uri_in, written_in, qualified, name_at};
+ghost use Rattle.doc_tree.specs.QNames.{spelled_name};
+ghost use Rattle.xp_meaning.specs.Names.{local_in, uri_in, written_in, name_at};
 
 use doc_tree::{NameId, NodeId, Tree};
 use sch_base::Text;
@@ -41,7 +42,7 @@ pub(crate) fn written_name(
     ensures { IfOk result (λ text. text ≡ written_in (name_at tree.now.nodes n)) }
 {
     match name_at(tree, n) {
-        Some(name) => qualified(alloc, tree.prefix_of(name), tree.local_of(name)),
+        Some(name) => spelled_name(alloc, tree.prefix_of(name), tree.local_of(name)),
         None => Text::copy(alloc, ""),
     }
 }
@@ -58,8 +59,8 @@ fn name_at(tree: &Tree, n: Option<NodeId>) -> Option<NameId>
 }
 
 /// A name as it is written: the prefix, where there is one, a colon, and the local part.
-fn qualified(alloc: Global, prefix: &str, local: &str) -> Result<Text, AllocError>
-    ensures { IfOk result (λ text. text ≡ qualified prefix.now local.now) }
+fn spelled_name(alloc: Global, prefix: &str, local: &str) -> Result<Text, AllocError>
+    ensures { IfOk result (λ text. text ≡ spelled_name prefix.now local.now) }
 {
     if prefix.is_empty() {
         return Text::copy(alloc, local);

@@ -1,5 +1,6 @@
 -- The names of nodes (XPath 1.0 section 4.1).
-use Rattle.std.specs.Prelude.{ℕ, List, [], ◌∷◌, ◌++◌, Option, None, Some}
+use Rattle.std.specs.Prelude.{ℕ, List, [], Option, None, Some}
+use Rattle.doc_tree.specs.QNames.{qname_of}
 use Rattle.doc_tree.specs.Table.{Table, Name, name_of}
 
 abbrev pub local_in : Option Name → List ℕ
@@ -10,14 +11,10 @@ abbrev pub uri_in : Option Name → List ℕ
 uri_in None = []
 uri_in (Some name) = name.uri
 
--- a name as it is written: the prefix, where there is one, a colon, and the local part (Namespaces in XML 1.0 section 4)
-abbrev pub qualified : List ℕ → List ℕ → List ℕ
-qualified [] local = local
-qualified (b ∷ prefix) local = (b ∷ prefix) ++ (58 ∷ local)
-
+-- a name as it is written (Namespaces in XML 1.0 section 4)
 abbrev pub written_in : Option Name → List ℕ
 written_in None = []
-written_in (Some name) = qualified name.prefix name.local
+written_in (Some name) = qname_of name
 
 -- the name of a node; none for no node, and for a node without a name
 abbrev pub name_at : Table → Option ℕ → Option Name
