@@ -1,6 +1,6 @@
 //! An expression's checked form, its printed form and its value.
 
-ghost use Rattle.std.specs.Prelude.{◌≡◌, ◌<◌, false, IfOk};
+ghost use Rattle.std.specs.Prelude.{◌≡◌, ◌<◌, ◌≤◌, false, length, IfOk};
 ghost use Rattle.xp_tree.specs.View.{tree_of};
 ghost use Rattle.xp_syntax.specs.Syntax.{Spells};
 
@@ -16,13 +16,21 @@ use xp_typed::Typed;
 use xp_types::{Env, check};
 use xp_values::{Value, to_text};
 
-/// The expression that a text of at most 65,536 bytes spells.
-fn parsed(alloc: Global, text: &str) -> Result<Expr, Fault>
-    ensures { IfOk result (λ e. Spells 64 text.now (tree_of e)) }
+/// A text that is longer than 65,536 bytes is refused.
+pub(crate) fn is_short(text: &str) -> Result<(), Fault>
+    ensures { IfOk result (λ u. length text.now ≤ MAX_EXPRESSION_BYTES) }
 {
     if text.len() > MAX_EXPRESSION_BYTES {
         return Err(Fault::Usage);
     }
+    Ok(())
+}
+
+/// The expression that a text of at most 65,536 bytes spells.
+fn parsed(alloc: Global, text: &str) -> Result<Expr, Fault>
+    ensures { IfOk result (λ e. Spells 64 text.now (tree_of e)) }
+{
+    is_short(text)?;
     let expr = parse_expr(alloc, text)?;
     Ok(expr)
 }
@@ -44,20 +52,27 @@ pub(crate) fn unabbreviated(alloc: Global, text: &str) -> Result<Text, Fault> {
     Ok(printed)
 }
 
-/// The value of an expression in a context; what it reads goes to the recorder.
-pub(crate) fn value_of(
+/// What an evaluation came to, and how many visits it took.
+#[derive(Drop)]
+pub(crate) struct Evaluated {
+    pub(crate) result: Result<Value, Fault>,
+    pub(crate) visits: u64,
+}
+
+/// An expression evaluated in a context; what it reads goes to the recorder.
+pub(crate) fn evaluate(
     alloc: Global,
     tree: &Tree,
     expr: &Typed,
     at: &Context,
     lets: &Lets,
     reads: &mut Recorder,
-) -> Result<Value, Fault> {
-    counted_value::<Brand>(alloc, tree, expr, at, lets, reads, Blank::new(1))
+) -> Evaluated {
+    counted::<Brand>(alloc, tree, expr, at, lets, reads, Blank::new(1))
 }
 
-/// The value of an expression in a context, its steps being counted.
-fn counted_value<L: Ledger>(
+/// An expression evaluated in a context, its visits being counted by a ledger.
+fn counted<L: Ledger>(
     alloc: Global,
     tree: &Tree,
     expr: &Typed,
@@ -65,25 +80,23 @@ fn counted_value<L: Ledger>(
     lets: &Lets,
     reads: &mut Recorder,
     blank: Blank,
-) -> Result<Value, Fault>
+) -> Evaluated
     requires name { blank.name ≡ L.name }
     requires parts { blank.parts ≡ L.parts }
     requires some { 0 < L.parts }
 {
     let mut steps: Steps<L> = Steps::start(blank);
-    let value = eval(alloc, tree, expr, at, lets, reads, &mut steps)?;
-    Ok(value)
+    let result = eval(alloc, tree, expr, at, lets, reads, &mut steps);
+    Evaluated {
+        result: result.map_err(Fault::from),
+        visits: steps.taken(),
+    }
 }
 
-/// The value of an expression without variables at a node, which is the context alone.
-pub(crate) fn value_at(
-    alloc: Global,
-    tree: &Tree,
-    expr: &Typed,
-    node: NodeId,
-) -> Result<Value, Fault> {
+/// An expression without variables evaluated at a node, which is the context alone.
+pub(crate) fn evaluate_at(alloc: Global, tree: &Tree, expr: &Typed, node: NodeId) -> Evaluated {
     let mut reads = Recorder::new(alloc);
-    value_of(
+    evaluate(
         alloc,
         tree,
         expr,

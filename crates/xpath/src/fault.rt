@@ -1,6 +1,7 @@
 //! Why there is no answer.
 
 use name_scopes::LoadError;
+use sch_base::Text;
 use sch_io::{Failed, ReadError};
 use std::alloc::{AllocError, AllocFailed};
 use thiserror::Error;
@@ -20,6 +21,9 @@ pub(crate) enum Fault {
     /// The expression has this first fault of types.
     #[error("type fault {} {}", type_word(&.0.kind), .0.offset)]
     Type(TypeFault),
+    /// The expression has a thing that is left out by name: where, and its name.
+    #[error("type fault Refused {offset} {}", .thing.as_str())]
+    Refused { offset: u32, thing: Text },
     /// The document has a fault, or more bytes than a file may have.
     #[error("document refused")]
     DocumentRefused,
@@ -88,10 +92,25 @@ impl From<ParseError> for Fault {
     }
 }
 
+impl From<TypeFault> for Fault {
+    fn from(fault: TypeFault) -> Fault {
+        match fault.kind {
+            TypeKind::Refused { thing } => Fault::Refused {
+                offset: fault.offset,
+                thing,
+            },
+            kind => Fault::Type(TypeFault {
+                kind,
+                offset: fault.offset,
+            }),
+        }
+    }
+}
+
 impl From<CheckError> for Fault {
     fn from(error: CheckError) -> Fault {
         match error {
-            CheckError::Fault(fault) => Fault::Type(fault),
+            CheckError::Fault(fault) => Fault::from(fault),
             CheckError::Memory => Fault::Memory,
         }
     }

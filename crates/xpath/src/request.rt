@@ -5,11 +5,16 @@ use crate::fault::Fault;
 /// The word that asks for the printed expression.
 const PRINT: &str = "--print";
 
+/// The word that asks for the count of visits.
+const VISITS: &str = "--visits";
+
 /// What the words ask for.
 #[derive(Clone, Copy, Debug)]
 pub(crate) enum Request<'w> {
     /// The value of the expression over the document on standard input.
     Value { expression: &'w str },
+    /// How many visits the value takes.
+    Visits { expression: &'w str },
     /// The expression without abbreviations.
     Print { expression: &'w str },
 }
@@ -21,6 +26,9 @@ pub(crate) fn request_of(words: &[String]) -> Result<Request<'_>, Fault> {
             expression: expression.as_str(),
         }),
         [option, expression] if option.as_str() == PRINT => Ok(Request::Print {
+            expression: expression.as_str(),
+        }),
+        [option, expression] if option.as_str() == VISITS => Ok(Request::Visits {
             expression: expression.as_str(),
         }),
         _ => Err(Fault::Usage),

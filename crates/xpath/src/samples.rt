@@ -1,8 +1,8 @@
 //! Documents whose nodes have names, and what expressions give on them.
 
-ghost use Rattle.std.specs.Prelude.{◌≡◌, false, IfOk};
+ghost use Rattle.std.specs.Prelude.{◌≡◌, true, IfOk};
 
-use crate::evaluation::{alone, checked, value_of};
+use crate::evaluation::{Evaluated, alone, checked, evaluate, is_short};
 use crate::fault::Fault;
 use doc_tree::{Cell, NodeId, NodeList, Tree};
 use name_scopes::load_tree;
@@ -10,8 +10,9 @@ use std::alloc::Global;
 use std::process::Abort;
 use std::test::Fail;
 use xp_eval::{Lets, Recorder};
+use xp_syntax::parse_pattern;
 use xp_typed::ValueType;
-use xp_types::Env;
+use xp_types::{Env, check_pattern};
 use xp_values::{Num, Value};
 
 /// A document, its nodes in document order with their names, and the name and the value of its one variable.
@@ -72,6 +73,17 @@ pub(crate) fn a_note(rt: &impl Abort, alloc: Global) -> Result<Sample, Fail> {
     Ok(sample)
 }
 
+/// An element long that holds 4,194,304 letters, a quarter of what a text may have.
+pub(crate) fn a_long_text(rt: &impl Abort, alloc: Global) -> Result<Sample, Fail> {
+    let mut bytes = Vec::new(alloc);
+    bytes.extend_from_slice(b"(long\n-")?;
+    for _ in 0..4_194_304 {
+        bytes.push(b'a')?;
+    }
+    bytes.extend_from_slice(b"\n)long\n")?;
+    load_sample(rt, alloc, bytes.as_slice(), &["root", "long", "t"])
+}
+
 /// The node with a name.
 fn node(rt: &impl Abort, sample: &Sample, name: &str) -> NodeId {
     for (found, node) in sample.names.iter().zip(sample.nodes.as_slice()) {
@@ -84,33 +96,52 @@ fn node(rt: &impl Abort, sample: &Sample, name: &str) -> NodeId {
 }
 
 /// A scope with the variable x.
-fn scope(alloc: Global) -> Result<Env, Fault>
-    ensures { IfOk result (λ env. env.in_pattern ≡ false) }
+fn scope(alloc: Global, in_pattern: bool) -> Result<Env, Fault>
+    ensures { IfOk result (λ env. env.in_pattern ≡ in_pattern) }
 {
-    let mut env = Env::new(alloc, false);
+    let mut env = Env::new(alloc, in_pattern);
     env.add_var("x", 0, ValueType::NodeSet)?;
     Ok(env)
 }
 
-/// The value of an expression at a node that is the context alone.
-fn value_for(
+/// An expression evaluated at a node that is the context alone.
+fn evaluate_for(
     sample: &Sample,
     at: NodeId,
     text: &str,
     reads: &mut Recorder,
-) -> Result<Value, Fault> {
+) -> Result<Evaluated, Fault> {
     let alloc = sample.alloc;
-    let env = scope(alloc)?;
+    let env = scope(alloc, false)?;
     let expr = checked(alloc, text, &env)?;
-    value_of(alloc, &sample.tree, &expr, &alone(at), &sample.lets, reads)
+    let at = alone(at);
+    Ok(evaluate(alloc, &sample.tree, &expr, &at, &sample.lets, reads))
+}
+
+/// What an expression gives, what is read for it, and how many visits it takes.
+#[derive(Drop)]
+struct Answer {
+    told: String,
+    reads: Recorder,
+    visits: u64,
 }
 
 /// What an expression gives at a node that is the context alone: its value, or its first fault.
-fn given(sample: &Sample, at: NodeId, text: &str, reads: &mut Recorder) -> Result<String, Fail> {
-    match value_for(sample, at, text, reads) {
-        Ok(value) => value_told(sample, &value),
-        Err(fault) => Ok(format!(in sample.alloc; "{fault}")?),
-    }
+fn given(sample: &Sample, at: NodeId, text: &str) -> Result<Answer, Fail> {
+    let mut reads = Recorder::new(sample.alloc);
+    let (result, visits) = match evaluate_for(sample, at, text, &mut reads) {
+        Ok(Evaluated { result, visits }) => (result, visits),
+        Err(fault) => (Err(fault), 0),
+    };
+    let told = match &result {
+        Ok(value) => value_told(sample, value)?,
+        Err(fault) => format!(in sample.alloc; "{fault}")?,
+    };
+    Ok(Answer {
+        told,
+        reads,
+        visits,
+    })
 }
 
 /// The value and its type.
@@ -180,22 +211,30 @@ fn add_read(told: &mut String, word: &str, name: &str) -> Result<(), Fail> {
     Ok(())
 }
 
-/// Asserts what an expression gives at a node that is the context alone, and, where it is told, what is read for it.
-fn gives(rt: &impl Abort, sample: &Sample, at: &str, text: &str, wanted: &str) -> Result<(), Fail> {
-    let mut reads = Recorder::new(sample.alloc);
-    let found = given(sample, node(rt, sample, at), text, &mut reads)?;
-    match wanted.split_once(" reads ") {
-        Some((value, cells)) => {
-            assert_eq!(rt; found.as_str(), value, "at {text}");
-            let read = reads_told(sample, &reads)?;
-            assert_eq!(rt; read.as_str(), cells, "at {text}");
-        }
-        None => assert_eq!(rt; found.as_str(), wanted, "at {text}"),
+/// What was found, told as far as a line of a table wants it.
+fn found_told(sample: &Sample, found: &Answer, wanted: &str) -> Result<String, Fail> {
+    let mut told = String::from_str(sample.alloc, found.told.as_str())?;
+    if wanted.contains(" reads ") {
+        told.push_str(" reads ")?;
+        told.push_str(reads_told(sample, &found.reads)?.as_str())?;
     }
+    if wanted.contains(" visits ") {
+        told.push_str(format!(in sample.alloc; " visits {}", found.visits)?.as_str())?;
+    }
+    Ok(told)
+}
+
+/// Asserts what an expression gives at a node that is the context alone, and, where they are told, its reads and
+/// visits.
+fn gives(rt: &impl Abort, sample: &Sample, at: &str, text: &str, wanted: &str) -> Result<(), Fail> {
+    let found = given(sample, node(rt, sample, at), text)?;
+    let told = found_told(sample, &found, wanted)?;
+    assert_eq!(rt; told.as_str(), wanted, "at {text}");
     Ok(())
 }
 
-/// Asserts each line of a table: a node, a colon, an expression, `=>`, its value, and perhaps `reads` with what is read.
+/// Asserts each line of a table: a node, a colon, an expression, `=>`, its value, and perhaps `reads` with what is read
+/// and `visits` with their number.
 pub(crate) fn values_are(rt: &impl Abort, sample: &Sample, table: &str) -> Result<(), Fail> {
     for line in table.lines() {
         let Some((at, rest)) = line.split_once(": ") else {
@@ -207,4 +246,38 @@ pub(crate) fn values_are(rt: &impl Abort, sample: &Sample, table: &str) -> Resul
         gives(rt, sample, at, text, wanted)?;
     }
     Ok(())
+}
+
+/// Asserts each line of a table: a text, `=>`, and `pattern`, or its first fault as a pattern.
+pub(crate) fn patterns_are(rt: &impl Abort, alloc: Global, table: &str) -> Result<(), Fail> {
+    for line in table.lines() {
+        let Some((text, wanted)) = line.split_once(" => ") else {
+            return Err("a line without `=>`".into());
+        };
+        let told = pattern_told(alloc, text)?;
+        assert_eq!(rt; told.as_str(), wanted, "at {text}");
+    }
+    Ok(())
+}
+
+/// Whether a text spells a pattern that has no fault of types, in that scope.
+fn pattern_checked(alloc: Global, text: &str, env: &Env) -> Result<(), Fault>
+    requires { env.now.in_pattern ≡ true }
+{
+    is_short(text)?;
+    let pattern = parse_pattern(alloc, text)?;
+    check_pattern(alloc, pattern, env)?;
+    Ok(())
+}
+
+/// Whether a text is a pattern with the variable x in scope, or its first fault.
+fn pattern_told(alloc: Global, text: &str) -> Result<String, Fail> {
+    let found = match scope(alloc, true) {
+        Ok(env) => pattern_checked(alloc, text, &env),
+        Err(fault) => Err(fault),
+    };
+    match &found {
+        Ok(()) => Ok(String::from_str(alloc, "pattern")?),
+        Err(fault) => Ok(format!(in alloc; "{fault}")?),
+    }
 }

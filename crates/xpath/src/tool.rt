@@ -1,9 +1,10 @@
 //! The tool's one call, over a shelf and sinks.
 
 use crate::document::load_document;
-use crate::evaluation::{checked, told, unabbreviated, value_at};
+use crate::evaluation::{Evaluated, checked, evaluate_at, told, unabbreviated};
 use crate::fault::Fault;
 use crate::request::{Request, request_of};
+use doc_tree::Tree;
 use sch_base::Text;
 use sch_io::{Shelf, Sink, write_all, write_pieces};
 use std::alloc::Global;
@@ -29,12 +30,28 @@ fn answer_to<S: Shelf>(alloc: Global, request: Request<'_>, shelf: &mut S) -> Re
     match request {
         Request::Print { expression } => unabbreviated(alloc, expression),
         Request::Value { expression } => {
-            let expr = checked(alloc, expression, &Env::new(alloc, false))?;
-            let tree = load_document(alloc, shelf)?;
-            let value = value_at(alloc, &tree, &expr, tree.root())?;
-            told(alloc, &tree, &value)
+            let (tree, evaluated) = evaluate_over(alloc, expression, shelf)?;
+            told(alloc, &tree, &evaluated.result?)
+        }
+        Request::Visits { expression } => {
+            let (_, Evaluated { result, visits }) = evaluate_over(alloc, expression, shelf)?;
+            result?;
+            let count = format!(in alloc; "{visits}")?;
+            Ok(Text::from(count))
         }
     }
+}
+
+/// The document on standard input, and the expression evaluated at its root.
+fn evaluate_over<S: Shelf>(
+    alloc: Global,
+    expression: &str,
+    shelf: &mut S,
+) -> Result<(Tree, Evaluated), Fault> {
+    let expr = checked(alloc, expression, &Env::new(alloc, false))?;
+    let tree = load_document(alloc, shelf)?;
+    let evaluated = evaluate_at(alloc, &tree, &expr, tree.root());
+    Ok((tree, evaluated))
 }
 
 /// Whether there was an answer; a fault is told by a line.

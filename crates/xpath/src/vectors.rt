@@ -1,8 +1,9 @@
-//! The values of expressions, and what is read for them, computed outside this project.
+//! The values of expressions, what is read for them and how many visits they take, computed outside this project.
 //!
-//! A line names the context node, the expression, its value, and, behind `reads`, the cells and lets that are read.
+//! A line names the context node, the expression, its value, behind `reads` the cells and lets that are read, and
+//! behind `visits` how many there are.
 
-use crate::samples::{a_note, three_bs, two_texts, values_are};
+use crate::samples::{a_long_text, a_note, patterns_are, three_bs, two_texts, values_are};
 use std::test::Fail;
 
 /// Worked examples: paths, numbers, comparisons and faults.
@@ -31,12 +32,121 @@ a: foo() => type fault UnknownFunction 0\n\
 a: $y => type fault UnknownVariable 0\n\
 a: p:a => type fault UnknownPrefix 0\n\
 a: 'a' | b => type fault NodeSetWanted 0\n\
-a: namespace::x => type fault Refused 0\n\
-a: 1.0 = 9007199254740992 => type fault Refused 0\n\
+a: namespace::x => type fault Refused 0 namespace\n\
+a: 1.0 = 9007199254740992 => type fault Refused 0 fraction\n\
 a: $zz div 1.5 => type fault UnknownVariable 0\n\
-a: 6 div 2.5 => type fault Refused 2\n\
+a: 6 div 2.5 => type fault Refused 2 div\n\
 a: ('a') | b => type fault NodeSetWanted 1\n\
 a: 9007199254740992 => type fault NumberTooLarge 0\n";
+
+/// What is left out by name: its place and its name.
+const REFUSED_THINGS: &str = "\
+a: document('') => type fault Refused 0 document\n\
+a: key('a', 'b') => type fault Refused 0 key\n\
+a: id('a') => type fault Refused 0 id\n\
+a: format-number(1, '0') => type fault Refused 0 format-number\n\
+a: generate-id() => type fault Refused 0 generate-id\n\
+a: system-property('v') => type fault Refused 0 system-property\n\
+a: unparsed-entity-uri('e') => type fault Refused 0 unparsed-entity-uri\n\
+a: element-available('e') => type fault Refused 0 element-available\n\
+a: function-available('f') => type fault Refused 0 function-available\n\
+a: id(foo()) => type fault Refused 0 id\n\
+a: x:f() => type fault Refused 0 x:f\n\
+a: 1 + x:f(id('a')) => type fault Refused 4 x:f\n\
+a: b/namespace::* => type fault Refused 2 namespace\n\
+a: b[namespace::q:x] => type fault Refused 2 namespace\n\
+a: 2.0 => type fault Refused 0 fraction\n\
+a: 1 + .5 => type fault Refused 4 fraction\n\
+a: 5. => type fault Refused 0 fraction\n\
+a: b[1 div 2] => type fault Refused 4 div\n";
+
+/// Each kind of faults of types at the first, a middle and the last part; the prefix `xml` is always bound.
+const TYPE_FAULTS: &str = "\
+a: bar(1) => type fault UnknownFunction 0\n\
+a: 1 + bar() => type fault UnknownFunction 4\n\
+a: b[bar()] => type fault UnknownFunction 2\n\
+a: foo(bar()) => type fault UnknownFunction 0\n\
+a: last(1) => type fault Arity 0\n\
+a: count() => type fault Arity 0\n\
+a: count(b, b) => type fault Arity 0\n\
+a: count(foo(), b) => type fault Arity 0\n\
+a: concat('a') => type fault Arity 0\n\
+a: translate('a', 'b') => type fault Arity 0\n\
+a: substring('a') => type fault Arity 0\n\
+a: substring('a', 1, 2, 3) => type fault Arity 0\n\
+a: lang() => type fault Arity 0\n\
+a: true(1) => type fault Arity 0\n\
+a: 1 = round() => type fault Arity 4\n\
+a: count('a') => type fault NodeSetWanted 6\n\
+a: count(1 + 2) => type fault NodeSetWanted 6\n\
+a: count((1) + 2) => type fault NodeSetWanted 6\n\
+a: sum(true()) => type fault NodeSetWanted 4\n\
+a: name('a') => type fault NodeSetWanted 5\n\
+a: local-name(1) => type fault NodeSetWanted 11\n\
+a: namespace-uri('a') => type fault NodeSetWanted 14\n\
+a: b | 1 => type fault NodeSetWanted 4\n\
+a: b | c | 'x' => type fault NodeSetWanted 8\n\
+a: 'a'[1] => type fault NodeSetWanted 0\n\
+a: 'a'[foo()] => type fault NodeSetWanted 0\n\
+a: (1)[1] => type fault NodeSetWanted 1\n\
+a: ('a')/b => type fault NodeSetWanted 1\n\
+a: (b | 1)/c => type fault NodeSetWanted 5\n\
+a: b[$y] => type fault UnknownVariable 2\n\
+a: $p:v => type fault UnknownVariable 0\n\
+a: $x + $y => type fault UnknownVariable 5\n\
+a: b/q:c => type fault UnknownPrefix 2\n\
+a: @q:c => type fault UnknownPrefix 1\n\
+a: child::q:* => type fault UnknownPrefix 7\n\
+a: attribute::q:c => type fault UnknownPrefix 11\n\
+a: @xml:lang => nodes\n\
+a: 1 + 9007199254740992 => type fault NumberTooLarge 4\n\
+a: b[9007199254740992] => type fault NumberTooLarge 2\n";
+
+/// The first of several faults of types.
+const FIRST_OF_SEVERAL: &str = "\
+a: foo() + id('a') => type fault UnknownFunction 0\n\
+a: id('a') + foo() => type fault Refused 0 id\n\
+a: $y | 'a' => type fault UnknownVariable 0\n\
+a: 'a' | $y => type fault NodeSetWanted 0\n\
+a: q:a[$y] => type fault UnknownPrefix 0\n\
+a: $y[q:a] => type fault UnknownVariable 0\n\
+a: count('a', $y) => type fault Arity 0\n\
+a: (9007199254740992 + foo()) | $y => type fault NumberTooLarge 1\n\
+a: b/q:c[foo()]/namespace::d => type fault UnknownPrefix 2\n";
+
+/// Texts that are no patterns, patterns with faults of types, and patterns.
+const PATTERNS: &str = "\
+id('a') => type fault Refused 0 id\n\
+a | id('a')/b => type fault Refused 4 id\n\
+key('a', 'b') => type fault Refused 0 key\n\
+a[id(1)] => type fault Refused 2 id\n\
+a[current()] => type fault Refused 2 current\n\
+a[1 div 2] => type fault Refused 4 div\n\
+a[1]/q:b => type fault UnknownPrefix 5\n\
+@q:b => type fault UnknownPrefix 1\n\
+q:a[$y] => type fault UnknownPrefix 0\n\
+a[$y] => type fault UnknownVariable 2\n\
+a[foo()] => type fault UnknownFunction 2\n\
+a[count(1)] => type fault NodeSetWanted 8\n\
+a['a' | b] => type fault NodeSetWanted 2\n\
+a[last(1)] | $x => syntax fault Unexpected 13\n\
+a[9007199254740992] => type fault NumberTooLarge 2\n\
+namespace::a => syntax fault Unexpected 0\n\
+ancestor::a => syntax fault Unexpected 0\n\
+id(b) => syntax fault Unexpected 3\n\
+/id('a') => syntax fault Unexpected 1\n\
+a/.. => syntax fault Unexpected 2\n\
+1 => syntax fault Unexpected 0\n\
+a[$x] => pattern\n\
+a[position() = 1]//b | @* | text() | / => pattern\n";
+
+/// Texts of 16,777,216 bytes, and past them.
+const GREATEST_TEXTS: &str = "\
+long: string-length(concat(., ., ., .)) => number 16777216\n\
+long: string-length(concat(., ., ., ., '')) => number 16777216\n\
+long: concat(., ., ., ., 'a') => evaluation fault TextLimit\n\
+long: string-length(translate(concat(., .), 'a', 'é')) => number 8388608\n\
+long: translate(concat(., ., 'a'), 'a', 'é') => evaluation fault TextLimit\n";
 
 /// Functions on texts (XPath 1.0, section 4.2), and remainders (section 3.5).
 const FUNCTIONS_ON_TEXTS: &str = "\
@@ -82,64 +192,64 @@ p: text() = 'cd' => truth true\n\
 p: text() != 'cd' => truth true\n\
 p: boolean(x/node()) => truth false\n";
 
-/// What is read for expressions over three elements b.
+/// What is read for expressions over three elements b, and how many visits they take.
 const READS: &str = "\
-a: count(//b) => number 3 reads Kids root, Shape root, Kids a, Kids b1, Kids c, Kids b2, Kids b3\n\
-a: count(//b[1]) => number 2 reads Kids root, Shape root, Kids a, Kids b1, Kids c, Kids b2, Kids b3\n\
-a: count((//b)[1]) => number 1 reads Kids root, Shape root, Kids a, Kids b1, Kids c, Kids b2, Kids b3\n\
-a: . => nodes a reads nothing\n\
-a: .. => nodes root reads nothing\n\
-a: b => nodes b1 reads Kids a\n\
-a: @x => nodes reads Attrs a\n\
-a: b/@x = 1 => truth true reads Kids a, Attrs b1, Value @x\n\
-a: b = c => truth true reads Kids a, Text b1, Text c\n\
-a: sum(//@x) + 1 * 2 => number 3 reads Shape root, Attrs a, Attrs b1, Value @x, Attrs c, Attrs b2, Attrs b3\n\
-a: string(c/b) => text '' reads Kids a, Kids c, Text b2\n\
-a: b[1] => nodes b1 reads Kids a\n\
-a: *[last()] => nodes c reads Kids a\n\
-a: *[position() = 2]/b[2] => nodes b3 reads Kids a, Kids c\n\
-a: .//b => nodes b1 b2 b3 reads Kids a, Shape a, Kids b1, Kids c, Kids b2, Kids b3\n\
-a: .//@x => nodes @x reads Attrs a, Shape a, Attrs b1, Attrs c, Attrs b2, Attrs b3\n\
-a: b | c/b => nodes b1 b2 b3 reads Kids a, Kids c\n\
-a: true() or //b => truth true reads nothing\n\
-a: //b and 1 => truth true reads Kids root, Shape root, Kids a, Kids b1, Kids c, Kids b2, Kids b3\n\
-a: count(b/following::b) => number 2 reads Shape root, Kids a\n\
-a: name(b) => text 'b' reads Kids a\n\
-a: name() => text 'a' reads nothing\n\
-a: b[@x = '1']/following-sibling::* => nodes c reads Kids a, Attrs b1, Value @x\n\
-a: self::b or self::a => truth true reads nothing\n\
-a: lang('en') => truth false reads Attrs a\n\
-a: count(ancestor-or-self::node()) => number 2 reads nothing\n\
-a: -(1 - 2 - 3) => number 4 reads nothing\n\
-a: concat(name(*), ':', string(b/@x)) => text 'b:1' reads Kids a, Attrs b1, Value @x\n\
-a: *[. != 2] => nodes b1 c reads Kids a, Text b1, Text c\n\
-a: b/@x < '1.5' => evaluation fault NotWhole reads Kids a, Attrs b1, Value @x\n\
-a: normalize-space() => text '' reads Text a\n\
-a: b/preceding::node() | b/parent::* => nodes a reads Shape root, Kids a\n";
+a: count(//b) => number 3 reads Kids root, Shape root, Kids a, Kids b1, Kids c, Kids b2, Kids b3 visits 20\n\
+a: count(//b[1]) => number 2 reads Kids root, Shape root, Kids a, Kids b1, Kids c, Kids b2, Kids b3 visits 23\n\
+a: count((//b)[1]) => number 1 reads Kids root, Shape root, Kids a, Kids b1, Kids c, Kids b2, Kids b3 visits 24\n\
+a: . => nodes a reads nothing visits 3\n\
+a: .. => nodes root reads nothing visits 3\n\
+a: b => nodes b1 reads Kids a visits 4\n\
+a: @x => nodes reads Attrs a visits 2\n\
+a: b/@x = 1 => truth true reads Kids a, Attrs b1, Value @x visits 9\n\
+a: b = c => truth true reads Kids a, Text b1, Text c visits 11\n\
+a: sum(//@x) + 1 * 2 => number 3 reads Shape root, Attrs a, Attrs b1, Value @x, Attrs c, Attrs b2, Attrs b3 visits 21\n\
+a: string(c/b) => text '' reads Kids a, Kids c, Text b2 visits 9\n\
+a: b[1] => nodes b1 reads Kids a visits 5\n\
+a: *[last()] => nodes c reads Kids a visits 6\n\
+a: *[position() = 2]/b[2] => nodes b3 reads Kids a, Kids c visits 15\n\
+a: .//b => nodes b1 b2 b3 reads Kids a, Shape a, Kids b1, Kids c, Kids b2, Kids b3 visits 18\n\
+a: .//@x => nodes @x reads Attrs a, Shape a, Attrs b1, Attrs c, Attrs b2, Attrs b3 visits 15\n\
+a: b | c/b => nodes b1 b2 b3 reads Kids a, Kids c visits 12\n\
+a: true() or //b => truth true reads nothing visits 2\n\
+a: //b and 1 => truth true reads Kids root, Shape root, Kids a, Kids b1, Kids c, Kids b2, Kids b3 visits 21\n\
+a: count(b/following::b) => number 2 reads Shape root, Kids a visits 9\n\
+a: name(b) => text 'b' reads Kids a visits 5\n\
+a: name() => text 'a' reads nothing visits 1\n\
+a: b[@x = '1']/following-sibling::* => nodes c reads Kids a, Attrs b1, Value @x visits 12\n\
+a: self::b or self::a => truth true reads nothing visits 7\n\
+a: lang('en') => truth false reads Attrs a visits 2\n\
+a: count(ancestor-or-self::node()) => number 2 reads nothing visits 5\n\
+a: -(1 - 2 - 3) => number 4 reads nothing visits 5\n\
+a: concat(name(*), ':', string(b/@x)) => text 'b:1' reads Kids a, Attrs b1, Value @x visits 15\n\
+a: *[. != 2] => nodes b1 c reads Kids a, Text b1, Text c visits 16\n\
+a: b/@x < '1.5' => evaluation fault NotWhole reads Kids a, Attrs b1, Value @x visits 9\n\
+a: normalize-space() => text '' reads Text a visits 2\n\
+a: b/preceding::node() | b/parent::* => nodes a reads Shape root, Kids a visits 12\n";
 
-/// What is read for expressions over an element with two texts.
+/// The same over an element with two texts.
 const READS_OF_TEXTS: &str = "\
-p: text()[1] = 'ab' => truth true reads Kids p, Value t1\n\
-p: string(.) => text 'abcd' reads Text p\n\
-p: @n => nodes reads Attrs p\n\
-p: .. => nodes root reads nothing\n\
-p: x/following::node() => nodes t2 reads Shape root, Kids p\n\
-p: .//x => nodes x reads Kids p, Shape p, Kids x\n\
-p: x/preceding-sibling::text() => nodes t1 reads Kids p\n\
-p: string-length() = 4 => truth true reads Text p\n\
-x: ../text() => nodes t1 t2 reads Kids p\n\
-t1: . => nodes t1 reads nothing\n";
+p: text()[1] = 'ab' => truth true reads Kids p, Value t1 visits 10\n\
+p: string(.) => text 'abcd' reads Text p visits 5\n\
+p: @n => nodes reads Attrs p visits 2\n\
+p: .. => nodes root reads nothing visits 3\n\
+p: x/following::node() => nodes t2 reads Shape root, Kids p visits 7\n\
+p: .//x => nodes x reads Kids p, Shape p, Kids x visits 15\n\
+p: x/preceding-sibling::text() => nodes t1 reads Kids p visits 7\n\
+p: string-length() = 4 => truth true reads Text p visits 4\n\
+x: ../text() => nodes t1 t2 reads Kids p visits 7\n\
+t1: . => nodes t1 reads nothing visits 3\n";
 
-/// What is read where a variable stands.
+/// The same where a variable stands.
 const READS_OF_VARIABLES: &str = "\
-q: $x = 'ok' => truth true reads Text note, let x\n\
-q: $x => nodes note reads let x\n\
-q: count($x) => number 1 reads let x\n\
-q: $x/text() => nodes t reads Kids note, let x\n\
-q: string($x) => text 'ok' reads Text note, let x\n\
-q: $x[1] | . => nodes note q reads let x\n\
-q: preceding-sibling::*[1] = 'ok' => truth true reads Kids r, Text note\n\
-root: //note => nodes note reads Kids root, Shape root, Kids r, Kids note, Kids q\n";
+q: $x = 'ok' => truth true reads Text note, let x visits 4\n\
+q: $x => nodes note reads let x visits 1\n\
+q: count($x) => number 1 reads let x visits 2\n\
+q: $x/text() => nodes t reads Kids note, let x visits 4\n\
+q: string($x) => text 'ok' reads Text note, let x visits 3\n\
+q: $x[1] | . => nodes note q reads let x visits 7\n\
+q: preceding-sibling::*[1] = 'ok' => truth true reads Kids r, Text note visits 7\n\
+root: //note => nodes note reads Kids root, Shape root, Kids r, Kids note, Kids q visits 16\n";
 
 /// Numbers at and past the edge of their range.
 const GREATEST_NUMBERS: &str = "\
@@ -169,6 +279,35 @@ fn paths_and_numbers(rt: HostRuntime) -> Result<(), Fail> {
 fn first_faults(rt: HostRuntime) -> Result<(), Fail> {
     let sample = three_bs(&rt, rt.alloc())?;
     values_are(&rt, &sample, FIRST_FAULTS)
+}
+
+#[test]
+fn refused_things(rt: HostRuntime) -> Result<(), Fail> {
+    let sample = three_bs(&rt, rt.alloc())?;
+    values_are(&rt, &sample, REFUSED_THINGS)
+}
+
+#[test]
+fn type_faults(rt: HostRuntime) -> Result<(), Fail> {
+    let sample = three_bs(&rt, rt.alloc())?;
+    values_are(&rt, &sample, TYPE_FAULTS)
+}
+
+#[test]
+fn first_of_several(rt: HostRuntime) -> Result<(), Fail> {
+    let sample = three_bs(&rt, rt.alloc())?;
+    values_are(&rt, &sample, FIRST_OF_SEVERAL)
+}
+
+#[test]
+fn patterns(rt: HostRuntime) -> Result<(), Fail> {
+    patterns_are(&rt, rt.alloc(), PATTERNS)
+}
+
+#[test]
+fn greatest_texts(rt: HostRuntime) -> Result<(), Fail> {
+    let sample = a_long_text(&rt, rt.alloc())?;
+    values_are(&rt, &sample, GREATEST_TEXTS)
 }
 
 #[test]
