@@ -6,16 +6,17 @@ use Rattle.doc_tree.specs.declared.kinds.Kind.TheVariants.{Element}
 use Rattle.doc_tree.specs.declared.node.Node.{Node}
 use Rattle.doc_tree.specs.declared.node.NodeContent.{NodeContent}
 use Rattle.doc_tree.specs.declared.node.NodeContent.TheVariants as kept
+use Rattle.doc_tree.specs.Lists.{mem}
 use Rattle.doc_tree.specs.Table.{Table, Name, Contents, kind_of, is_live}
 use Rattle.doc_tree.specs.Walks.{ancestors}
-use Rattle.doc_tree.specs.Kept.{depth_at, NameIsBelow, NamesAreBelow}
+use Rattle.doc_tree.specs.Kept.{depth_at, place_at, place_in, IsPlace, NameIsBelow, NamesAreBelow}
 use Rattle.doc_tree.specs.KeptDecls.{content_declaring, kept_declaring_at}
 use Rattle.doc_tree.specs.Views.{content_seen, node_seen, table_seen}
 use Rattle.doc_tree.specs.Scope.{Decl}
 use Rattle.doc_tree.specs.Declaring.{declaring, declaring_at, with_decl, Declared}
 use Rattle.doc_tree.specs.Sound.{Sound}
-use Rattle.doc_tree.proofs.SoundLemmas.{seen-entry}
-use Rattle.doc_tree.proofs.DeclareLemmas.{formed-declared, declared, same-live, same-ancestors, same-order, same-text}
+use Rattle.doc_tree.proofs.SoundLemmas.{seen-entry, number-set}
+use Rattle.doc_tree.proofs.DeclareLemmas.{formed-declared, declared, same-live, same-kids, same-attributes, same-ancestors, same-order, same-text}
 
 content-declared : (names : List Name) (d : Decl) (c : NodeContent) → content_seen names (content_declaring d c) ≡ declaring d (content_seen names c)
 content-declared names d kept.Root = refl
@@ -45,13 +46,13 @@ names-kept count d (Some node ∷ nodes) zero k = (name-kept count d node.conten
 names-kept count d (None ∷ nodes) (suc n) k = names-kept count d nodes n k
 names-kept count d (Some node ∷ nodes) (suc n) k = (k.0, names-kept count d nodes n k.1)
 
-depth-kept : (d : Decl) (nodes : List (Option Node)) (n m : ℕ) → depth_at (get_or (set nodes n (kept_declaring_at d (get_or nodes n None))) m None) ≡ depth_at (get_or nodes m None)
-depth-kept d [] n m = refl
-depth-kept d (None ∷ nodes) zero zero = refl
-depth-kept d (Some node ∷ nodes) zero zero = refl
-depth-kept d (first ∷ nodes) zero (suc m) = refl
-depth-kept d (first ∷ nodes) (suc n) zero = refl
-depth-kept d (first ∷ nodes) (suc n) (suc m) = depth-kept d nodes n m
+depth-kept : (d : Decl) (o : Option Node) → depth_at (kept_declaring_at d o) ≡ depth_at o
+depth-kept d None = refl
+depth-kept d (Some node) = refl
+
+place-kept : (d : Decl) (o : Option Node) → place_at (kept_declaring_at d o) ≡ place_at o
+place-kept d None = refl
+place-kept d (Some node) = refl
 
 module _ (names : List Name) (nodes : List (Option Node)) (n : ℕ) (d : Decl) where
   table-declared : table_seen names (set nodes n (kept_declaring_at d (get_or nodes n None))) ≡ with_decl (table_seen names nodes) n d
@@ -66,11 +67,17 @@ module _ (names : List Name) (nodes : List (Option Node)) (n : ℕ) (d : Decl) w
   sound-declared live bytes s kind =
       let T : Table = table_seen names nodes in
       let depths : (m : ℕ) → is_live (with_decl T n d) m ≡ true → depth_at (get_or (set nodes n (kept_declaring_at d (get_or nodes n None))) m None) ≡ length (ancestors (with_decl T n d) m) =
-      λ m h. depth-kept d nodes n m ∙ (s.depths m (sym (same-live T n d m) ∙ h) ∙ ap length (sym (same-ancestors T n d m))) in (
+      λ m h. number-set depth_at nodes n m _ (depth-kept d (get_or nodes n None)) ∙ (s.depths m (sym (same-live T n d m) ∙ h) ∙ ap length (sym (same-ancestors T n d m))) in
+      let places : (m : ℕ) → IsPlace (with_decl T n d) m (place_at (get_or (set nodes n (kept_declaring_at d (get_or nodes n None))) m None)) =
+      λ m. subst (IsPlace (with_decl T n d) m) (sym (number-set place_at nodes n m _ (place-kept d (get_or nodes n None)))) (record {
+        among_attributes = λ p h. (s.places m).among_attributes p (ap (mem m) (sym (same-attributes T n d p)) ∙ h) ∙ ap (place_in m) (sym (same-attributes T n d p));
+        among_kids = λ p h. (s.places m).among_kids p (ap (mem m) (sym (same-kids T n d p)) ∙ h) ∙ ap (place_in m) (sym (same-kids T n d p));
+      }) in (
         record {
           formed = rw table-declared (formed-declared T n d s.formed);
           known = names-kept (length names) d nodes n s.known;
           depths = rw table-declared depths;
+          places = rw table-declared places;
           live_is = rw table-declared (s.live_is ∙ ap length (sym (same-order T n d)));
           bytes_is = rw table-declared (s.bytes_is ∙ sym (same-text T n d));
         },

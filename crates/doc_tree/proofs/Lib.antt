@@ -11,6 +11,7 @@ pub mod TreeLaws
 pub mod NumberLemmas
 pub mod WordLemmas
 pub mod NameLemmas
+pub mod Siblings
 pub mod SoundLemmas
 pub mod DeclareLemmas
 pub mod KeptDeclLemmas

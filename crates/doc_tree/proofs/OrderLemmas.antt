@@ -1,6 +1,6 @@
 -- Places in document order, from the laws of a tree: what stands before what, and below what.
-use Rattle.std.proofs.Common.{◌≡◌, ◌≢◌, ℕ, ◌+◌, ◌-◌, ◌<◌, ◌≤◌, suc, zero, Bool, true, false, cond, List, [], ◌∷◌, ◌++◌, ◌⊎◌, length, Option, None, Some, refl, sym, ap, ◌∙◌, subst, inl, inr, ⊎_elim, true≢false, arith, append_assoc, eqb, ltb, ◌||◌, eqb-true, eq-eqb, ltb-true, ltb-false}
-use Rattle.std.specs.List.{flat_map, find}
+use Rattle.std.proofs.Common.{◌≡◌, ◌≢◌, ℕ, ◌+◌, ◌-◌, ◌<◌, ◌≤◌, suc, zero, Bool, true, false, cond, List, [], ◌∷◌, ◌++◌, ◌⊎◌, length, Option, None, Some, refl, sym, ap, ◌∙◌, subst, inl, inr, ⊎_elim, true≢false, arith, append_assoc, eqb, ltb, eqb-true, eq-eqb, ltb-true, ltb-false}
+use Rattle.std.specs.List.{flat_map}
 use Rattle.doc_tree.specs.declared.limits.TheConstants.{MAX_DEPTH}
 use Rattle.doc_tree.specs.Lists.{mem, occurs, Distinct}
 use Rattle.doc_tree.specs.Table.{Table, parent_of, kids_of, attrs_of, is_live}
@@ -118,29 +118,6 @@ apart-cons x y n xs apart = record {
   first = omega (arith, apart.first);
   second = apart.second;
 }
-
--- the first of two in a list, found by a search
-pub found-first : (a b : ℕ) (xs ys : List ℕ) (first : ℕ) → find (λ n. eqb n a || eqb n b) xs ≡ Some first → comes_first a b (xs ++ ys) ≡ eqb first a
-found-first a b [] ys first h = absurd (cc)
-found-first a b (x ∷ xs) ys first h = by (eqb x a) (eqb x b) refl refl h (λ k. found-first a b xs ys first k)
-  where
-    by : (s t : Bool) → eqb x a ≡ s → eqb x b ≡ t → cond (s || t) (Some x) (find (λ n. eqb n a || eqb n b) xs) ≡ Some first
-        → (find (λ n. eqb n a || eqb n b) xs ≡ Some first → comes_first a b (xs ++ ys) ≡ eqb first a)
-        → cond s true (cond t false (comes_first a b (xs ++ ys))) ≡ eqb first a
-    by true t ea eb h more = let same : first ≡ x = (cc) in rw (same, ea) refl
-    by false true ea eb h more = let same : first ≡ x = (cc) in rw (same, ea) refl
-    by false false ea eb h more = more h
-
-pub found-none : (a b : ℕ) (xs ys : List ℕ) → find (λ n. eqb n a || eqb n b) xs ≡ None → comes_first a b (xs ++ ys) ≡ comes_first a b ys
-found-none a b [] ys h = refl
-found-none a b (x ∷ xs) ys h = by (eqb x a) (eqb x b) h (λ k. found-none a b xs ys k)
-  where
-    by : (s t : Bool) → cond (s || t) (Some x) (find (λ n. eqb n a || eqb n b) xs) ≡ None
-        → (find (λ n. eqb n a || eqb n b) xs ≡ None → comes_first a b (xs ++ ys) ≡ comes_first a b ys)
-        → cond s true (cond t false (comes_first a b (xs ++ ys))) ≡ comes_first a b ys
-    by true t h more = absurd (cc)
-    by false true h more = absurd (cc)
-    by false false h more = more h
 
 -- the one that comes first in a list stands apart before the other
 pub comes : (a b : ℕ) (xs : List ℕ) → a ≢ b → In a xs → In b xs →

@@ -1,19 +1,19 @@
 -- The kept nodes: a tree of the root alone, names that grow, and one node more.
 use Rattle.std.proofs.Common.{◌≡◌, ◌≢◌, ℕ, ◌+◌, ◌<◌, ◌≤◌, suc, zero, Bool, true, false, List, [], ◌∷◌, ◌++◌, length, get_or, set, Option, None, Some, refl, sym, ap, ap₂, ◌∙◌, subst, ⊎_elim, true≢false, arith, append-nil, length-set, length-append}
 use Rattle.std.proofs.lemmas.List.{map-set, map-append}
-use Rattle.std.specs.Prelude.{Result, Ok, Err, IfOk, OnErr}
+use Rattle.std.specs.Prelude.{Result, Ok, Err, IfOk, OnErr, if◌then◌else◌}
 use Rattle.doc_tree.specs.declared.node.Label.{Label}
 use Rattle.doc_tree.specs.declared.node.Label.TheVariants as label
 use Rattle.doc_tree.specs.declared.node.Node.{Node}
 use Rattle.doc_tree.specs.declared.node.NodeContent.{NodeContent}
 use Rattle.doc_tree.specs.declared.node.NodeContent.TheVariants as kept
-use Rattle.doc_tree.specs.Lists.{occurs}
-use Rattle.doc_tree.specs.Table.{Table, Name, Content, entry_at, kind_of, is_live, numbered, AllLive, value_in, no_name, root_alone, Contents}
+use Rattle.doc_tree.specs.Lists.{mem, occurs}
+use Rattle.doc_tree.specs.Table.{Table, Name, Content, entry_at, kids_of, attrs_of, kind_of, is_live, numbered, AllLive, value_in, no_name, root_alone, Contents}
 use Rattle.doc_tree.specs.Walks.{order, ancestors, above, is_open}
 use Rattle.doc_tree.specs.Labels.{label_is_attribute, content_labelled, kept_labelled, LabelIsBelow}
-use Rattle.doc_tree.specs.Growth.{FitsUnder, passed_limit, with_node, with_link, leaf, Grew}
+use Rattle.doc_tree.specs.Growth.{FitsUnder, passed_limit, with_node, with_link, leaf, as_kid, as_attribute, Grew}
 use Rattle.doc_tree.specs.Kinds.{holds_kids}
-use Rattle.doc_tree.specs.Kept.{depth_at, NameIsBelow, NamesAreBelow, kept_link}
+use Rattle.doc_tree.specs.Kept.{depth_at, place_at, IsPlace, NameIsBelow, NamesAreBelow, kept_link}
 use Rattle.doc_tree.specs.Views.{content_seen, node_seen, table_seen}
 use Rattle.doc_tree.specs.Numbering.{Numbered}
 use Rattle.doc_tree.specs.Sound.{Fits, Sound}
@@ -21,6 +21,7 @@ use Rattle.doc_tree.specs.Forest.{bare, alive}
 use Rattle.doc_tree.proofs.ListLemmas.{get-last, get-front, eq_or, occurs-other}
 use Rattle.doc_tree.proofs.Growing.{live-kept}
 use Rattle.doc_tree.proofs.Appending.{appended, holder-live}
+use Rattle.doc_tree.proofs.Siblings.{place-kept, place-new}
 
 -- the entry that a kept node shows
 pub seen-entry : (names : List Name) (nodes : List (Option Node)) (n : ℕ) → entry_at (table_seen names nodes) n ≡ node_seen names (get_or nodes n None)
@@ -34,7 +35,7 @@ seen-length names (first ∷ nodes) = ap suc (seen-length names nodes)
 
 -- the tree of the root alone
 abbrev pub root_node : Node
-root_node = record { parent = None; depth = 0; kids = []; attributes = []; content = kept.Root }
+root_node = record { parent = None; depth = 0; place = 0; kids = []; attributes = []; content = kept.Root }
 
 lone-once : (n : ℕ) → occurs n (0 ∷ []) ≡ alive root_alone.nodes n
 lone-once zero = refl
@@ -69,6 +70,17 @@ lone-depths : (names : List Name) (n : ℕ) → is_live (table_seen names (Some 
 lone-depths names zero h = refl
 lone-depths names (suc n) h = absurd (true≢false (sym h))
 
+lone-places : (names : List Name) (n place : ℕ) → IsPlace (table_seen names (Some root_node ∷ [])) n place
+lone-places names n place = record { among_attributes = λ p h. absurd (no-attribute p h); among_kids = λ p h. absurd (no-kid p h) }
+  where
+    no-attribute : (p : ℕ) → mem n (attrs_of (table_seen names (Some root_node ∷ [])) p) ≡ true → ⊥
+    no-attribute zero h = true≢false (sym h)
+    no-attribute (suc p) h = true≢false (sym h)
+
+    no-kid : (p : ℕ) → mem n (kids_of (table_seen names (Some root_node ∷ [])) p) ≡ true → ⊥
+    no-kid zero h = true≢false (sym h)
+    no-kid (suc p) h = true≢false (sym h)
+
 pub sound_alone : (names : List Name) → Sound (Some root_node ∷ []) names 1 0
 sound_alone names = record {
   formed = record {
@@ -88,6 +100,7 @@ sound_alone names = record {
   };
   known = (tt, tt);
   depths = lone-depths names;
+  places = λ n. lone-places names n _;
   live_is = refl;
   bytes_is = refl;
 }
@@ -141,6 +154,7 @@ sound-named nodes before after name number live bytes n s =
       formed = rw same s.formed;
       known = names-more (length before) (length after) nodes (numbered-longer before after name number n) s.known;
       depths = rw same s.depths;
+      places = rw same s.places;
       live_is = rw same s.live_is;
       bytes_is = rw same s.bytes_is;
     }
@@ -195,21 +209,46 @@ depth-linked n b None = refl
 depth-linked n true (Some node) = refl
 depth-linked n false (Some node) = refl
 
-depth-set : (nodes : List (Option Node)) (p n m : ℕ) (b : Bool) → depth_at (get_or (set nodes p (kept_link n b (get_or nodes p None))) m None) ≡ depth_at (get_or nodes m None)
-depth-set [] p n m b = refl
-depth-set (first ∷ nodes) zero n zero b = depth-linked n b first
-depth-set (first ∷ nodes) zero n (suc m) b = refl
-depth-set (first ∷ nodes) (suc p) n zero b = refl
-depth-set (first ∷ nodes) (suc p) n (suc m) b = depth-set nodes p n m b
+place-linked : (n : ℕ) (b : Bool) (o : Option Node) → place_at (kept_link n b o) ≡ place_at o
+place-linked n b None = refl
+place-linked n true (Some node) = refl
+place-linked n false (Some node) = refl
 
--- the kept nodes with one more
-abbrev pub grown_nodes : List (Option Node) → ℕ → ℕ → Label → List ℕ → List (Option Node)
-grown_nodes nodes p depth l characters =
-    set nodes p (kept_link (length nodes) (label_is_attribute l) (get_or nodes p None))
-    ++ Some (record { parent = Some p; depth = depth; kids = []; attributes = []; content = kept_labelled l characters }) ∷ []
+-- a number that is kept with each node stays where the node put in place of one has the same
+pub number-set : (f : Option Node → ℕ) (nodes : List (Option Node)) (p m : ℕ) (v : Option Node) → f v ≡ f (get_or nodes p None) → f (get_or (set nodes p v) m None) ≡ f (get_or nodes m None)
+number-set f [] p m v same = refl
+number-set f (first ∷ nodes) zero zero v same = same
+number-set f (first ∷ nodes) zero (suc m) v same = refl
+number-set f (first ∷ nodes) (suc p) zero v same = refl
+number-set f (first ∷ nodes) (suc p) (suc m) v same = number-set f nodes p m v same
 
-module _ (names : List Name) (nodes : List (Option Node)) (p depth : ℕ) (l : Label) (characters : List ℕ) where
-  table-grown : table_seen names (grown_nodes nodes p depth l characters) ≡ with_node (table_seen names nodes) p (content_labelled names l characters)
+-- the new node is an attribute or a kid by its label
+attribute-place : (names : List Name) (l : Label) (characters : List ℕ) (n : ℕ) (attributes kids : List ℕ) →
+    mem n (as_attribute (content_labelled names l characters) n) ≡ true → length (if label_is_attribute l then attributes else kids) ≡ length attributes
+attribute-place names (label.Element id) characters n attributes kids h = absurd (true≢false (sym h))
+attribute-place names (label.Attribute id) characters n attributes kids h = refl
+attribute-place names label.Text characters n attributes kids h = absurd (true≢false (sym h))
+attribute-place names label.Comment characters n attributes kids h = absurd (true≢false (sym h))
+attribute-place names (label.Pi id) characters n attributes kids h = absurd (true≢false (sym h))
+
+kid-place : (names : List Name) (l : Label) (characters : List ℕ) (n : ℕ) (attributes kids : List ℕ) →
+    mem n (as_kid (content_labelled names l characters) n) ≡ true → length (if label_is_attribute l then attributes else kids) ≡ length kids
+kid-place names (label.Element id) characters n attributes kids h = refl
+kid-place names (label.Attribute id) characters n attributes kids h = absurd (true≢false (sym h))
+kid-place names label.Text characters n attributes kids h = refl
+kid-place names label.Comment characters n attributes kids h = refl
+kid-place names (label.Pi id) characters n attributes kids h = refl
+
+-- the node that is put in, and the kept nodes with it
+abbrev pub new_node : ℕ → ℕ → ℕ → Label → List ℕ → Node
+new_node p depth place l characters = record { parent = Some p; depth = depth; place = place; kids = []; attributes = []; content = kept_labelled l characters }
+
+abbrev pub grown_nodes : List (Option Node) → ℕ → ℕ → ℕ → Label → List ℕ → List (Option Node)
+grown_nodes nodes p depth place l characters =
+    set nodes p (kept_link (length nodes) (label_is_attribute l) (get_or nodes p None)) ++ Some (new_node p depth place l characters) ∷ []
+
+module _ (names : List Name) (nodes : List (Option Node)) (p depth place : ℕ) (l : Label) (characters : List ℕ) where
+  table-grown : table_seen names (grown_nodes nodes p depth place l characters) ≡ with_node (table_seen names nodes) p (content_labelled names l characters)
   table-grown =
       map-append (node_seen names) (set nodes p (kept_link (length nodes) (label_is_attribute l) (get_or nodes p None))) _
       ∙ ap₂ (λ l r. l ++ r)
@@ -219,30 +258,51 @@ module _ (names : List Name) (nodes : List (Option Node)) (p depth : ℕ) (l : L
       ∙ ap₂ (with_link (content_labelled names l characters)) (sym (seen-length names nodes)) (sym (seen-entry names nodes p))))
       (ap (λ c. Some (leaf p c) ∷ []) (content-new names l characters))
 
+  kept-new : (m : ℕ) → m ≡ length (table_seen names nodes) → get_or (grown_nodes nodes p depth place l characters) m None ≡ Some (new_node p depth place l characters)
+  kept-new m e =
+      get-last (set nodes p (kept_link (length nodes) (label_is_attribute l) (get_or nodes p None))) _ None m (e ∙ (seen-length names nodes ∙ sym (length-set nodes p _)))
+
+  -- a number that is kept with each of the others stays where a link leaves it
+  kept-others : (f : Option Node → ℕ) → ((o : Option Node) → f (kept_link (length nodes) (label_is_attribute l) o) ≡ f o) → (m : ℕ) → m ≢ length (table_seen names nodes) →
+      f (get_or (grown_nodes nodes p depth place l characters) m None) ≡ f (get_or nodes m None)
+  kept-others f same m ne =
+      ap f (get-front (set nodes p (kept_link (length nodes) (label_is_attribute l) (get_or nodes p None))) _ None m
+      (λ e. ne (e ∙ (length-set nodes p _ ∙ sym (seen-length names nodes)))))
+      ∙ number-set f nodes p m _ (same (get_or nodes p None))
+
   -- a sound tree stays so, and has grown
   pub sound-grown : (live bytes : ℕ) → Sound nodes names live bytes → holds_kids (kind_of (table_seen names nodes) p) ≡ true
       → FitsUnder (table_seen names nodes) p (content_labelled names l characters) → LabelIsBelow (length names) l → is_open (table_seen names nodes) p ≡ true
       → AllLive (table_seen names nodes) → passed_limit (table_seen names nodes) p (content_labelled names l characters) ≡ None
-      → depth ≡ length (above (table_seen names nodes) p) → value_in (content_labelled names l characters) ≡ characters
-      → Sound (grown_nodes nodes p depth l characters) names (live + 1) (bytes + length characters)
-      × Grew (table_seen names nodes) (table_seen names (grown_nodes nodes p depth l characters)) p (length nodes) (content_labelled names l characters)
-  sound-grown live bytes s holder fits known open_p all none depth_is plain =
+      → depth ≡ length (above (table_seen names nodes) p)
+      → place ≡ length (if label_is_attribute l then attrs_of (table_seen names nodes) p else kids_of (table_seen names nodes) p) → value_in (content_labelled names l characters) ≡ characters
+      → Sound (grown_nodes nodes p depth place l characters) names (live + 1) (bytes + length characters)
+      × Grew (table_seen names nodes) (table_seen names (grown_nodes nodes p depth place l characters)) p (length nodes) (content_labelled names l characters)
+  sound-grown live bytes s holder fits known open_p all none depth_is place_is plain =
       let T : Table = table_seen names nodes in
       let c : Content = content_labelled names l characters in
       let r = appended T p c s.formed holder fits open_p all none in
       let g : Grew T (with_node T p c) p (length T) c = r.1 in
       let alive_p : is_live T p ≡ true = holder-live T p holder in
-      let depths : (m : ℕ) → is_live (with_node T p c) m ≡ true → depth_at (get_or (grown_nodes nodes p depth l characters) m None) ≡ length (ancestors (with_node T p c) m) =
+      let depths : (m : ℕ) → is_live (with_node T p c) m ≡ true → depth_at (get_or (grown_nodes nodes p depth place l characters) m None) ≡ length (ancestors (with_node T p c) m) =
       λ m h. ⊎_elim
       (λ (e : m ≡ length T).
-      ap depth_at (get-last (set nodes p (kept_link (length nodes) (label_is_attribute l) (get_or nodes p None))) _ None m
-      (e ∙ (seen-length names nodes ∙ sym (length-set nodes p _))))
+      ap depth_at (kept-new m e)
       ∙ (depth_is ∙ omega (arith, ap length g.way_up, ap (λ k. length (ancestors (with_node T p c) k)) e)))
       (λ (ne : m ≢ length T).
       let old : is_live T m ≡ true = sym (live-kept T p c alive_p m ne) ∙ h in
-      ap depth_at (get-front (set nodes p (kept_link (length nodes) (label_is_attribute l) (get_or nodes p None))) _ None m
-      (λ e. ne (e ∙ (length-set nodes p _ ∙ sym (seen-length names nodes)))))
-      ∙ (depth-set nodes p (length nodes) m (label_is_attribute l) ∙ omega (arith, s.depths m old, ap length (g.same_ways_up m old))))
+      kept-others depth_at (depth-linked (length nodes) (label_is_attribute l)) m ne ∙ omega (arith, s.depths m old, ap length (g.same_ways_up m old)))
+      (eq_or m (length T)) in
+      let places : (m : ℕ) → IsPlace (with_node T p c) m (place_at (get_or (grown_nodes nodes p depth place l characters) m None)) =
+      λ m. ⊎_elim
+      (λ (e : m ≡ length T).
+      subst (λ k. IsPlace (with_node T p c) k (place_at (get_or (grown_nodes nodes p depth place l characters) k None))) (sym e)
+      (subst (IsPlace (with_node T p c) (length T)) (sym (ap place_at (kept-new (length T) refl)))
+      (place-new T p c s.formed alive_p g place (λ h. place_is ∙ attribute-place names l characters (length T) (attrs_of T p) (kids_of T p) h)
+      (λ h. place_is ∙ kid-place names l characters (length T) (attrs_of T p) (kids_of T p) h))))
+      (λ (ne : m ≢ length T).
+      subst (IsPlace (with_node T p c) m) (sym (kept-others place_at (place-linked (length nodes) (label_is_attribute l)) m ne))
+      (place-kept T p c s.formed alive_p g m (place_at (get_or nodes m None)) ne (s.places m)))
       (eq_or m (length T)) in
       let more : length (order (with_node T p c)) ≡ length (order T) + 1 = ap length g.last_in_order ∙ length-append (order T) (length T ∷ []) in (
         record {
@@ -250,6 +310,7 @@ module _ (names : List Name) (nodes : List (Option Node)) (p depth : ℕ) (l : L
           known = names-push (length names) (set nodes p (kept_link (length nodes) (label_is_attribute l) (get_or nodes p None))) _
               (names-set (length names) nodes p (length nodes) (label_is_attribute l) s.known) (name-new (length names) l characters known);
           depths = rw table-grown depths;
+          places = rw table-grown places;
           live_is = rw table-grown (omega (arith, s.live_is, more));
           bytes_is = rw table-grown (omega (arith, s.bytes_is, g.more_text, ap length plain));
         },
@@ -265,20 +326,23 @@ named nodes before after name live bytes (Ok number) ok err s =
 named nodes before after name live bytes (Err e) ok err s = (rw err s, ap (λ names. table_seen names nodes) err)
 
 -- the same, with each part of the new node by itself
-pub added : (tree : Contents) (names : List Name) (nodes after : List (Option Node)) (live bytes p depth number : ℕ) (l : Label) (characters : List ℕ) (flag : Bool)
+pub added : (tree : Contents) (names : List Name) (nodes after : List (Option Node)) (live bytes p depth place number : ℕ) (l : Label) (characters : List ℕ) (flag : Bool)
     (kids attributes : List ℕ) (content : NodeContent) → record { nodes = table_seen names nodes; names = names } ≡ tree → Sound nodes names live bytes
     → number ≡ length nodes → flag ≡ label_is_attribute l → kids ≡ [] → attributes ≡ [] → content ≡ kept_labelled l characters
-    → after ≡ set nodes p (kept_link number flag (get_or nodes p None)) ++ Some (record { parent = Some p; depth = depth; kids = kids; attributes = attributes; content = content }) ∷ []
+    → after ≡ set nodes p (kept_link number flag (get_or nodes p None)) ++ Some (record { parent = Some p; depth = depth; place = place; kids = kids; attributes = attributes; content = content }) ∷ []
     → holds_kids (kind_of tree.nodes p) ≡ true → FitsUnder tree.nodes p (content_labelled tree.names l characters) → LabelIsBelow (length tree.names) l → is_open tree.nodes p ≡ true
     → AllLive tree.nodes → passed_limit tree.nodes p (content_labelled tree.names l characters) ≡ None → depth ≡ length (above tree.nodes p)
+    → place ≡ length (if flag then attrs_of tree.nodes p else kids_of tree.nodes p)
     → value_in (content_labelled tree.names l characters) ≡ characters
     → Sound after names (live + 1) (bytes + length characters) × Grew tree.nodes (table_seen names after) p number (content_labelled tree.names l characters)
-added tree names nodes after live bytes p depth number l characters flag kids attributes content view sound is_number is_flag no_kids no_attributes is_content is_after =
+added tree names nodes after live bytes p depth place number l characters flag kids attributes content view sound is_number is_flag no_kids no_attributes is_content is_after =
     subst (λ tree.
     holds_kids (kind_of tree.nodes p) ≡ true → FitsUnder tree.nodes p (content_labelled tree.names l characters) → LabelIsBelow (length tree.names) l → is_open tree.nodes p ≡ true
     → AllLive tree.nodes → passed_limit tree.nodes p (content_labelled tree.names l characters) ≡ None → depth ≡ length (above tree.nodes p)
+    → place ≡ length (if flag then attrs_of tree.nodes p else kids_of tree.nodes p)
     → value_in (content_labelled tree.names l characters) ≡ characters
     → Sound after names (live + 1) (bytes + length characters) × Grew tree.nodes (table_seen names after) p number (content_labelled tree.names l characters)) view
-    (λ holder fits known open_p all none deep plain.
-    let is_grown : after ≡ grown_nodes nodes p depth l characters = is_after ∙ rw (is_number, is_flag, no_kids, no_attributes, is_content) refl in
-    rw (is_grown, is_number) (sound-grown names nodes p depth l characters live bytes sound holder fits known open_p all none deep plain))
+    (λ holder fits known open_p all none deep last plain.
+    let is_grown : after ≡ grown_nodes nodes p depth place l characters = is_after ∙ rw (is_number, is_flag, no_kids, no_attributes, is_content) refl in
+    rw (is_grown, is_number) (sound-grown names nodes p depth place l characters live bytes sound holder fits known open_p all none deep
+    (last ∙ ap (λ b. length (if b then attrs_of (table_seen names nodes) p else kids_of (table_seen names nodes) p)) is_flag) plain))

@@ -3,7 +3,7 @@ use Rattle.std.specs.Prelude.{◌≡◌, ◌≢◌, ℕ, ◌+◌, ◌≤◌, tru
 use Rattle.doc_tree.specs.declared.limits.TheConstants.{MAX_DEPTH, MAX_LIVE_NODES, MAX_TEXT_BYTES, MAX_NODE_NUMBERS}
 use Rattle.doc_tree.specs.declared.kinds.Kind.TheVariants.{Root, Element, Attribute, Text}
 use Rattle.doc_tree.specs.declared.node.Node.{Node}
-use Rattle.doc_tree.specs.Kept.{depth_at, NamesAreBelow}
+use Rattle.doc_tree.specs.Kept.{depth_at, place_at, IsPlace, NamesAreBelow}
 use Rattle.doc_tree.specs.Lists.{mem}
 use Rattle.doc_tree.specs.Table.{Table, Name, is_live, kids_of, attrs_of, kind_of, value_of, expanded_of}
 use Rattle.doc_tree.specs.Walks.{order, ancestors, text_bytes}
@@ -47,5 +47,6 @@ pub record Sound (nodes : List (Option Node)) (names : List Name) (live bytes : 
   pub known : NamesAreBelow (length names) nodes
   pub depths : (n : ℕ) → is_live (table_seen names nodes) n ≡ true →
       depth_at (slice_index_or nodes n None) ≡ length (ancestors (table_seen names nodes) n)
+  pub places : (n : ℕ) → IsPlace (table_seen names nodes) n (place_at (slice_index_or nodes n None))
   pub live_is : live ≡ length (order (table_seen names nodes))
   pub bytes_is : bytes ≡ text_bytes (table_seen names nodes)

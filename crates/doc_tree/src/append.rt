@@ -1,7 +1,7 @@
 //! Growing a tree at its end.
 
-ghost use Rattle.std.specs.Prelude.{◌≡◌, ◌<◌, ◌∷◌, [], ◌++◌, true, length, None, Some, IfOk, IfErr, OnOk, OnErr, slice_index_or, slice_set, vec_len, vec_capacity};
-ghost use Rattle.doc_tree.specs.Table.{AllLive, kind_of, value_in};
+ghost use Rattle.std.specs.Prelude.{◌≡◌, ◌<◌, ◌∷◌, [], ◌++◌, true, length, None, Some, IfOk, IfErr, OnOk, OnErr, slice_index_or, slice_set, vec_len, vec_capacity, if◌then◌else◌};
+ghost use Rattle.doc_tree.specs.Table.{AllLive, attrs_of, kids_of, kind_of, value_in};
 ghost use Rattle.doc_tree.specs.Walks.{is_open, above};
 ghost use Rattle.doc_tree.specs.Growth.{Grew, FitsUnder, NameIsKnown, Refuses, content_of_new, passed_limit};
 ghost use Rattle.doc_tree.specs.Kinds.{holds_kids};
@@ -73,6 +73,26 @@ impl Tree {
         }
     }
 
+    /// How many attributes, or else kids, a node has: the place of the next one.
+    fn next_place(&self, parent: NodeId, is_attribute: bool) -> u32
+        requires { holds_kids (kind_of self.now.nodes parent) ≡ true }
+        ensures { result ≡ length (if is_attribute then attrs_of self.now.nodes parent else kids_of self.now.nodes parent) }
+    {
+        self.laws();
+        self.attributes_or_kids(parent, is_attribute).len() as u32
+    }
+
+    /// The attributes of a node, or else its kids.
+    fn attributes_or_kids(&self, parent: NodeId, attributes: bool) -> &[NodeId]
+        ensures { result.now ≡ (if attributes then attrs_of self.now.nodes parent else kids_of self.now.nodes parent) }
+    {
+        if attributes {
+            self.attrs(parent)
+        } else {
+            self.kids(parent)
+        }
+    }
+
     /// Finds the first limit that a node with so many ancestors would pass.
     fn check_limits(
         &self,
@@ -118,16 +138,19 @@ impl Tree {
         ensures names { self.new.names ≡ self.old.names }
         ensures unchanged { OnErr result (self.new ≡ self.old) }
     {
+        let is_attribute = label.is_attribute();
+        let place = self.next_place(parent, is_attribute);
         let content = kept_content(self.alloc, label, text)?;
         let number = NodeId::from_number(self.nodes.len() as u32);
         let added = Node {
             parent: Some(parent),
             depth,
+            place,
             kids: ItemList::new(self.alloc),
             attributes: ItemList::new(self.alloc),
             content,
         };
-        attach(&mut self.nodes, parent, number, label.is_attribute(), added)?;
+        attach(&mut self.nodes, parent, number, is_attribute, added)?;
         self.live += 1;
         self.text_bytes += text.len();
         Ok(number)

@@ -1,20 +1,20 @@
 //! Which of two nodes comes first in document order.
 
-ghost use Rattle.std.specs.Prelude.{◌≡◌, ◌≢◌, ◌==◌, ℕ, ◌≤◌, ◌++◌, ◌||◌, true, length};
-ghost use Rattle.std.specs.List.{find};
+ghost use Rattle.std.specs.Prelude.{◌≡◌, ◌≢◌, ℕ, ◌≤◌, ◌++◌, true, length, Some};
+ghost use Rattle.doc_tree.specs.Kept.{IsPlace};
 ghost use Rattle.doc_tree.specs.Lists.{mem};
 ghost use Rattle.doc_tree.specs.Order.{comes_first, is_before, IsUp, Nested};
-ghost use Rattle.doc_tree.specs.Table.{is_live, attrs_of, kids_of};
+ghost use Rattle.doc_tree.specs.Table.{is_live, attrs_of, kids_of, parent_of};
 ghost use Rattle.doc_tree.specs.Walks.{ancestors, below};
 
 use crate::ids::NodeId;
+use crate::kinds::Kind;
 use crate::tree::{Tree, node_at};
 
 impl Tree {
     /// Whether `a` stands before `b` in document order (XPath 1.0 section 5).
     ///
-    /// Costs the ways up to where the two part, and there the reading of siblings up to the first of the two branches;
-    /// it takes no memory.
+    /// Costs the ways up to where the two part, and takes no memory.
     pub fn is_before(&self, a: NodeId, b: NodeId) -> bool
         requires a_lives { is_live self.now.nodes a ≡ true }
         requires b_lives { is_live self.now.nodes b ≡ true }
@@ -88,7 +88,7 @@ impl Tree {
         match (self.parent(a), self.parent(b)) {
             (Some(p), Some(q)) => {
                 if p == q {
-                    self.sibling_is_before(p, a, b)
+                    self.sibling_is_before(a, b)
                 } else {
                     self.branch_is_before(p, q)
                 }
@@ -97,23 +97,36 @@ impl Tree {
         }
     }
 
-    /// Whether `a` stands before `b` among the attributes and kids of a node.
-    fn sibling_is_before(&self, parent: NodeId, a: NodeId, b: NodeId) -> bool
-        ensures { result ≡ comes_first a b (attrs_of self.now.nodes parent ++ kids_of self.now.nodes parent) }
+    /// Whether `a` stands before `b` among the attributes and kids of the parent of both: an attribute stands before a
+    /// kid, and two of one list stand by their places.
+    fn sibling_is_before(&self, a: NodeId, b: NodeId) -> bool
+        requires { a ≢ b }
+        ensures { (p : ℕ) → parent_of self.now.nodes a ≡ Some p → parent_of self.now.nodes b ≡ Some p → result ≡ comes_first a b (attrs_of self.now.nodes p ++ kids_of self.now.nodes p) }
     {
-        match first_of(self.attrs(parent), a, b) {
-            Some(first) => first == a,
-            None => match first_of(self.kids(parent), a, b) {
-                Some(first) => first == a,
-                None => false,
-            },
+        self.laws();
+        let is_attribute = self.is_attribute(a);
+        if is_attribute == self.is_attribute(b) {
+            self.place(a) < self.place(b)
+        } else {
+            is_attribute
         }
     }
-}
 
-/// The first of the nodes that is `a` or `b`.
-fn first_of(nodes: &[NodeId], a: NodeId, b: NodeId) -> Option<NodeId>
-    ensures { result ≡ find (λ n. (n == a) || (n == b)) nodes.now }
-{
-    nodes.iter().copied().find(|n| *n == a || *n == b)
+    /// Whether a node is one of its parent's attributes.
+    fn is_attribute(&self, n: NodeId) -> bool
+        ensures { (p : ℕ) → parent_of self.now.nodes n ≡ Some p → result ≡ mem n (attrs_of self.now.nodes p) }
+    {
+        self.laws();
+        matches!(self.kind_if_live(n), Some(Kind::Attribute))
+    }
+
+    /// A node's place among its parent's attributes, or else kids; 0 for the root.
+    fn place(&self, n: NodeId) -> u32
+        ensures { IsPlace self.now.nodes n result }
+    {
+        match node_at(self.nodes.as_slice(), n) {
+            Some(node) => node.place,
+            None => 0,
+        }
+    }
 }

@@ -48,11 +48,13 @@ pub(crate) enum Label {
     Pi(NameId),
 }
 
-/// A node: its parent, how many ancestors it has, its kids and attributes, and what it holds.
+/// A node: its parent, how many ancestors it has, its place among its parent's attributes or else kids, its own kids
+/// and attributes, and what it holds.
 #[derive(Debug, Drop)]
 pub(crate) struct Node {
     pub(crate) parent: Option<NodeId>,
     pub(crate) depth: u32,
+    pub(crate) place: u32,
     pub(crate) kids: NodeList,
     pub(crate) attributes: NodeList,
     pub(crate) content: NodeContent,

@@ -60,6 +60,7 @@ impl Tree {
         nodes.push(Some(Node {
             parent: None,
             depth: 0,
+            place: 0,
             kids: ItemList::new(alloc),
             attributes: ItemList::new(alloc),
             content: NodeContent::Root,
