@@ -1,4 +1,6 @@
 pub mod SubLists
+pub mod Merging
+pub mod NodeSets
 pub mod Segments
 pub mod AxisLemmas
 pub mod SiblingLemmas

@@ -1,9 +1,6 @@
 -- Lists that keep some of another list's numbers in their order, filters, and lists from their end.
-use Rattle.std.proofs.Common.{◌≡◌, ◌≢◌, ℕ, ◌+◌, ◌≤◌, Bool, true, false, cond, ◌||◌, List, [], ◌∷◌, ◌++◌, ◌<◌, length, take, get_or, eqb, refl, sym, ap, ◌∙◌, subst, arith, append_assoc, append-nil, ne_eqb, eq-eqb, eqb-true}
+use Rattle.std.proofs.Common.{◌≡◌, ℕ, ◌≤◌, Bool, true, false, cond, ◌||◌, List, [], ◌∷◌, ◌++◌, eqb, refl, sym, ap, ◌∙◌, subst, arith, append_assoc, append-nil, ne_eqb, eqb-true}
 use Rattle.std.specs.Prelude.{filter}
-use Rattle.std.specs.Ordering.{is_eq, nat_cmp}
-use Rattle.std.proofs.lemmas.Bool.Decides.{nat_tests}
-use Rattle.std.proofs.lemmas.List.{take_more}
 use Rattle.doc_tree.specs.Lists.{mem, occurs, Distinct}
 use Rattle.doc_tree.proofs.ListLemmas.{In, In-mem, mem-In, none-mem, occurs-append, occurs-head, occurs-same, mem-head}
 use Rattle.doc_axes.specs.Axes.{backwards}
@@ -104,24 +101,3 @@ mem-append_is m (x ∷ xs) ys = by (eqb m x) (mem-append_is m xs ys)
     by : (b : Bool) → mem m (xs ++ ys) ≡ (mem m xs || mem m ys) → (b || mem m (xs ++ ys)) ≡ ((b || mem m xs) || mem m ys)
     by true e = refl
     by false e = e
-
--- a filter of one number more
-pub filter-more : (p : ℕ → Bool) (xs : List ℕ) (i n : ℕ) → i < length xs → n ≡ get_or xs i n → filter p (take (i + 1) xs) ≡ filter p (take i xs) ++ cond (p n) (n ∷ []) []
-filter-more p xs i n less here =
-    ap (filter p) (take_more xs i n less ∙ ap (λ k. take i xs ++ k ∷ []) (sym here)) ∙ filter-append p (take i xs) (n ∷ [])
-
-pub mem-more : (q : ℕ) (xs : List ℕ) (i n : ℕ) → i < length xs → n ≡ get_or xs i n → mem q (take (i + 1) xs) ≡ (mem q (take i xs) || (eqb q n || false))
-mem-more q xs i n less here =
-    ap (mem q) (take_more xs i n less ∙ ap (λ k. take i xs ++ k ∷ []) (sym here)) ∙ mem-append_is q (take i xs) (n ∷ [])
-
-is_eq-nat_cmp : (n q : ℕ) → is_eq (nat_cmp n q) ≡ eqb q n
-is_eq-nat_cmp n q = grind (arith, nat_tests)
-
-pub inserted : (n q : ℕ) (old listed : Bool) → old ≡ listed → cond (is_eq (nat_cmp n q)) true old ≡ (listed || (eqb q n || false))
-inserted n q old listed e = rw (is_eq-nat_cmp, e) (by (eqb q n) listed)
-  where
-    by : (b l : Bool) → cond b true l ≡ (l || (b || false))
-    by true true = refl
-    by true false = refl
-    by false true = refl
-    by false false = refl
