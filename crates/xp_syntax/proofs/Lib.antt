@@ -1,2 +1,4 @@
 pub mod Places
 pub mod OneSpelling
+pub mod WrittenOut
+pub mod Abbreviations

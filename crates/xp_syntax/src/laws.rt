@@ -1,5 +1,6 @@
 //! Laws of the definitions, for the proofs of callers.
 
+ghost use Rattle.xp_syntax.specs.Laws.{AbbreviationsAreWrittenOut};
 ghost use Rattle.xp_syntax.specs.Laws.{FirstFaultsAreUnique, FaultyTextsSpellNothing, OneSpelling, OnePatternSpelling};
 
 use xp_lexicon::texts_read_once;
@@ -35,3 +36,9 @@ pub fn faulty_texts_spell_nothing()
 {
     texts_read_once();
 }
+
+/// Where a step's `child::`, `attribute::`, `self::node()`, `parent::node()` or `/descendant-or-self::node()/` is
+/// abbreviated, the tokens with the whole of it in that place derive the same tree (XPath 1.0, section 2.5).
+pub fn abbreviations_are_written_out()
+    ensures { AbbreviationsAreWrittenOut }
+{}
