@@ -1,12 +1,12 @@
 -- The nodes on each axis, by the parts of document order round a node.
-use Rattle.std.proofs.Common.{◌≡◌, ◌≢◌, ℕ, ◌+◌, ◌≤◌, Bool, true, false, not, cond, ◌||◌, ◌&&◌, List, [], ◌∷◌, ◌++◌, ◌⊎◌, length, eqb, Option, None, Some, refl, sym, ap, ap₂, ◌∙◌, subst, ⊎_elim, true≢false, arith, append_assoc, append-nil}
+use Rattle.std.proofs.Common.{◌≡◌, ℕ, Bool, true, false, not, ◌||◌, ◌&&◌, List, [], ◌∷◌, ◌++◌, eqb, Option, None, Some, refl, sym, ap, ap₂, ◌∙◌, subst, ⊎_elim, true≢false, arith, append-nil}
 use Rattle.std.specs.List.{flat_map}
 use Rattle.std.specs.Prelude.{filter, count_by}
 use Rattle.doc_tree.specs.declared.kinds.Kind.{Kind}
 use Rattle.doc_tree.specs.declared.kinds.Kind.TheVariants as kinds
 use Rattle.doc_tree.specs.declared.axes.Axis.TheVariants.{Ancestor, AncestorOrSelf, Attribute, Child, Descendant, DescendantOrSelf, Following, Parent, Preceding, SelfNode}
 use Rattle.doc_tree.specs.Kinds.{can_be_kid}
-use Rattle.doc_tree.specs.Lists.{mem, occurs}
+use Rattle.doc_tree.specs.Lists.{mem}
 use Rattle.doc_tree.specs.Table.{Table, parent_of, kids_of, attrs_of, is_live, kind_of}
 use Rattle.doc_tree.specs.Walks.{ancestors, order, below}
 use Rattle.doc_tree.specs.Order.{after, Nested}
@@ -15,7 +15,7 @@ use Rattle.doc_tree.proofs.ListLemmas.{In, In-mem, mem-In, In-cons, In-append, o
 use Rattle.doc_tree.proofs.OrderLemmas.{below-head}
 use Rattle.doc_axes.specs.Axes.{backwards, is_attribute, is_attribute_kind, is_ancestor, is_one, on_axis, axis_order, axis_nodes, AxesPartition}
 use Rattle.doc_axes.specs.Plain.{plain, plain_below}
-use Rattle.doc_axes.proofs.SubLists.{Sub, done, skip, keep, sub-none, sub-all, sub-append, sub-front, sub-back, sub-one, filter-sub, filter-append, filter-none, filter-same, backwards-twice, occurs-backwards, mem-same}
+use Rattle.doc_axes.proofs.SubLists.{Sub, done, skip, sub-all, sub-append, sub-front, sub-back, sub-one, filter-sub, filter-append, filter-none, filter-same, backwards-twice, occurs-backwards, mem-same}
 use Rattle.doc_axes.proofs.Segments.{Place, Stands, place, stands_front, stands_back, stands_self, stands_below, filter-parts}
 
 or-nil : (b : Bool) → b ≡ (b || false)

@@ -1,16 +1,16 @@
 -- Document order round a node: what stands before it, it and all below it, and what stands behind.
-use Rattle.std.proofs.Common.{◌≡◌, ◌≢◌, ℕ, ◌+◌, ◌≤◌, suc, zero, Bool, true, false, not, ◌||◌, ◌&&◌, List, [], ◌∷◌, ◌++◌, ◌⊎◌, length, eqb, Some, refl, sym, ap, ◌∙◌, subst, ⊎_elim, true≢false, arith, append_assoc, append-nil, ne_eqb, eq-eqb}
+use Rattle.std.proofs.Common.{◌≡◌, ◌≢◌, ℕ, ◌+◌, ◌≤◌, suc, zero, Bool, true, false, ◌||◌, List, [], ◌∷◌, ◌++◌, length, eqb, Some, refl, sym, ap, ◌∙◌, subst, ⊎_elim, true≢false, arith, append_assoc, append-nil, ne_eqb, eq-eqb}
 use Rattle.std.specs.List.{flat_map}
 use Rattle.std.specs.Prelude.{filter}
 use Rattle.doc_tree.specs.Lists.{mem, occurs}
 use Rattle.doc_tree.specs.Table.{Table, parent_of, kids_of, attrs_of, is_live}
-use Rattle.doc_tree.specs.Walks.{ancestors, above, order, below}
-use Rattle.doc_tree.specs.Order.{after, Nested}
+use Rattle.doc_tree.specs.Walks.{ancestors, order, below}
+use Rattle.doc_tree.specs.Order.{Nested}
 use Rattle.doc_tree.specs.Laws.{WellFormed, Ordered, HasWaysUp}
-use Rattle.doc_tree.proofs.ListLemmas.{In, In-mem, mem-In, In-cons, none-mem, occurs-append, occurs-head, eq_or}
+use Rattle.doc_tree.proofs.ListLemmas.{In, In-mem, mem-In, none-mem, occurs-append, occurs-head, eq_or}
 use Rattle.doc_tree.proofs.OrderLemmas.{Apart, SplitAt, split_at, after-self, apart-after, flat_map-append, below-head, below-listed}
 use Rattle.doc_axes.specs.Axes.{backwards, is_after, is_ancestor}
-use Rattle.doc_axes.proofs.SubLists.{Sub, done, skip, keep, sub-none, sub-append, sub-occurs, filter-append, occurs-backwards}
+use Rattle.doc_axes.proofs.SubLists.{Sub, done, keep, sub-none, sub-append, sub-occurs, filter-append, occurs-backwards}
 
 abbrev pub listed : Table → ℕ → List ℕ
 listed T p = attrs_of T p ++ kids_of T p

@@ -1,20 +1,20 @@
 -- The kids before and behind a node, and the axes of siblings.
-use Rattle.std.proofs.Common.{◌≡◌, ◌≢◌, ℕ, ◌+◌, ◌<◌, ◌≤◌, suc, zero, Bool, true, false, not, cond, ◌||◌, ◌&&◌, List, [], ◌∷◌, ◌++◌, ◌⊎◌, length, take, drop, eqb, ltb, ltb-true, ltb-false, Option, None, Some, refl, sym, ap, ◌∙◌, subst, ⊎_elim, true≢false, arith, add-one, eq-eqb, append_assoc, inl, inr}
-use Rattle.std.specs.Prelude.{filter, position}
+use Rattle.std.proofs.Common.{◌≡◌, ℕ, ◌+◌, ◌<◌, ◌≤◌, suc, Bool, true, false, not, cond, ◌||◌, ◌&&◌, List, [], ◌∷◌, ◌++◌, ◌⊎◌, length, take, drop, eqb, ltb, ltb-true, ltb-false, Option, None, Some, refl, sym, ap, ◌∙◌, subst, ⊎_elim, true≢false, arith, add-one, eq-eqb, append_assoc, inl, inr}
+use Rattle.std.specs.Prelude.{position}
 use Rattle.std.specs.List.{prefix_len}
 use Rattle.std.proofs.Math.Numerals.{one-add}
 use Rattle.doc_tree.specs.declared.axes.Axis.TheVariants.{FollowingSibling, PrecedingSibling}
 use Rattle.doc_tree.specs.Lists.{mem, occurs}
-use Rattle.doc_tree.specs.Table.{Table, parent_of, kids_of, attrs_of, is_live}
-use Rattle.doc_tree.specs.Walks.{order, below}
+use Rattle.doc_tree.specs.Table.{Table, parent_of, kids_of, attrs_of}
+use Rattle.doc_tree.specs.Walks.{order}
 use Rattle.doc_tree.specs.Order.{after, Nested}
 use Rattle.doc_tree.specs.Laws.{WellFormed, Ordered, HasWaysUp}
-use Rattle.doc_tree.proofs.ListLemmas.{In, In-mem, mem-In, In-cons, In-append, none-mem, occurs-append, occurs-head}
+use Rattle.doc_tree.proofs.ListLemmas.{In, In-mem, mem-In, In-cons, In-append, occurs-append, occurs-head}
 use Rattle.doc_tree.proofs.OrderLemmas.{Apart, SplitAt, split_at, after-split, after-self, apart-after}
-use Rattle.doc_axes.specs.Axes.{backwards, is_attribute, is_after, kids_above, kids_beside, on_axis, axis_order, axis_nodes}
+use Rattle.doc_axes.specs.Axes.{backwards, is_attribute, kids_above, kids_beside, on_axis, axis_order, axis_nodes}
 use Rattle.doc_axes.specs.Siblings.{before, kids_before, kids_behind}
-use Rattle.doc_axes.proofs.SubLists.{Sub, done, skip, keep, sub-none, sub-all, sub-append, sub-front, sub-back, sub-occurs, filter-sub, filter-none}
-use Rattle.doc_axes.proofs.Segments.{Place, place}
+use Rattle.doc_axes.proofs.SubLists.{Sub, done, skip, keep, sub-all, sub-front, sub-back, sub-occurs, filter-sub, filter-none}
+use Rattle.doc_axes.proofs.Segments.{place}
 use Rattle.doc_axes.proofs.AxisLemmas.{attr-is_attribute, kids-below, within}
 
 abbrev first_place : ℕ → List ℕ → ℕ

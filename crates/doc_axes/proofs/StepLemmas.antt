@@ -1,11 +1,11 @@
 -- What follows and precedes a node, from what does its parent, and what stands below.
-use Rattle.std.proofs.Common.{◌≡◌, ◌≢◌, ℕ, ◌+◌, ◌≤◌, Bool, true, false, not, ◌||◌, ◌&&◌, List, [], ◌∷◌, ◌++◌, ◌⊎◌, length, eqb, Some, None, refl, sym, ap, ap₂, ◌∙◌, subst, ⊎_elim, true≢false, arith, append_assoc, append-nil, ne_eqb, eq-eqb}
+use Rattle.std.proofs.Common.{◌≡◌, ◌≢◌, ℕ, ◌+◌, ◌≤◌, Bool, true, false, not, ◌||◌, ◌&&◌, List, [], ◌∷◌, ◌++◌, eqb, Some, None, refl, sym, ap, ap₂, ◌∙◌, subst, ⊎_elim, true≢false, arith, append_assoc, ne_eqb, eq-eqb}
 use Rattle.std.specs.List.{flat_map}
 use Rattle.std.specs.Prelude.{filter}
 use Rattle.doc_tree.specs.declared.axes.Axis.TheVariants.{Following, Preceding}
 use Rattle.doc_tree.specs.Lists.{mem, occurs}
 use Rattle.doc_tree.specs.Table.{Table, parent_of, kids_of, attrs_of, is_live}
-use Rattle.doc_tree.specs.Walks.{ancestors, order, below}
+use Rattle.doc_tree.specs.Walks.{ancestors, below}
 use Rattle.doc_tree.specs.Order.{Nested}
 use Rattle.doc_tree.specs.Laws.{WellFormed, Ordered, HasWaysUp}
 use Rattle.doc_tree.proofs.ListLemmas.{In, In-mem, mem-In, In-append, none-mem, occurs-append, occurs-head, eq_or}
@@ -13,9 +13,9 @@ use Rattle.doc_tree.proofs.OrderLemmas.{SplitAt, split_at, flat_map-append}
 use Rattle.doc_axes.specs.Axes.{is_attribute, is_ancestor, axis_order}
 use Rattle.doc_axes.specs.Plain.{plain, plain_below}
 use Rattle.doc_axes.specs.Siblings.{kids_before, kids_behind}
-use Rattle.doc_axes.proofs.SubLists.{sub-occurs, filter-append, filter-none, filter-same, occurs-backwards}
+use Rattle.doc_axes.proofs.SubLists.{sub-occurs, filter-append, filter-same, occurs-backwards}
 use Rattle.doc_axes.proofs.Segments.{Place, listed, place, place_root, place_under, order-split}
-use Rattle.doc_axes.proofs.AxisLemmas.{attr-is_attribute, kid-is_plain, plain-attributes, following_axis, preceding_axis}
+use Rattle.doc_axes.proofs.AxisLemmas.{plain-attributes, following_axis, preceding_axis}
 use Rattle.doc_axes.proofs.SiblingLemmas.{behind-split, before_split}
 
 module _ (T : Table) (form : WellFormed T) (ord : Ordered T) (up : HasWaysUp T) (nest : Nested T) where

@@ -1,5 +1,5 @@
 -- The way up is the axis, nearest first.
-use Rattle.std.proofs.Common.{◌≡◌, ◌++◌, ap, ◌∙◌}
+use Rattle.std.proofs.Common.{◌++◌, ap, ◌∙◌}
 use Rattle.doc_tree.specs.Walks.{ancestors}
 use Rattle.doc_axes.proofs.AxisLemmas.{ancestor_axis}
 use Rattle.doc_axes.proofs.axes.ancestor.Goals as goal

@@ -1,5 +1,5 @@
 -- The node and its way up are the axis, nearest first.
-use Rattle.std.proofs.Common.{◌≡◌, ◌++◌, ◌∷◌, [], ap, ◌∙◌}
+use Rattle.std.proofs.Common.{◌++◌, ◌∷◌, [], ap, ◌∙◌}
 use Rattle.doc_tree.specs.Walks.{ancestors}
 use Rattle.doc_axes.proofs.AxisLemmas.{ancestor_or_self_axis}
 use Rattle.doc_axes.proofs.axes.ancestor_or_self.Goals as goal

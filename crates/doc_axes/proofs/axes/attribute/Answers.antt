@@ -1,5 +1,5 @@
 -- The attributes are the nodes of the axis.
-use Rattle.std.proofs.Common.{◌≡◌, ◌++◌, ap₂, ◌∙◌}
+use Rattle.std.proofs.Common.{◌++◌, ap₂, ◌∙◌}
 use Rattle.doc_axes.proofs.AxisLemmas.{attribute_axis}
 use Rattle.doc_axes.proofs.axes.attribute.Goals as goal
 

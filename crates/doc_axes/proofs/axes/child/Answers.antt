@@ -1,5 +1,5 @@
 -- The kids are the nodes of the axis.
-use Rattle.std.proofs.Common.{◌≡◌, ◌++◌, ap₂, ◌∙◌}
+use Rattle.std.proofs.Common.{◌++◌, ap₂, ◌∙◌}
 use Rattle.doc_axes.proofs.AxisLemmas.{child_axis}
 use Rattle.doc_axes.proofs.axes.child.Goals as goal
 

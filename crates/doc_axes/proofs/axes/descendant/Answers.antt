@@ -1,5 +1,5 @@
 -- All below the kids but attributes is the axis.
-use Rattle.std.proofs.Common.{◌≡◌, ◌++◌, ap₂, ap, ◌∙◌}
+use Rattle.std.proofs.Common.{◌++◌, ap₂, ap, ◌∙◌}
 use Rattle.doc_axes.specs.Plain.{plain_below}
 use Rattle.doc_axes.proofs.AxisLemmas.{descendant_axis, kid-is_plain}
 use Rattle.doc_axes.proofs.axes.descendant.Goals as goal

@@ -1,5 +1,5 @@
 -- The node and all below its kids but attributes are the axis.
-use Rattle.std.proofs.Common.{◌≡◌, ◌++◌, ◌∷◌, [], ap₂, ap, ◌∙◌}
+use Rattle.std.proofs.Common.{◌++◌, ◌∷◌, [], ap₂, ap, ◌∙◌}
 use Rattle.doc_axes.specs.Plain.{plain_below}
 use Rattle.doc_axes.proofs.AxisLemmas.{descendant_or_self_axis, kid-is_plain}
 use Rattle.doc_axes.proofs.axes.descendant_or_self.Goals as goal

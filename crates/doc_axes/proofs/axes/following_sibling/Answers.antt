@@ -1,5 +1,5 @@
 -- The kids behind the node, of its parent's kids, are the axis.
-use Rattle.std.proofs.Common.{◌≡◌, ◌++◌, ap₂, ap, ◌∙◌}
+use Rattle.std.proofs.Common.{◌++◌, ap₂, ap, ◌∙◌}
 use Rattle.doc_axes.specs.Siblings.{kids_behind}
 use Rattle.doc_axes.proofs.SiblingLemmas.{following_siblings}
 use Rattle.doc_axes.proofs.axes.following_sibling.Goals as goal

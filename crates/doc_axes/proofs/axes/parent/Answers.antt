@@ -1,5 +1,5 @@
 -- The parent, if any, is the axis.
-use Rattle.std.proofs.Common.{◌≡◌, ◌++◌, ◌∷◌, [], sym, ap, ◌∙◌}
+use Rattle.std.proofs.Common.{◌++◌, ◌∷◌, [], sym, ap, ◌∙◌}
 use Rattle.doc_axes.proofs.AxisLemmas.{parent_axis, no_parent}
 use Rattle.doc_axes.proofs.axes.parent.Goals as goal
 use Rattle.doc_axes.proofs.axes.parent.Goals.{in-Some+in_ok-push, in_default}

@@ -1,5 +1,5 @@
 -- The node alone is the axis.
-use Rattle.std.proofs.Common.{◌≡◌, ◌++◌, ◌∷◌, [], ap, ◌∙◌}
+use Rattle.std.proofs.Common.{◌++◌, ◌∷◌, [], ap, ◌∙◌}
 use Rattle.doc_axes.proofs.AxisLemmas.{self_axis}
 use Rattle.doc_axes.proofs.axes.self_node.Goals as goal
 

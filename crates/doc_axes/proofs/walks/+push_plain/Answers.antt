@@ -1,11 +1,10 @@
 -- A kid has one ancestor more than its parent, is no attribute, and no node stands deeper than the limit allows.
-use Rattle.std.proofs.Common.{◌≡◌, ℕ, length, take, sym, ap, ap₂, ◌∙◌, arith, true, false, subst, ◌∷◌, ◌++◌, [], append_assoc}
+use Rattle.std.proofs.Common.{◌≡◌, ℕ, length, take, sym, ap, ap₂, ◌∙◌, arith, true, subst, ◌∷◌, ◌++◌, [], append_assoc}
 use Rattle.doc_tree.specs.Lists.{mem}
 use Rattle.doc_tree.specs.Table.{kids_of}
 use Rattle.doc_tree.specs.Walks.{ancestors}
 use Rattle.doc_tree.proofs.ListLemmas.{mem-get}
 use Rattle.std.proofs.lemmas.List.{take_all}
-use Rattle.doc_axes.specs.Axes.{is_attribute}
 use Rattle.doc_axes.specs.Plain.{plain_below}
 use Rattle.doc_axes.proofs.AxisLemmas.{kid-is_plain, plain_at}
 use Rattle.doc_axes.proofs.walks.+push_plain.Goals as goal

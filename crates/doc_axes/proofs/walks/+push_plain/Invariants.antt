@@ -1,4 +1,4 @@
-use Rattle.std.proofs.Common.{◌≡◌, ◌++◌, ◌∷◌, [], ◌-◌, ◌+◌, take, length}
+use Rattle.std.proofs.Common.{◌≡◌, ◌++◌, ◌-◌, ◌+◌, take, length}
 use Rattle.doc_tree.specs.declared.limits.TheConstants.{MAX_DEPTH}
 use Rattle.doc_tree.specs.Walks.{ancestors}
 use Rattle.doc_axes.specs.Plain.{plain_below}

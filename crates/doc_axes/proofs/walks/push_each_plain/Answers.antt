@@ -1,5 +1,5 @@
 -- Each node is one of those that are no attributes.
-use Rattle.std.proofs.Common.{◌≡◌, ℕ, true, sym, subst}
+use Rattle.std.proofs.Common.{◌≡◌, true, sym, subst}
 use Rattle.doc_tree.specs.Lists.{mem}
 use Rattle.doc_tree.proofs.ListLemmas.{mem-get}
 use Rattle.doc_axes.proofs.walks.push_each_plain.Goals as goal
