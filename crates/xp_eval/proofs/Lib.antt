@@ -2,4 +2,3 @@ pub mod Views
 pub mod Loops
 pub mod Runs
 pub mod DeadNodes
-pub mod Alone

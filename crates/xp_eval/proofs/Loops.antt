@@ -1,5 +1,5 @@
 -- What a loop over operands, steps or predicates has before it: the next one and the rest, or nothing.
-use Rattle.std.proofs.Common.{◌≡◌, ℕ, ◌+◌, ◌<◌, ◌≤◌, List, length, drop, get_or, true, false, if◌then◌else◌, ◌∙◌, ap}
+use Rattle.std.proofs.Common.{◌≡◌, ℕ, ◌+◌, ◌<◌, ◌≤◌, List, length, drop, get_or, true, false, if◌then◌else◌, sym, ◌∙◌, ap}
 use Rattle.doc_tree.specs.Table.{Table}
 use Rattle.xp_typed.specs.declared.expr.TypedExpr.{TypedExpr}
 use Rattle.xp_typed.specs.declared.expr.Compared.{Compared, out-Compared}
@@ -8,6 +8,7 @@ use Rattle.xp_typed.specs.declared.expr.TypedStep.{TypedStep}
 use Rattle.xp_typed.specs.TypedView.{typed_tree_of, typed_seen, compared_list_seen, combined_list_seen, typed_steps_seen}
 use Rattle.xp_typed.proofs.TypedViewLemmas.{of-compared, of-combined, of-step}
 use Rattle.xp_outcome.specs.Outcome.{done, given, bind}
+use Rattle.xp_outcome.proofs.Outcomes.{bind_assoc}
 use Rattle.xp_outcome.proofs.Runs.{next_item, no_item}
 use Rattle.xp_values.specs.declared.values.Value.{Value}
 use Rattle.xp_values.specs.declared.values.Value.TheVariants.{Truth}
@@ -60,11 +61,13 @@ module _ (T : Table) (L : Lets) (xs : List Compared) (i : ℕ) (c : Context) (v 
 module _ (T : Table) (L : Lets) (xs : List Combined) (i : ℕ) (c : Context) (n : Num) where
   pub combined-next : (x : Combined) → i < length xs → x ≡ get_or xs i x →
       combined T (combinands_meant T L (combined_list_seen (drop i xs))) n c
-      ≡ bind (meaning T L (typed_tree_of (out-Combined x).expr) c) (λ w. bind (number_in T w) (λ m.
-      bind (given (arith (operation_of (out-Combined x).operator) n m)) (λ k. combined T (combinands_meant T L (combined_list_seen (drop (i + 1) xs))) k c)))
+      ≡ bind (bind (meaning T L (typed_tree_of (out-Combined x).expr) c) (number_in T)) (λ m.
+      bind (given (arith (operation_of (out-Combined x).operator) n m)) (λ k. combined T (combinands_meant T L (combined_list_seen (drop (i + 1) xs))) k c))
   combined-next x below is =
       ap (λ ys. combined T (combinands_meant T L (combined_list_seen ys)) n c) (next_item xs i x below is)
       ∙ ap (λ r. combined T (combinands_meant T L r) n c) (of-combined x (combined_list_seen (drop (i + 1) xs)))
+      ∙ sym (bind_assoc (meaning T L (typed_tree_of (out-Combined x).expr) c) (number_in T) (λ m.
+      bind (given (arith (operation_of (out-Combined x).operator) n m)) (λ k. combined T (combinands_meant T L (combined_list_seen (drop (i + 1) xs))) k c)))
 
   pub combined-end : length xs ≤ i → combined T (combinands_meant T L (combined_list_seen (drop i xs))) n c ≡ done n
   combined-end past = ap (λ ys. combined T (combinands_meant T L (combined_list_seen ys)) n c) (no_item xs i past)

@@ -15,8 +15,9 @@ use Rattle.xp_typed.specs.declared.expr.TypedExpr.TheVariants as exprs
 use Rattle.xp_typed.specs.declared.expr.TypedStart.TheVariants as starts
 use Rattle.xp_typed.specs.TypedView.{typed_tree_of, typed_seen, place_of, compared_list_seen, combined_list_seen, typed_steps_seen}
 use Rattle.xp_typed.proofs.TypedViewLemmas.{of-Or, of-And, of-Compare, of-Arith, of-Negate, of-Union, of-Path, of-Filter, of-Variable, of-Literal, of-Number, of-Call, of-Root, of-Here, of-From}
-use Rattle.xp_outcome.specs.Outcome.{done, given, bind, visit, reading, variable}
+use Rattle.xp_outcome.specs.Outcome.{Outcome, done, given, bind, visit, reading, variable}
 use Rattle.xp_outcome.specs.Slots.{in_slot}
+use Rattle.xp_outcome.proofs.Outcomes.{bind_alike, bind-done, bind_assoc}
 use Rattle.xp_values.specs.declared.values.Value.{Value}
 use Rattle.xp_values.specs.declared.values.Value.TheVariants.{NodeSet, Truth, Number, Chars}
 use Rattle.xp_values.specs.declared.values.EvalFault.{EvalFault}
@@ -28,6 +29,13 @@ use Rattle.xp_meaning.specs.Paths.{filtered, path}
 use Rattle.xp_meaning.specs.Functions.{applied}
 use Rattle.xp_meaning.specs.Evaluation.{Lets, meaning, meanings, some_true, all_true, compared, combined, values, start_nodes, comparands_meant, combinands_meant, steps_meant, slot_value}
 use Rattle.xp_eval.specs.Wants.{wanted_by}
+
+-- what follows a part of a value follows the value
+bind_mapped : {F A B C : Type 0} (m : Outcome F A) (part : A → B) (next : B → Outcome F C) →
+    bind (bind m (λ v. done (part v))) next ≡ bind m (λ v. next (part v))
+bind_mapped m part next =
+    bind_assoc m (λ v. done (part v)) next
+    ∙ bind_alike m (λ v. bind (done (part v)) next) (λ v. next (part v)) (λ v. bind-done (part v) next)
 
 module _ (T : Table) (L : Lets) (e : TypedExpr) (c : Context) where
   pub view-Or : (v : Vec TypedExpr Global) (es : List TypedExpr) → e ≡ exprs.Or v → es ≡ v.items →
@@ -52,21 +60,24 @@ module _ (T : Table) (L : Lets) (e : TypedExpr) (c : Context) where
 
   pub view-Arith : (b : Box TypedExpr Global) (v : Vec Combined Global) (first : TypedExpr) (rest : List Combined) →
       e ≡ exprs.Arith b v → first ≡ b.value → rest ≡ v.items →
-      meaning T L (typed_tree_of e) c ≡ visit (bind (meaning T L (typed_tree_of first) c) (λ w. bind (number_in T w) (λ x.
-      bind (combined T (combinands_meant T L (combined_list_seen rest)) x c) (λ y. done (Number y)))))
+      meaning T L (typed_tree_of e) c ≡ visit (bind (bind (meaning T L (typed_tree_of first) c) (number_in T)) (λ x.
+      bind (combined T (combinands_meant T L (combined_list_seen rest)) x c) (λ y. done (Number y))))
   view-Arith b v first rest is same all =
       ap (λ t. meaning T L t c) (ap typed_tree_of is ∙ of-Arith b v)
-      ∙ ap (λ f. visit (bind (meaning T L (typed_tree_of f) c) (λ w. bind (number_in T w) (λ x.
-      bind (combined T (combinands_meant T L (combined_list_seen v.items)) x c) (λ y. done (Number y)))))) (sym same)
-      ∙ ap (λ xs. visit (bind (meaning T L (typed_tree_of first) c) (λ w. bind (number_in T w) (λ x.
-      bind (combined T (combinands_meant T L (combined_list_seen xs)) x c) (λ y. done (Number y)))))) (sym all)
+      ∙ ap visit (sym (bind_assoc (meaning T L (typed_tree_of b.value) c) (number_in T) (λ x.
+      bind (combined T (combinands_meant T L (combined_list_seen v.items)) x c) (λ y. done (Number y)))))
+      ∙ ap (λ f. visit (bind (bind (meaning T L (typed_tree_of f) c) (number_in T)) (λ x.
+      bind (combined T (combinands_meant T L (combined_list_seen v.items)) x c) (λ y. done (Number y))))) (sym same)
+      ∙ ap (λ xs. visit (bind (bind (meaning T L (typed_tree_of first) c) (number_in T)) (λ x.
+      bind (combined T (combinands_meant T L (combined_list_seen xs)) x c) (λ y. done (Number y))))) (sym all)
 
   pub view-Negate : (signs : ℕ) (b : Box TypedExpr Global) (operand : TypedExpr) → e ≡ exprs.Negate signs b → operand ≡ b.value →
-      meaning T L (typed_tree_of e) c ≡ visit (bind (meaning T L (typed_tree_of operand) c) (λ w. bind (number_in T w) (λ x.
-      bind (given (negated signs x)) (λ y. done (Number y)))))
+      meaning T L (typed_tree_of e) c
+      ≡ visit (bind (bind (meaning T L (typed_tree_of operand) c) (number_in T)) (λ x. bind (given (negated signs x)) (λ y. done (Number y))))
   view-Negate signs b operand is same =
       ap (λ t. meaning T L t c) (ap typed_tree_of is ∙ of-Negate signs b)
-      ∙ ap (λ f. visit (bind (meaning T L (typed_tree_of f) c) (λ w. bind (number_in T w) (λ x. bind (given (negated signs x)) (λ y. done (Number y)))))) (sym same)
+      ∙ ap visit (sym (bind_assoc (meaning T L (typed_tree_of b.value) c) (number_in T) (λ x. bind (given (negated signs x)) (λ y. done (Number y)))))
+      ∙ ap (λ f. visit (bind (bind (meaning T L (typed_tree_of f) c) (number_in T)) (λ x. bind (given (negated signs x)) (λ y. done (Number y))))) (sym same)
 
   pub view-Union : (v : Vec TypedExpr Global) (es : List TypedExpr) → e ≡ exprs.Union v → es ≡ v.items →
       meaning T L (typed_tree_of e) c ≡ visit (bind (values T (wanted_by None) (meanings T L (typed_seen es)) c) (λ vs. done (NodeSet (in_order T (flat_map nodes_of vs)))))
@@ -83,12 +94,16 @@ module _ (T : Table) (L : Lets) (e : TypedExpr) (c : Context) where
 
   pub view-Filter : (b : Box TypedExpr Global) (v : Vec TypedExpr Global) (base : TypedExpr) (ps : List TypedExpr) →
       e ≡ exprs.Filter b v → base ≡ b.value → ps ≡ v.items →
-      meaning T L (typed_tree_of e) c ≡ visit (bind (meaning T L (typed_tree_of base) c) (λ w.
-      bind (filtered (meanings T L (typed_seen ps)) c.current (nodes_of w)) (λ ms. done (NodeSet ms))))
+      meaning T L (typed_tree_of e) c ≡ visit (bind (bind (meaning T L (typed_tree_of base) c) (λ w. done (nodes_of w))) (λ ns.
+      bind (filtered (meanings T L (typed_seen ps)) c.current ns) (λ ms. done (NodeSet ms))))
   view-Filter b v base ps is same all =
       ap (λ t. meaning T L t c) (ap typed_tree_of is ∙ of-Filter b v)
-      ∙ ap (λ f. visit (bind (meaning T L (typed_tree_of f) c) (λ w. bind (filtered (meanings T L (typed_seen v.items)) c.current (nodes_of w)) (λ ms. done (NodeSet ms))))) (sym same)
-      ∙ ap (λ xs. visit (bind (meaning T L (typed_tree_of base) c) (λ w. bind (filtered (meanings T L (typed_seen xs)) c.current (nodes_of w)) (λ ms. done (NodeSet ms))))) (sym all)
+      ∙ ap visit (sym (bind_mapped (meaning T L (typed_tree_of b.value) c) nodes_of (λ ns.
+      bind (filtered (meanings T L (typed_seen v.items)) c.current ns) (λ ms. done (NodeSet ms)))))
+      ∙ ap (λ f. visit (bind (bind (meaning T L (typed_tree_of f) c) (λ w. done (nodes_of w))) (λ ns.
+      bind (filtered (meanings T L (typed_seen v.items)) c.current ns) (λ ms. done (NodeSet ms))))) (sym same)
+      ∙ ap (λ xs. visit (bind (bind (meaning T L (typed_tree_of base) c) (λ w. done (nodes_of w))) (λ ns.
+      bind (filtered (meanings T L (typed_seen xs)) c.current ns) (λ ms. done (NodeSet ms))))) (sym all)
 
   pub view-Variable : (place : ℕ) (type : ValueType) → e ≡ exprs.Variable place type →
       meaning T L (typed_tree_of e) c ≡ visit (reading (variable place) (slot_value (in_slot L place)))

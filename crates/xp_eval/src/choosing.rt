@@ -1,14 +1,13 @@
 //! The choice of nodes by the values of predicates (XPath 1.0, section 2.4), and of sets of nodes.
 
-ghost use Rattle.std.specs.Prelude.{◌≡◌, ◌∷◌, [], ◌++◌, false, length, flat_map, IfOk, IfSome, OnOk};
-ghost use Rattle.doc_axes.specs.Axes.{is_reverse};
+ghost use Rattle.std.specs.Prelude.{◌≡◌, ◌∷◌, [], ◌++◌, length, flat_map, IfOk, OnOk};
 ghost use Rattle.doc_axes.specs.Sets.{in_order};
 ghost use Rattle.xp_convert.specs.Conversions.{nodes_of};
 ghost use Rattle.xp_eval.specs.Wants.{wanted_by};
 ghost use Rattle.xp_meaning.specs.Paths.{chosen, holds_at};
 
-use doc_axes::in_document_order;
-use doc_tree::{Axis, NodeId, NodeList, Tree};
+use doc_axes::{in_document_order, push_all};
+use doc_tree::{NodeId, NodeList, Tree};
 use sch_base::ItemList;
 use std::alloc::{AllocError, Global};
 use xp_calls::wanted;
@@ -51,40 +50,6 @@ pub(crate) fn size_of(nodes: &[NodeId]) -> Result<u32, AllocError>
         Ok(size) => Ok(size),
         Err(_) => Err(AllocError),
     }
-}
-
-/// Whether the axis runs backwards (XPath 1.0, section 2.4).
-fn runs_backwards(axis: Axis) -> bool
-    ensures { result ≡ is_reverse axis }
-{
-    matches!(
-        axis,
-        Axis::Ancestor | Axis::AncestorOrSelf | Axis::Preceding | Axis::PrecedingSibling
-    )
-}
-
-/// The one node of a set, where there is one alone and the axis runs forward: a step from it selects its nodes in
-/// document order already.
-pub(crate) fn alone(axis: Axis, nodes: &[NodeId]) -> Option<NodeId>
-    ensures { IfSome result (λ n. (nodes.now ≡ n ∷ []) × (is_reverse axis ≡ false)) }
-{
-    if runs_backwards(axis) {
-        return None;
-    }
-    match nodes {
-        [n] => Some(*n),
-        _ => None,
-    }
-}
-
-/// Puts nodes at the end of the list.
-pub(crate) fn push_all(list: &mut NodeList, nodes: &[NodeId]) -> Result<(), AllocError>
-    ensures { OnOk result (list.new ≡ list.old ++ nodes.now) }
-{
-    for n in nodes {
-        list.push(*n)?;
-    }
-    Ok(())
 }
 
 /// The union of the node-sets among some values, in document order.

@@ -2,28 +2,30 @@
 //!
 //! Each function answers what its definition in xp_meaning gives, and stops at the first fault.
 
-ghost use Rattle.std.specs.Prelude.{◌≡◌};
+ghost use Rattle.std.specs.Prelude.{◌≡◌, None, Some, flat_map, IfOk};
+ghost use Rattle.doc_axes.specs.Sets.{in_order};
 ghost use Rattle.xp_values.specs.declared.values.Value.TheVariants as value_kinds;
+ghost use Rattle.xp_outcome.specs.Outcome.{done, bind};
 ghost use Rattle.xp_outcome.specs.Running.{Ran};
+ghost use Rattle.xp_convert.specs.Conversions.{nodes_of, number_in};
 ghost use Rattle.xp_convert.specs.Results.{shown};
 ghost use Rattle.xp_typed.specs.TypedView.{typed_tree_of, typed_seen, place_of, compared_list_seen, combined_list_seen, typed_steps_seen};
+ghost use Rattle.xp_meaning.specs.Functions.{applied};
 ghost use Rattle.xp_meaning.specs.Paths.{kept, filtered, step_at, step_from, path};
 ghost use Rattle.xp_meaning.specs.Evaluation.{meaning, meanings, some_true, all_true, compared, combined, values, start_nodes, comparands_meant, combinands_meant, steps_meant};
 ghost use Rattle.xp_eval.specs.Steps.{step_meant};
 ghost use Rattle.xp_eval.specs.Wants.{wanted_by};
 
 use crate::candidates::candidates;
-use crate::choosing::{
-    alone, nodes_in, one_node, push_all, push_chosen, size_of, union_of, wanted_by,
-};
+use crate::choosing::{nodes_in, one_node, push_chosen, size_of, union_of, wanted_by};
 use crate::variables::variable;
-use doc_axes::in_document_order;
+use doc_axes::{in_document_order, push_all};
 use doc_tree::{NodeId, NodeList, Tree};
 use sch_base::{ItemList, Text};
-use std::alloc::Global;
+use std::alloc::{AllocError, Global};
 use std::sync::ledger::Ledger;
 use xp_calls::{applied, comparison_of, negated, operation_of};
-use xp_convert::{as_wanted, compare_in, nodes_of, number_in};
+use xp_convert::{as_wanted, compare_in, number_in};
 use xp_meaning::{Context, Lets};
 use xp_outcome::{Recorder, Steps};
 use xp_typed::{Combined, Compared, Function, TypedExpr, TypedStart, TypedStep};
@@ -57,44 +59,30 @@ pub(crate) fn evaluated<L: Ledger>(
             compared(alloc, tree, lets, rest, value, at, reads, steps)
         }
         TypedExpr::Arith { first, rest } => {
-            let value = evaluated(alloc, tree, lets, first, at, reads, steps)?;
-            let number = number_in(alloc, tree, &value, reads, steps)?;
+            let number = operand_number(alloc, tree, lets, first, at, reads, steps)?;
             let result = combined(alloc, tree, lets, rest, number, at, reads, steps)?;
             Ok(Value::Number(result))
         }
         TypedExpr::Negate { count, operand } => {
-            let value = evaluated(alloc, tree, lets, operand, at, reads, steps)?;
-            let number = number_in(alloc, tree, &value, reads, steps)?;
-            let result = negated(*count, number)?;
-            Ok(Value::Number(result))
+            let number = operand_number(alloc, tree, lets, operand, at, reads, steps)?;
+            Ok(Value::Number(negated(*count, number)?))
         }
-        TypedExpr::Union(operands) => {
-            let sets = values(alloc, tree, lets, operands, None, at, reads, steps)?;
-            let nodes = union_of(alloc, tree, sets.as_slice())?;
-            Ok(Value::NodeSet(nodes))
-        }
+        TypedExpr::Union(operands) => union_value(alloc, tree, lets, operands, at, reads, steps),
         TypedExpr::Path { start, steps: path } => {
             let nodes = start_nodes(alloc, tree, lets, start, at, reads, steps)?;
             let nodes = path_nodes(alloc, tree, lets, path, at.current, nodes, reads, steps)?;
             Ok(Value::NodeSet(nodes))
         }
         TypedExpr::Filter { base, predicates } => {
-            let value = evaluated(alloc, tree, lets, base, at, reads, steps)?;
-            let nodes = nodes_in(alloc, value);
-            let nodes = filtered(
-                alloc, tree, lets, predicates, at.current, nodes, reads, steps,
-            )?;
-            Ok(Value::NodeSet(nodes))
+            let set = operand_nodes(alloc, tree, lets, base, at, reads, steps)?;
+            let left = filtered(alloc, tree, lets, predicates, at.current, set, reads, steps)?;
+            Ok(Value::NodeSet(left))
         }
         TypedExpr::Variable { slot, .. } => variable(alloc, lets, *slot, reads),
-        TypedExpr::Literal { value } => {
-            let text = Text::copy(alloc, value.as_str())?;
-            Ok(Value::Chars(text))
-        }
+        TypedExpr::Literal { value } => Ok(text_value(alloc, value)?),
         TypedExpr::Number { value } => Ok(whole_value(value)),
         TypedExpr::Call { function, args } => {
-            let args = values(alloc, tree, lets, args, Some(*function), at, reads, steps)?;
-            applied(alloc, tree, *function, at, args.as_slice(), reads, steps)
+            call_value(alloc, tree, lets, *function, args, at, reads, steps)
         }
     }
 }
@@ -184,11 +172,97 @@ fn combined<L: Ledger>(
 {
     let mut number = number;
     for operand in rest {
-        let value = evaluated(alloc, tree, lets, &operand.expr, at, reads, steps)?;
-        let right = number_in(alloc, tree, &value, reads, steps)?;
+        let right = operand_number(alloc, tree, lets, &operand.expr, at, reads, steps)?;
         number = arith(operation_of(operand.operator), number, right)?;
     }
     Ok(number)
+}
+
+/// The number of an operand.
+#[cycle(evaluation)]
+fn operand_number<L: Ledger>(
+    alloc: Global,
+    tree: &Tree,
+    lets: &Lets,
+    operand: &TypedExpr,
+    at: &Context,
+    reads: &mut Recorder,
+    steps: &mut Steps<L>,
+) -> Result<Num, EvalError>
+    ensures { Ran (bind (meaning tree.now.nodes lets.now (typed_tree_of operand.now) at.now) (number_in tree.now.nodes)) (shown result) reads.old reads.new steps.old steps.new }
+{
+    let value = evaluated(alloc, tree, lets, operand, at, reads, steps)?;
+    number_in(alloc, tree, &value, reads, steps)
+}
+
+/// The nodes of an operand, which is a node-set.
+#[cycle(evaluation)]
+fn operand_nodes<L: Ledger>(
+    alloc: Global,
+    tree: &Tree,
+    lets: &Lets,
+    operand: &TypedExpr,
+    at: &Context,
+    reads: &mut Recorder,
+    steps: &mut Steps<L>,
+) -> Result<NodeList, EvalError>
+    ensures { Ran (bind (meaning tree.now.nodes lets.now (typed_tree_of operand.now) at.now) (λ v. done (nodes_of v))) (shown result) reads.old reads.new steps.old steps.new }
+{
+    let value = evaluated(alloc, tree, lets, operand, at, reads, steps)?;
+    Ok(nodes_in(alloc, value))
+}
+
+/// The union of node-sets, as a value (XPath 1.0, section 3.3).
+#[cycle(evaluation)]
+fn union_value<L: Ledger>(
+    alloc: Global,
+    tree: &Tree,
+    lets: &Lets,
+    operands: &[TypedExpr],
+    at: &Context,
+    reads: &mut Recorder,
+    steps: &mut Steps<L>,
+) -> Result<Value, EvalError>
+    ensures { Ran (bind (values tree.now.nodes (wanted_by None) (meanings tree.now.nodes lets.now (typed_seen operands.now)) at.now) (λ vs. done (value_kinds.NodeSet (in_order tree.now.nodes (flat_map nodes_of vs))))) (shown result) reads.old reads.new steps.old steps.new }
+{
+    let sets = values(alloc, tree, lets, operands, None, at, reads, steps)?;
+    let nodes = union_of(alloc, tree, sets.as_slice())?;
+    Ok(Value::NodeSet(nodes))
+}
+
+/// What a function gives for arguments (XPath 1.0, section 3.2).
+#[cycle(evaluation)]
+fn call_value<L: Ledger>(
+    alloc: Global,
+    tree: &Tree,
+    lets: &Lets,
+    function: Function,
+    operands: &[TypedExpr],
+    at: &Context,
+    reads: &mut Recorder,
+    steps: &mut Steps<L>,
+) -> Result<Value, EvalError>
+    ensures { Ran (bind (values tree.now.nodes (wanted_by (Some function)) (meanings tree.now.nodes lets.now (typed_seen operands.now)) at.now) (λ vs. applied tree.now.nodes function at.now vs)) (shown result) reads.old reads.new steps.old steps.new }
+{
+    let arguments = values(
+        alloc,
+        tree,
+        lets,
+        operands,
+        Some(function),
+        at,
+        reads,
+        steps,
+    )?;
+    applied(
+        alloc,
+        tree,
+        function,
+        at,
+        arguments.as_slice(),
+        reads,
+        steps,
+    )
 }
 
 /// The values of operands, each converted before the next one is evaluated.
@@ -231,10 +305,7 @@ fn start_nodes<L: Ledger>(
     match start {
         TypedStart::Root => Ok(one_node(alloc, tree.root())?),
         TypedStart::Here => Ok(one_node(alloc, at.node)?),
-        TypedStart::From(base) => {
-            let value = evaluated(alloc, tree, lets, base, at, reads, steps)?;
-            Ok(nodes_in(alloc, value))
-        }
+        TypedStart::From(base) => operand_nodes(alloc, tree, lets, base, at, reads, steps),
     }
 }
 
@@ -282,10 +353,6 @@ fn step_set<L: Ledger>(
 ) -> Result<NodeList, EvalError>
     ensures { Ran (step_from tree.now.nodes (step_meant tree.now.nodes lets.now step.now) current nodes.now) (shown result) reads.old reads.new steps.old steps.new }
 {
-    tree.laws();
-    if let Some(n) = alone(step.axis, nodes) {
-        return step_nodes(alloc, tree, lets, step, current, n, reads, steps);
-    }
     let mut selected = ItemList::new(alloc);
     for n in nodes {
         let found = step_nodes(alloc, tree, lets, step, current, *n, reads, steps)?;
@@ -381,6 +448,14 @@ fn kept<L: Ledger>(
         push_chosen(&mut kept, position, *n, &value)?;
     }
     Ok(kept)
+}
+
+/// A literal as a value.
+fn text_value(alloc: Global, value: &Text) -> Result<Value, AllocError>
+    ensures { IfOk result (λ v. v ≡ value_kinds.Chars value.now) }
+{
+    let text = Text::copy(alloc, value.as_str())?;
+    Ok(Value::Chars(text))
 }
 
 /// A whole number as a value.

@@ -8,7 +8,7 @@ ghost use Rattle.xp_outcome.specs.Slots.{in_slot};
 ghost use Rattle.xp_convert.specs.Results.{shown};
 ghost use Rattle.xp_meaning.specs.Evaluation.{slot_value};
 
-use crate::choosing::push_all;
+use doc_axes::push_all;
 use doc_tree::NodeList;
 use sch_base::{ItemList, Text};
 use std::alloc::{AllocError, Global};

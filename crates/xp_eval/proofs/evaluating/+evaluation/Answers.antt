@@ -5,7 +5,7 @@ use Rattle.xp_typed.specs.TypedView.{typed_tree_of, typed_seen}
 use Rattle.xp_outcome.specs.Outcome.{done, bind}
 use Rattle.xp_outcome.proofs.Runs.{next_item, no_item, ran_alike, ran_bind, ran_stop, ran_done, ran_late, onto_alike, onto_bind, onto_stop, onto_done, onto_late, onto_end}
 use Rattle.xp_values.specs.declared.values.Value.{Value}
-use Rattle.xp_values.specs.declared.values.Value.TheVariants.{NodeSet, Chars}
+use Rattle.xp_values.specs.declared.values.Value.TheVariants.{NodeSet}
 use Rattle.xp_values.specs.Numbers as numbers
 use Rattle.xp_convert.specs.Conversions.{nodes_of, as_wanted, compare_in}
 use Rattle.xp_convert.proofs.Exits.{exit_same, exit_memory, exit_fault, ran_ticked, ran_done_at}
@@ -14,7 +14,6 @@ use Rattle.xp_meaning.specs.Functions.{applied}
 use Rattle.xp_meaning.specs.Evaluation.{meaning, meanings}
 use Rattle.xp_eval.specs.Steps.{step_meant}
 use Rattle.xp_eval.specs.Wants.{wanted_by}
-use Rattle.xp_eval.proofs.Alone.{step_alone}
 use Rattle.xp_eval.proofs.Loops.{some_true-next, some_true-end, all_true-next, all_true-end, filtered-next, filtered-end, compared-next, compared-end, combined-next, combined-end, path-next, path-end}
 use Rattle.xp_eval.proofs.Runs.{onto_goes, onto_stops, chosen_yes, chosen_no, gather_goes, gather_stops, gather_ends, gather_begins, gather_begins_alone, ran_given_fault, ran_given_ok, placed_is}
 use Rattle.xp_eval.proofs.Views.{view-Or, view-And, view-Compare, view-Arith, view-Negate, view-Union, view-Path, view-Filter, view-Variable, view-Literal, view-Number, view-Call, view-Root, view-Here, view-From}
@@ -68,25 +67,57 @@ pub compared-returns : goal.compared-returns
 compared-returns g t c =
     onto_done (onto_alike (compared-end c.args.tree.now.nodes c.args.lets.now c.args.rest.now c.loop-operand.operand-index c.args.at.now c.loop-operand.value c.loop-operand-test.false) c.loop-operand.invariant)
 
-pub combined-returns-in_err-value : goal.combined-returns-in_err-value
-combined-returns-in_err-value g t c =
-    exit_same _ _ c.from_residual.ensures.1 (onto_stops _ _ (combined-next c.args.tree.now.nodes c.args.lets.now c.args.rest.now c.loop-operand.operand-index c.args.at.now c.loop-operand.number c.operand-item.result c.loop-operand-test.true c.operand-item.is) _ c.loop-operand.invariant c.in_err-value.ensures)
-
 pub combined-returns-in_err-right : goal.combined-returns-in_err-right
 combined-returns-in_err-right g t c =
-    exit_same _ _ c.from_residual-in_err-right.ensures.1 (onto_stop _ _ (onto_goes _ _ (combined-next c.args.tree.now.nodes c.args.lets.now c.args.rest.now c.loop-operand.operand-index c.args.at.now c.loop-operand.number c.operand-item.result c.loop-operand-test.true c.operand-item.is) c.loop-operand.invariant c.in_ok-value.ensures) c.in_err-right.ensures)
+    exit_same _ _ c.from_residual.ensures.1 (onto_stops _ _ (combined-next c.args.tree.now.nodes c.args.lets.now c.args.rest.now c.loop-operand.operand-index c.args.at.now c.loop-operand.number c.operand-item.result c.loop-operand-test.true c.operand-item.is) _ c.loop-operand.invariant c.in_err-right.ensures)
 
 pub combined-returns-in_err-number : goal.combined-returns-in_err-number
 combined-returns-in_err-number g t c =
-    exit_fault _ _ c.from_residual-in_err-number.ensures.1 (onto_stop _ _ (onto_bind _ (onto_goes _ _ (combined-next c.args.tree.now.nodes c.args.lets.now c.args.rest.now c.loop-operand.operand-index c.args.at.now c.loop-operand.number c.operand-item.result c.loop-operand-test.true c.operand-item.is) c.loop-operand.invariant c.in_ok-value.ensures) c.in_ok-right.ensures) (ran_given_fault _ _ _ _ (ap (λ o. numbers.arith o c.loop-operand.number c.in_ok-right.right) (sym c.operation_of.ensures) ∙ sym c.in_err-number.ensures.value)))
+    exit_fault _ _ c.from_residual-in_err-number.ensures.1 (onto_stop _ _ (onto_goes _ _ (combined-next c.args.tree.now.nodes c.args.lets.now c.args.rest.now c.loop-operand.operand-index c.args.at.now c.loop-operand.number c.operand-item.result c.loop-operand-test.true c.operand-item.is) c.loop-operand.invariant c.in_ok-right.ensures) (ran_given_fault _ _ _ _ (ap (λ o. numbers.arith o c.loop-operand.number c.in_ok-right.right) (sym c.operation_of.ensures) ∙ sym c.in_err-number.ensures.value)))
 
 pub combined-loop-operand-preserved : goal.combined-loop-operand-preserved
 combined-loop-operand-preserved g t c =
-    onto_bind _ (onto_bind _ (onto_goes _ _ (combined-next c.args.tree.now.nodes c.args.lets.now c.args.rest.now c.loop-operand.operand-index c.args.at.now c.loop-operand.number c.operand-item.result c.loop-operand-test.true c.operand-item.is) c.loop-operand.invariant c.in_ok-value.ensures) c.in_ok-right.ensures) (ran_given_ok _ _ _ _ (ap (λ o. numbers.arith o c.loop-operand.number c.in_ok-right.right) (sym c.operation_of.ensures) ∙ sym c.in_ok-number.ensures.value))
+    onto_bind _ (onto_goes _ _ (combined-next c.args.tree.now.nodes c.args.lets.now c.args.rest.now c.loop-operand.operand-index c.args.at.now c.loop-operand.number c.operand-item.result c.loop-operand-test.true c.operand-item.is) c.loop-operand.invariant c.in_ok-right.ensures) (ran_given_ok _ _ _ _ (ap (λ o. numbers.arith o c.loop-operand.number c.in_ok-right.right) (sym c.operation_of.ensures) ∙ sym c.in_ok-number.ensures.value))
 
 pub combined-returns : goal.combined-returns
 combined-returns g t c =
     onto_done (onto_alike (combined-end c.args.tree.now.nodes c.args.lets.now c.args.rest.now c.loop-operand.operand-index c.args.at.now c.loop-operand.number c.loop-operand-test.false) c.loop-operand.invariant)
+
+pub operand_number-returns-in_err-value : goal.operand_number-returns-in_err-value
+operand_number-returns-in_err-value g t c =
+    exit_same _ _ c.from_residual.ensures.1 (ran_stop _ _ c.in_err-value.ensures)
+
+pub operand_number-returns : goal.operand_number-returns
+operand_number-returns g t c =
+    ran_bind _ c.in_ok-value.ensures c.number_in.ensures
+
+pub operand_nodes-returns-in_err-value : goal.operand_nodes-returns-in_err-value
+operand_nodes-returns-in_err-value g t c =
+    exit_same _ _ c.from_residual.ensures.1 (ran_stop _ _ c.in_err-value.ensures)
+
+pub operand_nodes-returns : goal.operand_nodes-returns
+operand_nodes-returns g t c =
+    ran_bind _ c.in_ok-value.ensures (ran_done_at _ _ _ c.nodes_in.ensures)
+
+pub union_value-returns-in_err-sets : goal.union_value-returns-in_err-sets
+union_value-returns-in_err-sets g t c =
+    exit_same _ _ c.from_residual.ensures.1 (ran_stop _ _ c.in_err-sets.ensures)
+
+pub union_value-returns-in_err-nodes : goal.union_value-returns-in_err-nodes
+union_value-returns-in_err-nodes g t c =
+    exit_memory _ c.from_residual-in_err-nodes.ensures.1 (ran_bind _ c.in_ok-sets.ensures (ran_late _ _ _))
+
+pub union_value-returns : goal.union_value-returns
+union_value-returns g t c =
+    ran_bind _ c.in_ok-sets.ensures (ran_done_at _ _ _ (ap NodeSet (c.in_ok-nodes.ensures ∙ ap (λ vs. in_order c.args.tree.now.nodes (flat_map nodes_of vs)) c.as_slice.ensures)))
+
+pub call_value-returns-in_err-arguments : goal.call_value-returns-in_err-arguments
+call_value-returns-in_err-arguments g t c =
+    exit_same _ _ c.from_residual.ensures.1 (ran_stop _ _ c.in_err-arguments.ensures)
+
+pub call_value-returns : goal.call_value-returns
+call_value-returns g t c =
+    ran_bind _ c.in_ok-arguments.ensures (ran_alike (ap (λ vs. applied c.args.tree.now.nodes c.args.function c.args.at.now vs) (sym c.as_slice.ensures)) c.applied.ensures)
 
 pub values-loop-place-init : goal.values-loop-place-init
 values-loop-place-init g t c =
@@ -123,10 +154,6 @@ path_nodes-loop-step-preserved g t c =
 pub path_nodes-returns : goal.path_nodes-returns
 path_nodes-returns g t c =
     onto_done (onto_alike (path-end c.args.tree.now.nodes c.args.lets.now c.args.path_steps.now c.loop-step.step-index c.args.current c.loop-step.nodes c.loop-step-test.false) c.loop-step.invariant)
-
-pub step_set-returns-in-Some : goal.step_set-returns-in-Some
-step_set-returns-in-Some g t c =
-    ran_alike (ap (λ ns. step_from c.args.tree.now.nodes (step_meant c.args.tree.now.nodes c.args.lets.now c.args.step.now) c.args.current ns) c.in-Some.ensures.0 ∙ step_alone c.args.tree.now.nodes c.laws.ensures.ordered (step_meant c.args.tree.now.nodes c.args.lets.now c.args.step.now) c.in-Some.ensures.1 c.args.current c.in-Some.n) c.step_nodes.ensures
 
 pub step_set-loop-n-init : goal.step_set-loop-n-init
 step_set-loop-n-init g t c =
@@ -212,13 +239,9 @@ pub start_nodes-returns-in_ok-one_node-in-Here : goal.start_nodes-returns-in_ok-
 start_nodes-returns-in_ok-one_node-in-Here g t c =
     ran_alike (view-Here c.args.tree.now.nodes c.args.lets.now c.args.start.now c.args.at.now c.in-Here.is) (ran_done_at _ _ _ c.in_ok-one_node-in-Here.ensures)
 
-pub start_nodes-returns-in_err-value-in-From : goal.start_nodes-returns-in_err-value-in-From
-start_nodes-returns-in_err-value-in-From g t c =
-    exit_same _ _ c.from_residual-in_err-value-in-From.ensures.1 (ran_alike (view-From c.args.tree.now.nodes c.args.lets.now c.args.start.now c.args.at.now _ c.deref.result.now c.in-From.is c.deref.ensures) (ran_stop _ _ c.in_err-value-in-From.ensures))
-
-pub start_nodes-returns-in_ok-value-in-From : goal.start_nodes-returns-in_ok-value-in-From
-start_nodes-returns-in_ok-value-in-From g t c =
-    ran_alike (view-From c.args.tree.now.nodes c.args.lets.now c.args.start.now c.args.at.now _ c.deref.result.now c.in-From.is c.deref.ensures) (ran_bind _ c.in_ok-value-in-From.ensures (ran_done_at _ _ _ c.nodes_in.ensures))
+pub start_nodes-returns-in-From : goal.start_nodes-returns-in-From
+start_nodes-returns-in-From g t c =
+    ran_alike (view-From c.args.tree.now.nodes c.args.lets.now c.args.start.now c.args.at.now _ c.deref.result.now c.in-From.is c.deref.ensures) c.operand_nodes.ensures
 
 pub evaluated-returns-in_err-truth-in-Or : goal.evaluated-returns-in_err-truth-in-Or
 evaluated-returns-in_err-truth-in-Or g t c =
@@ -244,49 +267,33 @@ pub evaluated-returns-in_ok-value-in-Compare : goal.evaluated-returns-in_ok-valu
 evaluated-returns-in_ok-value-in-Compare g t c =
     ran_alike (view-Compare c.args.tree.now.nodes c.args.lets.now c.args.expr.now c.args.at.now _ _ c.deref-in-Compare.result.now c.deref-in-Compare-2.result.now c.in-Compare.is c.deref-in-Compare.ensures c.deref-in-Compare-2.ensures.value) (ran_ticked c.tick.ensures (ran_bind _ c.in_ok-value-in-Compare.ensures c.compared.ensures))
 
-pub evaluated-returns-in_err-value-in-Arith : goal.evaluated-returns-in_err-value-in-Arith
-evaluated-returns-in_err-value-in-Arith g t c =
-    exit_same _ _ c.from_residual-in_err-value-in-Arith.ensures.1 (ran_alike (view-Arith c.args.tree.now.nodes c.args.lets.now c.args.expr.now c.args.at.now _ _ c.deref-in-Arith.result.now _ c.in-Arith.is c.deref-in-Arith.ensures refl) (ran_ticked c.tick.ensures (ran_stop _ _ c.in_err-value-in-Arith.ensures)))
-
 pub evaluated-returns-in_err-number-in-Arith : goal.evaluated-returns-in_err-number-in-Arith
 evaluated-returns-in_err-number-in-Arith g t c =
-    exit_same _ _ c.from_residual-in_err-number-in-Arith.ensures.1 (ran_alike (view-Arith c.args.tree.now.nodes c.args.lets.now c.args.expr.now c.args.at.now _ _ c.deref-in-Arith.result.now _ c.in-Arith.is c.deref-in-Arith.ensures refl) (ran_ticked c.tick.ensures (ran_bind _ c.in_ok-value-in-Arith.ensures (ran_stop _ _ c.in_err-number-in-Arith.ensures))))
+    exit_same _ _ c.from_residual-in_err-number-in-Arith.ensures.1 (ran_alike (view-Arith c.args.tree.now.nodes c.args.lets.now c.args.expr.now c.args.at.now _ _ c.deref-in-Arith.result.now _ c.in-Arith.is c.deref-in-Arith.ensures refl) (ran_ticked c.tick.ensures (ran_stop _ _ c.in_err-number-in-Arith.ensures)))
 
 pub evaluated-returns-in_err-result-in-Arith : goal.evaluated-returns-in_err-result-in-Arith
 evaluated-returns-in_err-result-in-Arith g t c =
-    exit_same _ _ c.from_residual-in_err-result-in-Arith.ensures.1 (ran_alike (view-Arith c.args.tree.now.nodes c.args.lets.now c.args.expr.now c.args.at.now _ _ c.deref-in-Arith.result.now c.deref-in-Arith-2.result.now c.in-Arith.is c.deref-in-Arith.ensures c.deref-in-Arith-2.ensures.value) (ran_ticked c.tick.ensures (ran_bind _ c.in_ok-value-in-Arith.ensures (ran_bind _ c.in_ok-number-in-Arith.ensures (ran_stop _ _ c.in_err-result-in-Arith.ensures)))))
+    exit_same _ _ c.from_residual-in_err-result-in-Arith.ensures.1 (ran_alike (view-Arith c.args.tree.now.nodes c.args.lets.now c.args.expr.now c.args.at.now _ _ c.deref-in-Arith.result.now c.deref-in-Arith-2.result.now c.in-Arith.is c.deref-in-Arith.ensures c.deref-in-Arith-2.ensures.value) (ran_ticked c.tick.ensures (ran_bind _ c.in_ok-number-in-Arith.ensures (ran_stop _ _ c.in_err-result-in-Arith.ensures))))
 
 pub evaluated-returns-in_ok-result-in-Arith : goal.evaluated-returns-in_ok-result-in-Arith
 evaluated-returns-in_ok-result-in-Arith g t c =
-    ran_alike (view-Arith c.args.tree.now.nodes c.args.lets.now c.args.expr.now c.args.at.now _ _ c.deref-in-Arith.result.now c.deref-in-Arith-2.result.now c.in-Arith.is c.deref-in-Arith.ensures c.deref-in-Arith-2.ensures.value) (ran_ticked c.tick.ensures (ran_bind _ c.in_ok-value-in-Arith.ensures (ran_bind _ c.in_ok-number-in-Arith.ensures (ran_bind _ c.in_ok-result-in-Arith.ensures (ran_done _ _ _)))))
-
-pub evaluated-returns-in_err-value-in-Negate : goal.evaluated-returns-in_err-value-in-Negate
-evaluated-returns-in_err-value-in-Negate g t c =
-    exit_same _ _ c.from_residual-in_err-value-in-Negate.ensures.1 (ran_alike (view-Negate c.args.tree.now.nodes c.args.lets.now c.args.expr.now c.args.at.now _ _ c.deref-in-Negate.result.now c.in-Negate.is c.deref-in-Negate.ensures) (ran_ticked c.tick.ensures (ran_stop _ _ c.in_err-value-in-Negate.ensures)))
+    ran_alike (view-Arith c.args.tree.now.nodes c.args.lets.now c.args.expr.now c.args.at.now _ _ c.deref-in-Arith.result.now c.deref-in-Arith-2.result.now c.in-Arith.is c.deref-in-Arith.ensures c.deref-in-Arith-2.ensures.value) (ran_ticked c.tick.ensures (ran_bind _ c.in_ok-number-in-Arith.ensures (ran_bind _ c.in_ok-result-in-Arith.ensures (ran_done _ _ _))))
 
 pub evaluated-returns-in_err-number-in-Negate : goal.evaluated-returns-in_err-number-in-Negate
 evaluated-returns-in_err-number-in-Negate g t c =
-    exit_same _ _ c.from_residual-in_err-number-in-Negate.ensures.1 (ran_alike (view-Negate c.args.tree.now.nodes c.args.lets.now c.args.expr.now c.args.at.now _ _ c.deref-in-Negate.result.now c.in-Negate.is c.deref-in-Negate.ensures) (ran_ticked c.tick.ensures (ran_bind _ c.in_ok-value-in-Negate.ensures (ran_stop _ _ c.in_err-number-in-Negate.ensures))))
+    exit_same _ _ c.from_residual-in_err-number-in-Negate.ensures.1 (ran_alike (view-Negate c.args.tree.now.nodes c.args.lets.now c.args.expr.now c.args.at.now _ _ c.deref-in-Negate.result.now c.in-Negate.is c.deref-in-Negate.ensures) (ran_ticked c.tick.ensures (ran_stop _ _ c.in_err-number-in-Negate.ensures)))
 
-pub evaluated-returns-in_err-result-in-Negate : goal.evaluated-returns-in_err-result-in-Negate
-evaluated-returns-in_err-result-in-Negate g t c =
-    exit_fault _ _ c.from_residual-in_err-result-in-Negate.ensures.1 (ran_alike (view-Negate c.args.tree.now.nodes c.args.lets.now c.args.expr.now c.args.at.now _ _ c.deref-in-Negate.result.now c.in-Negate.is c.deref-in-Negate.ensures) (ran_ticked c.tick.ensures (ran_bind _ c.in_ok-value-in-Negate.ensures (ran_bind _ c.in_ok-number-in-Negate.ensures (ran_stop _ _ (ran_given_fault _ _ _ _ (sym c.in_err-result-in-Negate.ensures)))))))
+pub evaluated-returns-in_err-negated-in-Negate : goal.evaluated-returns-in_err-negated-in-Negate
+evaluated-returns-in_err-negated-in-Negate g t c =
+    exit_fault _ _ c.from_residual-in_err-negated-in-Negate.ensures.1 (ran_alike (view-Negate c.args.tree.now.nodes c.args.lets.now c.args.expr.now c.args.at.now _ _ c.deref-in-Negate.result.now c.in-Negate.is c.deref-in-Negate.ensures) (ran_ticked c.tick.ensures (ran_bind _ c.in_ok-number-in-Negate.ensures (ran_stop _ _ (ran_given_fault _ _ _ _ (sym c.in_err-negated-in-Negate.ensures))))))
 
-pub evaluated-returns-in_ok-result-in-Negate : goal.evaluated-returns-in_ok-result-in-Negate
-evaluated-returns-in_ok-result-in-Negate g t c =
-    ran_alike (view-Negate c.args.tree.now.nodes c.args.lets.now c.args.expr.now c.args.at.now _ _ c.deref-in-Negate.result.now c.in-Negate.is c.deref-in-Negate.ensures) (ran_ticked c.tick.ensures (ran_bind _ c.in_ok-value-in-Negate.ensures (ran_bind _ c.in_ok-number-in-Negate.ensures (ran_bind _ (ran_given_ok _ _ _ _ (sym c.in_ok-result-in-Negate.ensures)) (ran_done _ _ _)))))
+pub evaluated-returns-in_ok-negated-in-Negate : goal.evaluated-returns-in_ok-negated-in-Negate
+evaluated-returns-in_ok-negated-in-Negate g t c =
+    ran_alike (view-Negate c.args.tree.now.nodes c.args.lets.now c.args.expr.now c.args.at.now _ _ c.deref-in-Negate.result.now c.in-Negate.is c.deref-in-Negate.ensures) (ran_ticked c.tick.ensures (ran_bind _ c.in_ok-number-in-Negate.ensures (ran_bind _ (ran_given_ok _ _ _ _ (sym c.in_ok-negated-in-Negate.ensures)) (ran_done _ _ _))))
 
-pub evaluated-returns-in_err-sets-in-Union : goal.evaluated-returns-in_err-sets-in-Union
-evaluated-returns-in_err-sets-in-Union g t c =
-    exit_same _ _ c.from_residual-in_err-sets-in-Union.ensures.1 (ran_alike (view-Union c.args.tree.now.nodes c.args.lets.now c.args.expr.now c.args.at.now _ c.deref-in-Union.result.now c.in-Union.is c.deref-in-Union.ensures.value) (ran_ticked c.tick.ensures (ran_stop _ _ c.in_err-sets-in-Union.ensures)))
-
-pub evaluated-returns-in_err-nodes-in-Union : goal.evaluated-returns-in_err-nodes-in-Union
-evaluated-returns-in_err-nodes-in-Union g t c =
-    exit_memory _ c.from_residual-in_err-nodes-in-Union.ensures.1 (ran_alike (view-Union c.args.tree.now.nodes c.args.lets.now c.args.expr.now c.args.at.now _ c.deref-in-Union.result.now c.in-Union.is c.deref-in-Union.ensures.value) (ran_ticked c.tick.ensures (ran_bind _ c.in_ok-sets-in-Union.ensures (ran_late _ _ _))))
-
-pub evaluated-returns-in_ok-nodes-in-Union : goal.evaluated-returns-in_ok-nodes-in-Union
-evaluated-returns-in_ok-nodes-in-Union g t c =
-    ran_alike (view-Union c.args.tree.now.nodes c.args.lets.now c.args.expr.now c.args.at.now _ c.deref-in-Union.result.now c.in-Union.is c.deref-in-Union.ensures.value) (ran_ticked c.tick.ensures (ran_bind _ c.in_ok-sets-in-Union.ensures (ran_done_at _ _ _ (ap NodeSet (c.in_ok-nodes-in-Union.ensures ∙ ap (λ vs. in_order c.args.tree.now.nodes (flat_map nodes_of vs)) c.as_slice.ensures)))))
+pub evaluated-returns-in-Union : goal.evaluated-returns-in-Union
+evaluated-returns-in-Union g t c =
+    ran_alike (view-Union c.args.tree.now.nodes c.args.lets.now c.args.expr.now c.args.at.now _ c.deref-in-Union.result.now c.in-Union.is c.deref-in-Union.ensures.value) (ran_ticked c.tick.ensures c.union_value.ensures)
 
 pub evaluated-returns-in_err-nodes-in-Path : goal.evaluated-returns-in_err-nodes-in-Path
 evaluated-returns-in_err-nodes-in-Path g t c =
@@ -300,38 +307,34 @@ pub evaluated-returns-in_ok-nodes-in-Path-2 : goal.evaluated-returns-in_ok-nodes
 evaluated-returns-in_ok-nodes-in-Path-2 g t c =
     ran_alike (view-Path c.args.tree.now.nodes c.args.lets.now c.args.expr.now c.args.at.now c.in-Path.start _ c.deref-in-Path.result.now c.in-Path.is c.deref-in-Path.ensures.value) (ran_ticked c.tick.ensures (ran_bind _ c.in_ok-nodes-in-Path.ensures (ran_bind _ c.in_ok-nodes-in-Path-2.ensures (ran_done _ _ _))))
 
-pub evaluated-returns-in_err-value-in-Filter : goal.evaluated-returns-in_err-value-in-Filter
-evaluated-returns-in_err-value-in-Filter g t c =
-    exit_same _ _ c.from_residual-in_err-value-in-Filter.ensures.1 (ran_alike (view-Filter c.args.tree.now.nodes c.args.lets.now c.args.expr.now c.args.at.now _ _ c.deref-in-Filter.result.now _ c.in-Filter.is c.deref-in-Filter.ensures refl) (ran_ticked c.tick.ensures (ran_stop _ _ c.in_err-value-in-Filter.ensures)))
+pub evaluated-returns-in_err-set-in-Filter : goal.evaluated-returns-in_err-set-in-Filter
+evaluated-returns-in_err-set-in-Filter g t c =
+    exit_same _ _ c.from_residual-in_err-set-in-Filter.ensures.1 (ran_alike (view-Filter c.args.tree.now.nodes c.args.lets.now c.args.expr.now c.args.at.now _ _ c.deref-in-Filter.result.now _ c.in-Filter.is c.deref-in-Filter.ensures refl) (ran_ticked c.tick.ensures (ran_stop _ _ c.in_err-set-in-Filter.ensures)))
 
-pub evaluated-returns-in_err-nodes-in-Filter : goal.evaluated-returns-in_err-nodes-in-Filter
-evaluated-returns-in_err-nodes-in-Filter g t c =
-    exit_same _ _ c.from_residual-in_err-nodes-in-Filter.ensures.1 (ran_alike (view-Filter c.args.tree.now.nodes c.args.lets.now c.args.expr.now c.args.at.now _ _ c.deref-in-Filter.result.now c.deref-in-Filter-2.result.now c.in-Filter.is c.deref-in-Filter.ensures c.deref-in-Filter-2.ensures.value) (ran_ticked c.tick.ensures (ran_bind _ c.in_ok-value-in-Filter.ensures (ran_stop _ _ (ran_alike (ap (λ ns. filtered (meanings c.args.tree.now.nodes c.args.lets.now (typed_seen c.deref-in-Filter-2.result.now)) c.args.at.now.current ns) (sym c.nodes_in-nodes.ensures)) c.in_err-nodes-in-Filter.ensures)))))
+pub evaluated-returns-in_err-left-in-Filter : goal.evaluated-returns-in_err-left-in-Filter
+evaluated-returns-in_err-left-in-Filter g t c =
+    exit_same _ _ c.from_residual-in_err-left-in-Filter.ensures.1 (ran_alike (view-Filter c.args.tree.now.nodes c.args.lets.now c.args.expr.now c.args.at.now _ _ c.deref-in-Filter.result.now c.deref-in-Filter-2.result.now c.in-Filter.is c.deref-in-Filter.ensures c.deref-in-Filter-2.ensures.value) (ran_ticked c.tick.ensures (ran_bind _ c.in_ok-set-in-Filter.ensures (ran_stop _ _ c.in_err-left-in-Filter.ensures))))
 
-pub evaluated-returns-in_ok-nodes-in-Filter : goal.evaluated-returns-in_ok-nodes-in-Filter
-evaluated-returns-in_ok-nodes-in-Filter g t c =
-    ran_alike (view-Filter c.args.tree.now.nodes c.args.lets.now c.args.expr.now c.args.at.now _ _ c.deref-in-Filter.result.now c.deref-in-Filter-2.result.now c.in-Filter.is c.deref-in-Filter.ensures c.deref-in-Filter-2.ensures.value) (ran_ticked c.tick.ensures (ran_bind _ c.in_ok-value-in-Filter.ensures (ran_bind _ (ran_alike (ap (λ ns. filtered (meanings c.args.tree.now.nodes c.args.lets.now (typed_seen c.deref-in-Filter-2.result.now)) c.args.at.now.current ns) (sym c.nodes_in-nodes.ensures)) c.in_ok-nodes-in-Filter.ensures) (ran_done _ _ _))))
+pub evaluated-returns-in_ok-left-in-Filter : goal.evaluated-returns-in_ok-left-in-Filter
+evaluated-returns-in_ok-left-in-Filter g t c =
+    ran_alike (view-Filter c.args.tree.now.nodes c.args.lets.now c.args.expr.now c.args.at.now _ _ c.deref-in-Filter.result.now c.deref-in-Filter-2.result.now c.in-Filter.is c.deref-in-Filter.ensures c.deref-in-Filter-2.ensures.value) (ran_ticked c.tick.ensures (ran_bind _ c.in_ok-set-in-Filter.ensures (ran_bind _ c.in_ok-left-in-Filter.ensures (ran_done _ _ _))))
 
 pub evaluated-returns-in-Variable : goal.evaluated-returns-in-Variable
 evaluated-returns-in-Variable g t c =
     ran_alike (view-Variable c.args.tree.now.nodes c.args.lets.now c.args.expr.now c.args.at.now _ _ c.in-Variable.is) (ran_ticked c.tick.ensures (c.variable.ensures _))
 
-pub evaluated-returns-in_err-text-in-Literal : goal.evaluated-returns-in_err-text-in-Literal
-evaluated-returns-in_err-text-in-Literal g t c =
-    exit_memory _ c.from_residual-in_err-text-in-Literal.ensures.1 (ran_alike (view-Literal c.args.tree.now.nodes c.args.lets.now c.args.expr.now c.args.at.now _ c.in-Literal.is) (ran_ticked c.tick.ensures (ran_late _ _ _)))
+pub evaluated-returns-in_err-text_value-in-Literal : goal.evaluated-returns-in_err-text_value-in-Literal
+evaluated-returns-in_err-text_value-in-Literal g t c =
+    exit_memory _ c.from_residual-in_err-text_value-in-Literal.ensures.1 (ran_alike (view-Literal c.args.tree.now.nodes c.args.lets.now c.args.expr.now c.args.at.now _ c.in-Literal.is) (ran_ticked c.tick.ensures (ran_late _ _ _)))
 
-pub evaluated-returns-in_ok-text-in-Literal : goal.evaluated-returns-in_ok-text-in-Literal
-evaluated-returns-in_ok-text-in-Literal g t c =
-    ran_alike (view-Literal c.args.tree.now.nodes c.args.lets.now c.args.expr.now c.args.at.now _ c.in-Literal.is) (ran_ticked c.tick.ensures (ran_done_at _ _ _ (ap Chars (c.in_ok-text-in-Literal.ensures ∙ c.as_str.ensures))))
+pub evaluated-returns-in_ok-text_value-in-Literal : goal.evaluated-returns-in_ok-text_value-in-Literal
+evaluated-returns-in_ok-text_value-in-Literal g t c =
+    ran_alike (view-Literal c.args.tree.now.nodes c.args.lets.now c.args.expr.now c.args.at.now _ c.in-Literal.is) (ran_ticked c.tick.ensures (ran_done_at _ _ _ c.in_ok-text_value-in-Literal.ensures))
 
 pub evaluated-returns-in-Number : goal.evaluated-returns-in-Number
 evaluated-returns-in-Number g t c =
     ran_alike (view-Number c.args.tree.now.nodes c.args.lets.now c.args.expr.now c.args.at.now _ c.in-Number.is) (ran_ticked c.tick.ensures (ran_done_at _ _ _ c.whole_value.ensures))
 
-pub evaluated-returns-in_err-args-in-Call : goal.evaluated-returns-in_err-args-in-Call
-evaluated-returns-in_err-args-in-Call g t c =
-    exit_same _ _ c.from_residual-in_err-args-in-Call.ensures.1 (ran_alike (view-Call c.args.tree.now.nodes c.args.lets.now c.args.expr.now c.args.at.now _ _ c.deref-in-Call.result.now c.in-Call.is c.deref-in-Call.ensures.value) (ran_ticked c.tick.ensures (ran_stop _ _ c.in_err-args-in-Call.ensures)))
-
-pub evaluated-returns-in_ok-args-in-Call : goal.evaluated-returns-in_ok-args-in-Call
-evaluated-returns-in_ok-args-in-Call g t c =
-    ran_alike (view-Call c.args.tree.now.nodes c.args.lets.now c.args.expr.now c.args.at.now _ _ c.deref-in-Call.result.now c.in-Call.is c.deref-in-Call.ensures.value) (ran_ticked c.tick.ensures (ran_bind _ c.in_ok-args-in-Call.ensures (ran_alike (ap (λ vs. applied c.args.tree.now.nodes c.in-Call.function c.args.at.now vs) (sym c.as_slice-in-Call.ensures)) c.applied.ensures)))
+pub evaluated-returns-in-Call : goal.evaluated-returns-in-Call
+evaluated-returns-in-Call g t c =
+    ran_alike (view-Call c.args.tree.now.nodes c.args.lets.now c.args.expr.now c.args.at.now _ _ c.deref-in-Call.result.now c.in-Call.is c.deref-in-Call.ensures.value) (ran_ticked c.tick.ensures c.call_value.ensures)
