@@ -223,7 +223,9 @@ fn union_value<L: Ledger>(
     reads: &mut Recorder,
     steps: &mut Steps<L>,
 ) -> Result<Value, EvalError>
-    ensures { Ran (bind (values tree.now.nodes (wanted_by None) (meanings tree.now.nodes lets.now (typed_seen operands.now)) at.now) (λ vs. done (value_kinds.NodeSet (in_order tree.now.nodes (flat_map nodes_of vs))))) (shown result) reads.old reads.new steps.old steps.new }
+    ensures { Ran (bind (values tree.now.nodes (wanted_by None) (meanings tree.now.nodes lets.now (typed_seen operands.now)) at.now)
+        (λ vs. done (value_kinds.NodeSet (in_order tree.now.nodes (flat_map nodes_of vs)))))
+        (shown result) reads.old reads.new steps.old steps.new }
 {
     let sets = values(alloc, tree, lets, operands, None, at, reads, steps)?;
     let nodes = union_of(alloc, tree, sets.as_slice())?;
@@ -242,7 +244,9 @@ fn call_value<L: Ledger>(
     reads: &mut Recorder,
     steps: &mut Steps<L>,
 ) -> Result<Value, EvalError>
-    ensures { Ran (bind (values tree.now.nodes (wanted_by (Some function)) (meanings tree.now.nodes lets.now (typed_seen operands.now)) at.now) (λ vs. applied tree.now.nodes function at.now vs)) (shown result) reads.old reads.new steps.old steps.new }
+    ensures { Ran (bind (values tree.now.nodes (wanted_by (Some function)) (meanings tree.now.nodes lets.now (typed_seen operands.now)) at.now)
+        (λ vs. applied tree.now.nodes function at.now vs))
+        (shown result) reads.old reads.new steps.old steps.new }
 {
     let arguments = values(
         alloc,
