@@ -94,15 +94,10 @@ impl From<ParseError> for Fault {
 
 impl From<TypeFault> for Fault {
     fn from(fault: TypeFault) -> Fault {
-        match fault.kind {
-            TypeKind::Refused { thing } => Fault::Refused {
-                offset: fault.offset,
-                thing,
-            },
-            kind => Fault::Type(TypeFault {
-                kind,
-                offset: fault.offset,
-            }),
+        let TypeFault { kind, offset } = fault;
+        match kind {
+            TypeKind::Refused { thing } => Fault::Refused { offset, thing },
+            _ => Fault::Type(TypeFault { kind, offset }),
         }
     }
 }
