@@ -111,7 +111,7 @@ fn some_true<L: Ledger>(
 
 /// Whether all operands are true; those behind a false one aren't evaluated.
 #[cycle(evaluation)]
-fn all_true<L: Ledger>(
+pub(crate) fn all_true<L: Ledger>(
     alloc: Global,
     tree: &Tree,
     lets: &Lets,

@@ -7,6 +7,6 @@ mod choosing;
 mod evaluating;
 mod variables;
 
-pub use calling::{eval, step_at};
+pub use calling::{all_true, eval, step_at};
 pub use xp_meaning::{Context, Lets};
 pub use xp_outcome::{Recorder, Steps};
