@@ -1,0 +1,4 @@
+pub mod Filters
+pub mod StepsAlong
+pub mod Asking
+pub mod Chaining

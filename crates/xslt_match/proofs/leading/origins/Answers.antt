@@ -1,0 +1,49 @@
+-- One step more stands behind, from where it leads on.
+use Rattle.std.proofs.Common.{◌≡◌, ℕ, List, [], ◌∷◌, ◌++◌, map, sym, ap, ◌∙◌, append-nil}
+use Rattle.std.proofs.lemmas.List.{map-append}
+use Rattle.std.specs.List.{list_any, filter_map}
+use Rattle.xp_typed.specs.TypedView.{pattern_step_seen}
+use Rattle.xp_typed.specs.TypedTree.{TypedPatternStepTree}
+use Rattle.xslt_match.specs.Leading.{holder, looks_at}
+use Rattle.xslt_match.proofs.StepsAlong.{start, going_on, holders_way}
+use Rattle.xslt_match.proofs.leading.origins.Goals as goal
+
+pub loop-last-init : goal.loop-last-init
+loop-last-init c =
+    let T = c.args.tree.now.nodes in
+    let laws = c.laws.ensures in
+    record {
+      behind = [];
+      parted = sym (append-nil (map pattern_step_seen c.args.steps.now));
+      lead_on = c.in_ok-push.ensures.pushed ∙ (ap (λ l. l ++ c.args.n ∷ []) c.new-nodes.ensures
+          ∙ start T laws.well_formed laws.ordered laws.ways_up c.args.n c.requires.lives);
+    }
+
+pub loop-last-preserved : goal.loop-last-preserved
+loop-last-preserved c =
+    let T = c.args.tree.now.nodes in
+    let laws = c.laws.ensures in
+    let s : TypedPatternStepTree = pattern_step_seen c.in-Some.last.now in
+    let front : List TypedPatternStepTree = map pattern_step_seen c.in-Some.earlier.now in
+    let rest : map pattern_step_seen c.loop-last.rest.now ≡ front ++ s ∷ [] =
+    ap (map pattern_step_seen) c.in-Some.ensures.cases.0 ∙ map-append pattern_step_seen c.in-Some.earlier.now (c.in-Some.last.now ∷ []) in
+    let holders : c.in_ok-parents.parents ≡ filter_map (holder T s) c.loop-last.nodes =
+    c.in_ok-parents.ensures ∙ ap (filter_map (holder T s)) c.as_slice.ensures in
+    let same : (m : ℕ) → list_any (looks_at T s.join m) c.as_slice-in-Some.result.now ≡ list_any (looks_at T s.join m) c.in_ok-parents.parents =
+    λ m. ap (list_any (looks_at T s.join m)) c.as_slice-in-Some.ensures ∙ c.in_ok-ends.ensures m in
+    going_on T laws.well_formed laws.ordered laws.ways_up (map pattern_step_seen c.args.steps.now) (map pattern_step_seen c.loop-last.rest.now) front s
+    c.loop-last.nodes c.in_ok-parents.parents c.as_slice-in-Some.result.now c.args.way.now c.in_ok-nodes.nodes c.args.n c.requires.typed c.loop-last.invariant rest holders same
+    c.requires.way c.in_ok-nodes.ensures
+
+pub ends_of-requires : goal.ends_of-requires
+ends_of-requires c =
+    let T = c.args.tree.now.nodes in
+    let laws = c.laws.ensures in
+    let s : TypedPatternStepTree = pattern_step_seen c.in-Some.last.now in
+    let front : List TypedPatternStepTree = map pattern_step_seen c.in-Some.earlier.now in
+    let rest : map pattern_step_seen c.loop-last.rest.now ≡ front ++ s ∷ [] =
+    ap (map pattern_step_seen) c.in-Some.ensures.cases.0 ∙ map-append pattern_step_seen c.in-Some.earlier.now (c.in-Some.last.now ∷ []) in
+    let holders : c.in_ok-parents.parents ≡ filter_map (holder T s) c.loop-last.nodes =
+    c.in_ok-parents.ensures ∙ ap (filter_map (holder T s)) c.as_slice.ensures in
+    holders_way T laws.well_formed laws.ordered laws.ways_up (map pattern_step_seen c.args.steps.now) (map pattern_step_seen c.loop-last.rest.now) front s
+    c.loop-last.nodes c.in_ok-parents.parents c.args.n c.requires.typed c.loop-last.invariant rest holders

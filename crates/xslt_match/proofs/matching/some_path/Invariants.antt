@@ -1,0 +1,14 @@
+use Rattle.std.proofs.Common.{◌||◌, drop}
+use Rattle.xp_outcome.specs.Outcome.{done, bind}
+use Rattle.xp_outcome.specs.Running.{Onto}
+use Rattle.xp_typed.specs.TypedView.{paths_seen}
+use Rattle.xp_typed.specs.WellTyped.{PathsTyped}
+use Rattle.xslt_match.specs.Matching.{some_path}
+use Rattle.xslt_match.proofs.matching.some_path.Given as goal
+
+abbrev pub invariant-loop-path : goal.invariant-loop-path
+invariant-loop-path g l = record {
+  rest : Onto (some_path l.tree.nodes l.lets l.n (paths_seen l.paths)) l.initial.reads l.initial.steps
+      (bind (some_path l.tree.nodes l.lets l.n (paths_seen (drop l.path-index l.paths))) (λ later. done (l.matched || later))) l.reads l.steps;
+  typed : PathsTyped (paths_seen (drop l.path-index l.paths));
+}

@@ -1,0 +1,4 @@
+pub mod Positional
+pub mod Matching
+pub mod Leading
+pub mod Ends

@@ -1,0 +1,112 @@
+//! The chains of a path pattern's steps to a node, and the tests of the nodes in them (XSLT 1.0, section 5.2).
+
+ghost use Rattle.std.specs.Prelude.{◌≡◌, true, false, map, IfOk};
+ghost use Rattle.doc_tree.specs.Table.{is_live};
+ghost use Rattle.xp_outcome.specs.Running.{Ran};
+ghost use Rattle.xp_convert.specs.Results.{shown};
+ghost use Rattle.xp_typed.specs.TypedView.{path_seen, pattern_step_seen};
+ghost use Rattle.xp_typed.specs.WellTyped.{PatternStepsTyped};
+ghost use Rattle.xslt_match.specs.Ends.{ends_elsewhere};
+ghost use Rattle.xslt_match.specs.Matching.{chains, path_matches, starts};
+
+use crate::leading::{led_to, standing, starts, way_to};
+use crate::testing::{is_among, survivors};
+use doc_axes::{passes, push_all};
+use doc_tree::{NodeId, NodeList, Tree};
+use sch_base::ItemList;
+use std::alloc::{AllocError, Global};
+use std::sync::ledger::Ledger;
+use xp_meaning::Lets;
+use xp_outcome::{Recorder, Steps};
+use xp_typed::{TypedPath, TypedPatternStep};
+use xp_values::EvalError;
+
+/// Whether a live node matches a path pattern. Most paths end at another kind of node or another name: these are
+/// refused at once.
+pub(crate) fn path_matches<L: Ledger>(
+    alloc: Global,
+    tree: &Tree,
+    path: &TypedPath,
+    n: NodeId,
+    lets: &Lets,
+    reads: &mut Recorder,
+    steps: &mut Steps<L>,
+) -> Result<bool, EvalError>
+    requires lives { is_live tree.now.nodes n ≡ true }
+    requires typed { PatternStepsTyped (path_seen path.now).steps }
+    ensures { Ran (path_matches tree.now.nodes lets.now n (path_seen path.now))
+        (shown result) reads.old reads.new steps.old steps.new }
+{
+    if ends_elsewhere(tree, &path.steps, n) {
+        return Ok(false);
+    }
+    let way = way_to(alloc, tree, n)?;
+    let first = starts(tree, path.from_root, way.as_slice(), n);
+    chains(
+        alloc,
+        tree,
+        &path.steps,
+        first,
+        way.as_slice(),
+        n,
+        lets,
+        reads,
+        steps,
+    )
+}
+
+/// Whether the last step's node test refuses a live node.
+fn ends_elsewhere(tree: &Tree, path_steps: &[TypedPatternStep], n: NodeId) -> bool
+    requires { is_live tree.now.nodes n ≡ true }
+    ensures { result ≡ ends_elsewhere tree.now.nodes (map pattern_step_seen path_steps.now) n }
+{
+    match path_steps.split_last() {
+        Some((last, _)) => !passes(tree, n, last.step.axis, &last.step.test),
+        None => false,
+    }
+}
+
+/// Whether all nodes of some chain to a live node survive their tests, step by step from the left. Where no node stands
+/// at a step there is no chain, and no more node is tested.
+///
+/// Beside the tests it costs, for each two steps, the square of the way's length at most.
+fn chains<L: Ledger>(
+    alloc: Global,
+    tree: &Tree,
+    path_steps: &[TypedPatternStep],
+    first: &[NodeId],
+    way: &[NodeId],
+    n: NodeId,
+    lets: &Lets,
+    reads: &mut Recorder,
+    steps: &mut Steps<L>,
+) -> Result<bool, EvalError>
+    requires lives { is_live tree.now.nodes n ≡ true }
+    requires way { way.now ≡ starts tree.now.nodes false n }
+    requires typed { PatternStepsTyped (map pattern_step_seen path_steps.now) }
+    ensures { Ran (chains tree.now.nodes lets.now n (map pattern_step_seen path_steps.now) first.now first.now)
+        (shown result) reads.old reads.new steps.old steps.new }
+{
+    let mut nodes = copied(alloc, first)?;
+    let mut alive = copied(alloc, first)?;
+    let mut later = path_steps;
+    while let Some((step, rest)) = later.split_first() {
+        nodes = standing(alloc, tree, step, rest, nodes.as_slice(), way, n)?;
+        if nodes.is_empty() {
+            return Ok(false);
+        }
+        let left = survivors(alloc, tree, step, nodes.as_slice(), n, lets, reads, steps)?;
+        alive = led_to(alloc, tree, step, alive.as_slice(), left.as_slice())?;
+        later = rest;
+    }
+    Ok(is_among(alive.as_slice(), n))
+}
+
+/// The same nodes as a list.
+fn copied(alloc: Global, nodes: &[NodeId]) -> Result<NodeList, AllocError>
+    ensures { IfOk result (λ v. v ≡ nodes.now) }
+{
+    let mut list = ItemList::new(alloc);
+    push_all(&mut list, nodes)?;
+    Ok(list)
+}

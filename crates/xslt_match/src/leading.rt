@@ -1,0 +1,343 @@
+//! Where the steps of a path pattern lead, their predicates left out.
+//!
+//! A step leads downwards, so that the nodes of a chain to a node stand on the way from the root to it: only these are
+//! looked at.
+
+ghost use Rattle.std.specs.Prelude.{◌≡◌, ◌++◌, ◌∷◌, ◌||◌, [], ℕ, List, true, false, Some};
+ghost use Rattle.std.specs.Prelude.{filter, map, IfOk, IfSome, OnOk};
+ghost use Rattle.std.specs.List.{filter_map, list_any};
+ghost use Rattle.doc_tree.specs.Lists.{mem};
+ghost use Rattle.doc_tree.specs.Table.{is_live};
+ghost use Rattle.doc_tree.specs.Walks.{above, order};
+ghost use Rattle.doc_axes.specs.Axes.{backwards, is_attribute_kind};
+ghost use Rattle.xp_typed.specs.TypedView.{pattern_step_seen};
+ghost use Rattle.xp_typed.specs.WellTyped.{is_pattern_axis, PatternStepsTyped};
+ghost use Rattle.xslt_match.specs.Leading.{is_beside, fits, holder, looks_at, looks_there, OnOneWay};
+ghost use Rattle.xslt_match.specs.Matching.{leads, reaches, standing, starts};
+
+use doc_axes::passes;
+use doc_tree::{Axis, Kind, NodeId, NodeList, Tree};
+use sch_base::ItemList;
+use std::alloc::{AllocError, Global};
+use xp_typed::{Join, TypedPatternStep};
+
+/// The way from the root to a live node: its ancestors and itself, the root first. Costs the depth.
+#[tactic(auto, using(crate::proofs::StepsAlong::way_is))]
+pub(crate) fn way_to(alloc: Global, tree: &Tree, n: NodeId) -> Result<NodeList, AllocError>
+    requires { is_live tree.now.nodes n ≡ true }
+    ensures { IfOk result (λ way. way ≡ starts tree.now.nodes false n) }
+{
+    tree.laws();
+    tree.nesting();
+    let mut way = ItemList::new(alloc);
+    push_way(tree, &mut way, n)?;
+    Ok(way)
+}
+
+/// Puts the node's ancestors, the farthest first, and the node at the end of the list.
+#[tactic(auto, using(crate::proofs::StepsAlong::up_way, crate::proofs::StepsAlong::root_way))]
+fn push_way(tree: &Tree, way: &mut NodeList, n: NodeId) -> Result<(), AllocError>
+    ensures { OnOk result (way.new ≡ way.old ++ backwards (above tree.now.nodes n)) }
+{
+    tree.laws();
+    if let Some(parent) = tree.parent(n) {
+        push_way(tree, way, parent)?;
+    }
+    way.push(n)?;
+    Ok(())
+}
+
+/// Where chains of a path to a live node begin: at the root, which the way begins with, or anywhere on the way.
+pub(crate) fn starts<'a>(tree: &Tree, from_root: bool, way: &'a [NodeId], n: NodeId) -> &'a [NodeId]
+    requires lives { is_live tree.now.nodes n ≡ true }
+    requires way { way.now ≡ starts tree.now.nodes false n }
+    ensures { result.now ≡ starts tree.now.nodes from_root n }
+{
+    tree.laws();
+    if from_root && way.len() > 0 {
+        way.split_at(1).0
+    } else {
+        way
+    }
+}
+
+/// Those of some nodes that a step leads to from some other nodes.
+///
+/// Costs for each node that passes the node test as much as there are nodes to be led from, and behind `//` the depth
+/// besides, where these come from the root downwards on one way.
+pub(crate) fn led_to(
+    alloc: Global,
+    tree: &Tree,
+    step: &TypedPatternStep,
+    nodes: &[NodeId],
+    among: &[NodeId],
+) -> Result<NodeList, AllocError>
+    requires { is_pattern_axis (pattern_step_seen step.now).axis ≡ true }
+    ensures { IfOk result (λ v.
+        v ≡ filter (λ k. list_any (λ m. leads tree.now.nodes (pattern_step_seen step.now) m k) nodes.now) among.now) }
+{
+    let mut found = ItemList::new(alloc);
+    for k in among {
+        if is_led_to(tree, step, nodes, *k) {
+            found.push(*k)?;
+        }
+    }
+    Ok(found)
+}
+
+/// Whether a step leads to the node from some of the nodes.
+fn is_led_to(tree: &Tree, step: &TypedPatternStep, nodes: &[NodeId], k: NodeId) -> bool
+    requires { is_pattern_axis (pattern_step_seen step.now).axis ≡ true }
+    ensures { result ≡ list_any (λ m. leads tree.now.nodes (pattern_step_seen step.now) m k) nodes.now }
+{
+    tree.laws();
+    match holder(tree, step, k) {
+        Some(parent) => some_looks_at(tree, step.join, nodes, parent),
+        None => false,
+    }
+}
+
+/// The node at which a node is a candidate of the step.
+fn holder(tree: &Tree, step: &TypedPatternStep, k: NodeId) -> Option<NodeId>
+    ensures { result ≡ holder tree.now.nodes (pattern_step_seen step.now) k }
+{
+    tree.laws();
+    let parent = tree.parent(k)?;
+    if fits(tree, step, k) {
+        Some(parent)
+    } else {
+        None
+    }
+}
+
+/// Whether a live node is a candidate of the step at its parent.
+fn fits(tree: &Tree, step: &TypedPatternStep, k: NodeId) -> bool
+    requires { is_live tree.now.nodes k ≡ true }
+    ensures { result ≡ fits tree.now.nodes (pattern_step_seen step.now) k }
+{
+    let axis = step.step.axis;
+    is_beside(axis, tree.kind(k)) && passes(tree, k, axis, &step.step.test)
+}
+
+/// Whether nodes of the kind stand on the axis, attributes on the attribute axis and the others on the child axis.
+fn is_beside(axis: Axis, kind: Kind) -> bool
+    ensures { result ≡ is_beside axis (is_attribute_kind (Some kind)) }
+{
+    match axis {
+        Axis::Attribute => kind == Kind::Attribute,
+        _ => kind != Kind::Attribute,
+    }
+}
+
+/// Whether a step looks for candidates at p from some of the nodes.
+fn some_looks_at(tree: &Tree, join: Join, nodes: &[NodeId], p: NodeId) -> bool
+    ensures { result ≡ list_any (λ m. looks_at tree.now.nodes join m p) nodes.now }
+{
+    match join {
+        Join::DoubleSlash => some_above(tree, nodes, p),
+        _ => nodes.iter().any(|m| *m == p),
+    }
+}
+
+/// Whether some of the nodes is p or an ancestor of it. Costs the depth and the number of nodes where they come from
+/// the root downwards on one way.
+fn some_above(tree: &Tree, nodes: &[NodeId], p: NodeId) -> bool
+    ensures { result ≡ list_any (λ m. mem m (above tree.now.nodes p)) nodes.now }
+{
+    let mut passed = None;
+    for m in nodes {
+        if is_above_past(tree, passed, *m, p) {
+            return true;
+        }
+        passed = Some(*m);
+    }
+    false
+}
+
+/// `is_above` of m, where it is known of a node that it isn't above p: then no node below that one is.
+fn is_above_past(tree: &Tree, passed: Option<NodeId>, m: NodeId, p: NodeId) -> bool
+    requires { IfSome passed (λ a. mem a (above tree.now.nodes p) ≡ false) }
+    ensures { result ≡ mem m (above tree.now.nodes p) }
+{
+    tree.laws();
+    if let Some(a) = passed {
+        if is_above(tree, a, m) {
+            return false;
+        }
+    }
+    is_above(tree, m, p)
+}
+
+/// Whether a step from m looks for candidates at p.
+fn looks_at(tree: &Tree, join: Join, m: NodeId, p: NodeId) -> bool
+    ensures { result ≡ looks_at tree.now.nodes join m p }
+{
+    match join {
+        Join::DoubleSlash => is_above(tree, m, p),
+        _ => m == p,
+    }
+}
+
+/// Whether m is p or an ancestor of it. Costs the way up from p to m, or to the root.
+fn is_above(tree: &Tree, m: NodeId, p: NodeId) -> bool
+    ensures { result ≡ mem m (above tree.now.nodes p) }
+{
+    tree.laws();
+    if m == p {
+        return true;
+    }
+    match tree.parent(p) {
+        Some(parent) => is_above(tree, m, parent),
+        None => false,
+    }
+}
+
+/// The nodes that stand at a step in some chain to n, by those that stand before it: the step leads to them, and the
+/// later steps lead on to n. Costs for each of the steps the square of the way's length at most.
+pub(crate) fn standing(
+    alloc: Global,
+    tree: &Tree,
+    step: &TypedPatternStep,
+    later: &[TypedPatternStep],
+    nodes: &[NodeId],
+    way: &[NodeId],
+    n: NodeId,
+) -> Result<NodeList, AllocError>
+    requires axis { is_pattern_axis (pattern_step_seen step.now).axis ≡ true }
+    requires later { PatternStepsTyped (map pattern_step_seen later.now) }
+    requires lives { is_live tree.now.nodes n ≡ true }
+    requires way { way.now ≡ starts tree.now.nodes false n }
+    ensures is { IfOk result (λ v.
+        v ≡ standing tree.now.nodes (pattern_step_seen step.now) (map pattern_step_seen later.now) nodes.now n) }
+    ensures live { IfOk result (λ v. (k : ℕ) → mem k v ≡ true → is_live tree.now.nodes k ≡ true) }
+{
+    tree.laws();
+    let among = origins(alloc, tree, later, way, n)?;
+    led_to(alloc, tree, step, nodes, among.as_slice())
+}
+
+/// The nodes from which steps lead on to a live node, found from the last step backwards. Costs for each step the
+/// square of the way's length at most.
+fn origins(
+    alloc: Global,
+    tree: &Tree,
+    steps: &[TypedPatternStep],
+    way: &[NodeId],
+    n: NodeId,
+) -> Result<NodeList, AllocError>
+    requires typed { PatternStepsTyped (map pattern_step_seen steps.now) }
+    requires lives { is_live tree.now.nodes n ≡ true }
+    requires way { way.now ≡ starts tree.now.nodes false n }
+    ensures { IfOk result (λ v.
+        v ≡ filter (λ k. reaches tree.now.nodes (map pattern_step_seen steps.now) (k ∷ []) n) (order tree.now.nodes)) }
+{
+    tree.laws();
+    let mut nodes = ItemList::new(alloc);
+    nodes.push(n)?;
+    let mut rest = steps;
+    while let Some((last, earlier)) = rest.split_last() {
+        let parents = holders(alloc, tree, last, nodes.as_slice())?;
+        let ends = ends_of(alloc, tree, last.join, parents)?;
+        nodes = looking_at(alloc, tree, last.join, way, ends.as_slice())?;
+        rest = earlier;
+    }
+    Ok(nodes)
+}
+
+/// The nodes at which some of the nodes are candidates of the step.
+fn holders(
+    alloc: Global,
+    tree: &Tree,
+    step: &TypedPatternStep,
+    nodes: &[NodeId],
+) -> Result<NodeList, AllocError>
+    ensures { IfOk result (λ v. v ≡ filter_map (holder tree.now.nodes (pattern_step_seen step.now)) nodes.now) }
+{
+    let mut found = ItemList::new(alloc);
+    for k in nodes {
+        if let Some(parent) = holder(tree, step, *k) {
+            found.push(parent)?;
+        }
+    }
+    Ok(found)
+}
+
+/// Those of some nodes on one way that tell from where a step looks for candidates at one of them: behind `//` the
+/// deepest, else all.
+fn ends_of(alloc: Global, tree: &Tree, join: Join, nodes: NodeList) -> Result<NodeList, AllocError>
+    requires { OnOneWay tree.now.nodes nodes }
+    ensures { IfOk result (λ v. (m : ℕ) →
+        list_any (looks_at tree.now.nodes join m) v ≡ list_any (looks_at tree.now.nodes join m) nodes) }
+{
+    match join {
+        Join::DoubleSlash => deepest_alone(alloc, tree, nodes.as_slice()),
+        _ => Ok(nodes),
+    }
+}
+
+/// The deepest of some nodes on one way, as a list of one node, or of none for none.
+fn deepest_alone(alloc: Global, tree: &Tree, nodes: &[NodeId]) -> Result<NodeList, AllocError>
+    requires { OnOneWay tree.now.nodes nodes.now }
+    ensures { IfOk result (λ v. (m : ℕ) →
+        list_any (λ p. mem m (above tree.now.nodes p)) v ≡ list_any (λ p. mem m (above tree.now.nodes p)) nodes.now) }
+{
+    let mut list = ItemList::new(alloc);
+    if let Some(node) = deepest(tree, nodes) {
+        list.push(node)?;
+    }
+    Ok(list)
+}
+
+/// The deepest of some nodes on one way. Costs the depth where they come from the root downwards.
+fn deepest(tree: &Tree, nodes: &[NodeId]) -> Option<NodeId>
+    requires { OnOneWay tree.now.nodes nodes.now }
+    ensures { (m : ℕ) →
+        looks_there tree.now.nodes true m result ≡ list_any (λ p. mem m (above tree.now.nodes p)) nodes.now }
+{
+    let mut end = None;
+    for p in nodes {
+        end = Some(deeper(tree, end, *p));
+    }
+    end
+}
+
+/// The deeper of two nodes on one way, or the second where there is no first.
+fn deeper(tree: &Tree, end: Option<NodeId>, p: NodeId) -> NodeId
+    requires { IfSome end (λ a. (mem a (above tree.now.nodes p) || mem p (above tree.now.nodes a)) ≡ true) }
+    ensures one { (nodes : List ℕ) →
+        IfSome end (λ a. mem a nodes ≡ true) → mem p nodes ≡ true → mem result nodes ≡ true }
+    ensures below { (m : ℕ) →
+        mem m (above tree.now.nodes result) ≡ (looks_there tree.now.nodes true m end || mem m (above tree.now.nodes p)) }
+{
+    tree.laws();
+    match end {
+        Some(a) => { if is_above(tree, a, p) { p } else { a } }
+        None => p,
+    }
+}
+
+/// Those nodes of the way from which a step looks for candidates at some of the nodes.
+fn looking_at(
+    alloc: Global,
+    tree: &Tree,
+    join: Join,
+    way: &[NodeId],
+    nodes: &[NodeId],
+) -> Result<NodeList, AllocError>
+    ensures { IfOk result (λ v. v ≡ filter (λ m. list_any (looks_at tree.now.nodes join m) nodes.now) way.now) }
+{
+    let mut found = ItemList::new(alloc);
+    for m in way {
+        if looks_at_some(tree, join, *m, nodes) {
+            found.push(*m)?;
+        }
+    }
+    Ok(found)
+}
+
+/// Whether a step from m looks for candidates at some of the nodes.
+fn looks_at_some(tree: &Tree, join: Join, m: NodeId, nodes: &[NodeId]) -> bool
+    ensures { result ≡ list_any (looks_at tree.now.nodes join m) nodes.now }
+{
+    nodes.iter().any(|p| looks_at(tree, join, m, *p))
+}

@@ -1,0 +1,68 @@
+//! The matching of nodes against match patterns (XSLT 1.0, section 5.2).
+
+ghost use Rattle.std.specs.Prelude.{◌≡◌, true};
+ghost use Rattle.doc_tree.specs.Table.{is_live};
+ghost use Rattle.xp_outcome.specs.Running.{Ran};
+ghost use Rattle.xp_convert.specs.Results.{shown};
+ghost use Rattle.xp_typed.specs.TypedView.{paths_seen};
+ghost use Rattle.xp_typed.specs.WellTyped.{PathsTyped};
+ghost use Rattle.xslt_match.specs.Matching.{matching, some_path};
+
+use crate::chains::path_matches;
+use doc_tree::{NodeId, Tree};
+use std::alloc::Global;
+use std::sync::ledger::Ledger;
+use xp_meaning::Lets;
+use xp_outcome::{Recorder, Steps};
+use xp_typed::{TypedPath, TypedPattern};
+use xp_values::EvalError;
+
+/// Whether a live node matches a pattern (XSLT 1.0, section 5.2), or the first fault of the tests.
+///
+/// The nodes that stand at a step in some chain to the node are tested, path by path, step by step from the left, from
+/// the root downwards. It is one visit, and those of the tests: one for each node that is tested with no positional
+/// predicate, else those of the step at the node's parent.
+///
+/// Beside what it held, the recorder holds what the tests read; see `Ran` for what stands where memory is wanting. A
+/// path whose last node test refuses the node costs no memory; another costs for each step and each two nodes on the
+/// way to the node at most the way's length.
+#[tactic(auto, using(crate::proofs::Chaining::paths_matched, crate::proofs::Chaining::paths_typed))]
+pub fn matches<L: Ledger>(
+    alloc: Global,
+    tree: &Tree,
+    pattern: &TypedPattern,
+    n: NodeId,
+    lets: &Lets,
+    reads: &mut Recorder,
+    steps: &mut Steps<L>,
+) -> Result<bool, EvalError>
+    requires { is_live tree.now.nodes n ≡ true }
+    ensures { Ran (matching tree.now.nodes lets.now pattern.now n)
+        (shown result) reads.old reads.new steps.old steps.new }
+{
+    steps.tick();
+    some_path(alloc, tree, pattern.paths(), n, lets, reads, steps)
+}
+
+/// Whether a live node matches some of the path patterns; all are tested.
+fn some_path<L: Ledger>(
+    alloc: Global,
+    tree: &Tree,
+    paths: &[TypedPath],
+    n: NodeId,
+    lets: &Lets,
+    reads: &mut Recorder,
+    steps: &mut Steps<L>,
+) -> Result<bool, EvalError>
+    requires lives { is_live tree.now.nodes n ≡ true }
+    requires typed { PathsTyped (paths_seen paths.now) }
+    ensures { Ran (some_path tree.now.nodes lets.now n (paths_seen paths.now))
+        (shown result) reads.old reads.new steps.old steps.new }
+{
+    let mut matched = false;
+    for path in paths {
+        let here = path_matches(alloc, tree, path, n, lets, reads, steps)?;
+        matched |= here;
+    }
+    Ok(matched)
+}

@@ -1,0 +1,111 @@
+//! The tests of the nodes that stand at a step of a path pattern, by the step's predicates.
+
+ghost use Rattle.std.specs.Prelude.{◌≡◌, [], ◌∷◌, ◌++◌, if◌then◌else◌, OnOk};
+ghost use Rattle.doc_tree.specs.Lists.{mem};
+ghost use Rattle.doc_tree.specs.Table.{parent_of};
+ghost use Rattle.xp_outcome.specs.Running.{Ran};
+ghost use Rattle.xp_convert.specs.Results.{shown};
+ghost use Rattle.xp_typed.specs.TypedView.{pattern_step_seen};
+ghost use Rattle.xslt_match.specs.Matching.{is_left, step_of, survives, survivors};
+
+use crate::positional::some_positional;
+use doc_tree::{NodeId, NodeList, Tree};
+use sch_base::ItemList;
+use std::alloc::{AllocError, Global};
+use std::sync::ledger::Ledger;
+use xp_eval::{Context, all_true, step_at};
+use xp_meaning::Lets;
+use xp_outcome::{Recorder, Steps};
+use xp_typed::TypedPatternStep;
+use xp_values::EvalError;
+
+/// Those of some nodes that survive a step's test; n is the node that is matched.
+pub(crate) fn survivors<L: Ledger>(
+    alloc: Global,
+    tree: &Tree,
+    step: &TypedPatternStep,
+    nodes: &[NodeId],
+    n: NodeId,
+    lets: &Lets,
+    reads: &mut Recorder,
+    steps: &mut Steps<L>,
+) -> Result<NodeList, EvalError>
+    ensures { Ran (survivors tree.now.nodes lets.now (pattern_step_seen step.now) n nodes.now)
+        (shown result) reads.old reads.new steps.old steps.new }
+{
+    let mut left = ItemList::new(alloc);
+    for k in nodes {
+        let stays = survives(alloc, tree, step, *k, n, lets, reads, steps)?;
+        push_if(&mut left, *k, stays)?;
+    }
+    Ok(left)
+}
+
+/// Puts the node at the end of the list, if it stays.
+fn push_if(list: &mut NodeList, n: NodeId, stays: bool) -> Result<(), AllocError>
+    ensures { OnOk result (list.new ≡ list.old ++ (if stays then n ∷ [] else [])) }
+{
+    if stays {
+        list.push(n)?;
+    }
+    Ok(())
+}
+
+/// Whether a node survives a step's test: by its place among the step's nodes at its parent where a predicate is
+/// positional, else by the predicates at the node alone.
+fn survives<L: Ledger>(
+    alloc: Global,
+    tree: &Tree,
+    step: &TypedPatternStep,
+    k: NodeId,
+    n: NodeId,
+    lets: &Lets,
+    reads: &mut Recorder,
+    steps: &mut Steps<L>,
+) -> Result<bool, EvalError>
+    ensures { Ran (survives tree.now.nodes lets.now (pattern_step_seen step.now) n k)
+        (shown result) reads.old reads.new steps.old steps.new }
+{
+    if some_positional(&step.step.predicates) {
+        return is_left(alloc, tree, step, k, n, lets, reads, steps);
+    }
+    steps.tick();
+    let at = Context {
+        node: k,
+        position: 1,
+        size: 1,
+        current: n,
+    };
+    all_true(alloc, tree, &step.step.predicates, &at, lets, reads, steps)
+}
+
+/// Whether a node is among those that a step selects at the node's parent.
+fn is_left<L: Ledger>(
+    alloc: Global,
+    tree: &Tree,
+    step: &TypedPatternStep,
+    k: NodeId,
+    n: NodeId,
+    lets: &Lets,
+    reads: &mut Recorder,
+    steps: &mut Steps<L>,
+) -> Result<bool, EvalError>
+    ensures { Ran (is_left tree.now.nodes (step_of tree.now.nodes lets.now (pattern_step_seen step.now)) n k
+        (parent_of tree.now.nodes k))
+        (shown result) reads.old reads.new steps.old steps.new }
+{
+    match tree.parent(k) {
+        Some(parent) => {
+            let selected = step_at(alloc, tree, &step.step, parent, n, lets, reads, steps)?;
+            Ok(is_among(selected.as_slice(), k))
+        }
+        None => Ok(false),
+    }
+}
+
+/// Whether a node is among some nodes.
+pub(crate) fn is_among(nodes: &[NodeId], n: NodeId) -> bool
+    ensures { result ≡ mem n nodes.now }
+{
+    nodes.contains(&n)
+}
