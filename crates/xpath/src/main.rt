@@ -1,4 +1,5 @@
-//! `xpath` evaluates an expression of XPath 1.0 over a document, or prints it without abbreviations.
+//! `xpath` evaluates an expression of XPath 1.0 over a document, or prints it without abbreviations; it counts the nodes
+//! that match a pattern of XSLT 1.0.
 //!
 //! It is a tool for developers and for measurements: it shows the rooms of expressions at work until the validator
 //! uses them.
@@ -7,6 +8,7 @@
 mod document;
 mod evaluation;
 mod fault;
+mod matching;
 mod request;
 #[cfg(test)]
 mod samples;

@@ -8,6 +8,9 @@ const PRINT: &str = "--print";
 /// The word that asks for the count of visits.
 const VISITS: &str = "--visits";
 
+/// The word that asks for the nodes that match a pattern.
+const MATCHES: &str = "--matches";
+
 /// What the words ask for.
 #[derive(Clone, Copy, Debug)]
 pub(crate) enum Request<'w> {
@@ -15,6 +18,8 @@ pub(crate) enum Request<'w> {
     Value { expression: &'w str },
     /// How many visits the value takes.
     Visits { expression: &'w str },
+    /// How many nodes match the pattern.
+    Matches { pattern: &'w str },
     /// The expression without abbreviations.
     Print { expression: &'w str },
 }
@@ -30,6 +35,9 @@ pub(crate) fn request_of(words: &[String]) -> Result<Request<'_>, Fault> {
         }),
         [option, expression] if option.as_str() == VISITS => Ok(Request::Visits {
             expression: expression.as_str(),
+        }),
+        [option, pattern] if option.as_str() == MATCHES => Ok(Request::Matches {
+            pattern: pattern.as_str(),
         }),
         _ => Err(Fault::Usage),
     }

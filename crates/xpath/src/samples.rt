@@ -1,18 +1,18 @@
-//! Documents whose nodes have names, and what expressions give on them.
+//! Documents whose nodes have names, what expressions give on them, and which patterns their nodes match.
 
-ghost use Rattle.std.specs.Prelude.{◌≡◌, true, IfOk};
+ghost use Rattle.std.specs.Prelude.{◌≡◌, IfOk};
 
-use crate::evaluation::{Evaluated, alone, checked, evaluate, is_short};
+use crate::evaluation::{Evaluated, alone, checked, evaluate};
 use crate::fault::Fault;
+use crate::matching::{Matched, match_node, matching_nodes, pattern_checked};
 use doc_tree::{Cell, NodeId, NodeList, Tree};
 use name_scopes::load_tree;
 use std::alloc::Global;
 use std::process::Abort;
 use std::test::Fail;
 use xp_eval::{Lets, Recorder};
-use xp_syntax::parse_pattern;
 use xp_typed::ValueType;
-use xp_types::{Env, check_pattern};
+use xp_types::Env;
 use xp_values::{Num, Value};
 
 /// A document, its nodes in document order with their names, and the name and the value of its one variable.
@@ -118,7 +118,7 @@ fn evaluate_for(
     Ok(evaluate(alloc, &sample.tree, &expr, &at, &sample.lets, reads))
 }
 
-/// What an expression gives, what is read for it, and how many visits it takes.
+/// What an expression or a match gives, what is read for it, and how many visits it takes.
 #[derive(Drop)]
 struct Answer {
     told: String,
@@ -233,16 +233,20 @@ fn gives(rt: &impl Abort, sample: &Sample, at: &str, text: &str, wanted: &str) -
     Ok(())
 }
 
+/// The two parts of a line of a table.
+fn parted<'l>(line: &'l str, mark: &str) -> Result<(&'l str, &'l str), Fail> {
+    match line.split_once(mark) {
+        Some(parts) => Ok(parts),
+        None => Err("a line of a table without its mark".into()),
+    }
+}
+
 /// Asserts each line of a table: a node, a colon, an expression, `=>`, its value, and perhaps `reads` with what is read
 /// and `visits` with their number.
 pub(crate) fn values_are(rt: &impl Abort, sample: &Sample, table: &str) -> Result<(), Fail> {
     for line in table.lines() {
-        let Some((at, rest)) = line.split_once(": ") else {
-            return Err("a line without a node".into());
-        };
-        let Some((text, wanted)) = rest.split_once(" => ") else {
-            return Err("a line without `=>`".into());
-        };
+        let (at, rest) = parted(line, ": ")?;
+        let (text, wanted) = parted(rest, " => ")?;
         gives(rt, sample, at, text, wanted)?;
     }
     Ok(())
@@ -251,22 +255,10 @@ pub(crate) fn values_are(rt: &impl Abort, sample: &Sample, table: &str) -> Resul
 /// Asserts each line of a table: a text, `=>`, and `pattern`, or its first fault as a pattern.
 pub(crate) fn patterns_are(rt: &impl Abort, alloc: Global, table: &str) -> Result<(), Fail> {
     for line in table.lines() {
-        let Some((text, wanted)) = line.split_once(" => ") else {
-            return Err("a line without `=>`".into());
-        };
+        let (text, wanted) = parted(line, " => ")?;
         let told = pattern_told(alloc, text)?;
         assert_eq!(rt; told.as_str(), wanted, "at {text}");
     }
-    Ok(())
-}
-
-/// Whether a text spells a pattern that has no fault of types, in that scope.
-fn pattern_checked(alloc: Global, text: &str, env: &Env) -> Result<(), Fault>
-    requires { env.now.in_pattern ≡ true }
-{
-    is_short(text)?;
-    let pattern = parse_pattern(alloc, text)?;
-    check_pattern(alloc, pattern, env)?;
     Ok(())
 }
 
@@ -277,7 +269,77 @@ fn pattern_told(alloc: Global, text: &str) -> Result<String, Fail> {
         Err(fault) => Err(fault),
     };
     match &found {
-        Ok(()) => Ok(String::from_str(alloc, "pattern")?),
+        Ok(_) => Ok(String::from_str(alloc, "pattern")?),
         Err(fault) => Ok(format!(in alloc; "{fault}")?),
     }
+}
+
+/// A node matched against the pattern that a text spells.
+fn match_text(
+    sample: &Sample,
+    n: NodeId,
+    text: &str,
+    reads: &mut Recorder,
+) -> Result<Matched, Fault> {
+    let env = scope(sample.alloc, true)?;
+    let pattern = pattern_checked(sample.alloc, text, &env)?;
+    Ok(match_node(sample.alloc, &sample.tree, &pattern, n, &sample.lets, reads))
+}
+
+/// Whether a node matches the pattern that a text spells, or the first fault.
+fn match_given(sample: &Sample, n: NodeId, text: &str) -> Result<Answer, Fail> {
+    let mut reads = Recorder::new(sample.alloc);
+    let (result, visits) = match match_text(sample, n, text, &mut reads) {
+        Ok(Matched { result, visits }) => (result, visits),
+        Err(fault) => (Err(fault), 0),
+    };
+    let told = match &result {
+        Ok(matched) => format!(in sample.alloc; "match {matched}")?,
+        Err(fault) => format!(in sample.alloc; "{fault}")?,
+    };
+    Ok(Answer {
+        told,
+        reads,
+        visits,
+    })
+}
+
+/// Asserts each line of a table: a node, a colon, a pattern, `=>`, `match` with whether the node matches it, `reads`
+/// with what is read, and `visits` with their number.
+pub(crate) fn matches_are(rt: &impl Abort, sample: &Sample, table: &str) -> Result<(), Fail> {
+    for line in table.lines() {
+        let (at, rest) = parted(line, ": ")?;
+        let (text, wanted) = parted(rest, " => ")?;
+        let found = match_given(sample, node(rt, sample, at), text)?;
+        let told = found_told(sample, &found, wanted)?;
+        assert_eq!(rt; told.as_str(), wanted, "at {text}");
+    }
+    Ok(())
+}
+
+/// The nodes that match the pattern that a text spells.
+fn matching_told(sample: &Sample, text: &str) -> Result<String, Fail> {
+    let alloc = sample.alloc;
+    let found = match pattern_checked(alloc, text, &Env::new(alloc, true)) {
+        Ok(pattern) => matching_nodes(alloc, &sample.tree, &pattern),
+        Err(fault) => Err(fault),
+    };
+    match &found {
+        Ok(nodes) => nodes_told(sample, nodes.as_slice()),
+        Err(fault) => Ok(format!(in alloc; "{fault}")?),
+    }
+}
+
+/// Asserts each line of a table: a pattern, `=>`, and the nodes that match it.
+pub(crate) fn matching_nodes_are(
+    rt: &impl Abort,
+    sample: &Sample,
+    table: &str,
+) -> Result<(), Fail> {
+    for line in table.lines() {
+        let (text, wanted) = parted(line, " => ")?;
+        let told = matching_told(sample, text)?;
+        assert_eq!(rt; told.as_str(), wanted, "at {text}");
+    }
+    Ok(())
 }

@@ -3,12 +3,14 @@
 use crate::document::load_document;
 use crate::evaluation::{Evaluated, checked, evaluate_at, told, unabbreviated};
 use crate::fault::Fault;
+use crate::matching::{matching_nodes, pattern_checked};
 use crate::request::{Request, request_of};
 use doc_tree::Tree;
 use sch_base::Text;
 use sch_io::{Shelf, Sink, write_all, write_pieces};
 use std::alloc::Global;
 use xp_types::Env;
+use xp_values::Value;
 
 /// Writes the answer to what the words behind the program's name ask for.
 ///
@@ -38,6 +40,12 @@ fn answer_to<S: Shelf>(alloc: Global, request: Request<'_>, shelf: &mut S) -> Re
             result?;
             let count = format!(in alloc; "{visits}")?;
             Ok(Text::from(count))
+        }
+        Request::Matches { pattern } => {
+            let pattern = pattern_checked(alloc, pattern, &Env::new(alloc, true))?;
+            let tree = load_document(alloc, shelf)?;
+            let nodes = matching_nodes(alloc, &tree, &pattern)?;
+            told(alloc, &tree, &Value::NodeSet(nodes))
         }
     }
 }

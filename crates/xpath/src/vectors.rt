@@ -1,9 +1,13 @@
-//! The values of expressions, what is read for them and how many visits they take, computed outside this project.
+//! The values of expressions and the matches of patterns, what is read for them and how many visits they take, computed
+//! outside this project.
 //!
 //! A line names the context node, the expression, its value, behind `reads` the cells and lets that are read, and
 //! behind `visits` how many there are.
 
-use crate::samples::{a_long_text, a_note, patterns_are, three_bs, two_texts, values_are};
+use crate::samples::{
+    a_long_text, a_note, matches_are, matching_nodes_are, patterns_are, three_bs, two_texts,
+    values_are,
+};
 use std::test::Fail;
 
 /// Worked examples: paths, numbers, comparisons and faults.
@@ -251,6 +255,50 @@ q: $x[1] | . => nodes note q reads let x visits 7\n\
 q: preceding-sibling::*[1] = 'ok' => truth true reads Kids r, Text note visits 7\n\
 root: //note => nodes note reads Kids root, Shape root, Kids r, Kids note, Kids q visits 16\n";
 
+/// What is read to match nodes over three elements b against patterns, and how many visits it takes.
+const MATCHES: &str = "\
+b3: b => match true reads nothing visits 2\n\
+b3: b[2] => match true reads Kids c visits 6\n\
+b1: b[@x] => match true reads Attrs b1 visits 5\n\
+b3: a//b => match true reads nothing visits 3\n\
+b2: a//b[1] => match true reads Kids c visits 7\n\
+b2: /a/b => match false reads nothing visits 1\n\
+b1: //b => match true reads nothing visits 2\n\
+b2: c/b[last()] => match false reads Kids c visits 7\n\
+@x: @* => match true reads nothing visits 2\n\
+@x: @x => match true reads nothing visits 2\n\
+@x: b/@x => match true reads nothing visits 3\n\
+b2: *[b]/b => match true reads Kids c visits 7\n\
+b2: a/b | c/b[@x or true()] => match true reads Attrs b2 visits 7\n\
+root: / => match true reads nothing visits 1\n\
+c: node() => match true reads nothing visits 2\n";
+
+/// The same over an element with two texts.
+const MATCHES_OF_TEXTS: &str = "\
+p: p => match true reads nothing visits 2\n\
+t2: text() => match true reads nothing visits 2\n\
+t2: text()[2] => match true reads Kids p visits 7\n\
+t2: p[x]/text()[. = 'cd'] => match true reads Kids p, Value t2 visits 14\n\
+x: p/node()[2] => match true reads Kids p visits 9\n";
+
+/// The same where a variable stands.
+const MATCHES_WITH_VARIABLES: &str = "\
+q: q => match true reads nothing visits 2\n\
+q: q[$x] => match true reads let x visits 3\n\
+q: *[$x = 'ok'] => match true reads Text note, let x visits 6\n\
+note: note[text()] => match true reads Kids note visits 5\n";
+
+/// The nodes that match a pattern, over three elements b.
+const MATCHING_NODES: &str = "\
+a//b[1] => nodes b1 b2\n\
+b[2] => nodes b3\n\
+c/b[last()] => nodes b3\n\
+a/b => nodes b1\n\
+/b => nodes\n\
+b[@x = 1] => nodes b1\n\
+@* => nodes @x\n\
+/ => nodes root\n";
+
 /// Numbers at and past the edge of their range.
 const GREATEST_NUMBERS: &str = "\
 a: 9007199254740990 + 1 => number 9007199254740991\n\
@@ -344,6 +392,30 @@ fn reads_of_texts(rt: HostRuntime) -> Result<(), Fail> {
 fn reads_of_variables(rt: HostRuntime) -> Result<(), Fail> {
     let sample = a_note(&rt, rt.alloc())?;
     values_are(&rt, &sample, READS_OF_VARIABLES)
+}
+
+#[test]
+fn matches_of_elements(rt: HostRuntime) -> Result<(), Fail> {
+    let sample = three_bs(&rt, rt.alloc())?;
+    matches_are(&rt, &sample, MATCHES)
+}
+
+#[test]
+fn matches_of_texts(rt: HostRuntime) -> Result<(), Fail> {
+    let sample = two_texts(&rt, rt.alloc())?;
+    matches_are(&rt, &sample, MATCHES_OF_TEXTS)
+}
+
+#[test]
+fn matches_with_variables(rt: HostRuntime) -> Result<(), Fail> {
+    let sample = a_note(&rt, rt.alloc())?;
+    matches_are(&rt, &sample, MATCHES_WITH_VARIABLES)
+}
+
+#[test]
+fn matching_nodes(rt: HostRuntime) -> Result<(), Fail> {
+    let sample = three_bs(&rt, rt.alloc())?;
+    matching_nodes_are(&rt, &sample, MATCHING_NODES)
 }
 
 #[test]
