@@ -1,0 +1,7 @@
+mod Contexts
+mod Numbers
+mod Gathering
+mod Choosing
+mod Ways
+mod Survivors
+mod Selected
