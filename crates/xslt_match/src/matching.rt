@@ -24,8 +24,8 @@ use xp_values::EvalError;
 /// predicate, else those of the step at the node's parent.
 ///
 /// Beside what it held, the recorder holds what the tests read; see `Ran` for what stands where memory is wanting. A
-/// path whose last node test refuses the node costs no memory; another costs for each step and each two nodes on the
-/// way to the node at most the way's length.
+/// path whose last node test refuses the node costs one look and no memory; another costs, beside the tests, for each
+/// two of its steps at most the square of the depth.
 #[tactic(auto, using(crate::proofs::Chaining::paths_matched, crate::proofs::Chaining::paths_typed))]
 pub fn matches<L: Ledger>(
     alloc: Global,
