@@ -10,5 +10,5 @@ mod walks;
 
 pub use axes::axis_nodes;
 pub use laws::axes_partition;
-pub use sets::{in_document_order, push_all, union_in_order};
+pub use sets::{copied_nodes, in_document_order, one_node, push_all, union_in_order};
 pub use tests_of_nodes::passes;

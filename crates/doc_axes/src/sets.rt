@@ -1,6 +1,6 @@
 //! Node-sets in document order.
 
-ghost use Rattle.std.specs.Prelude.{◌≡◌, ◌++◌, ◌<◌, true, length, IfOk, OnOk};
+ghost use Rattle.std.specs.Prelude.{◌≡◌, ◌∷◌, [], ◌++◌, ◌<◌, true, length, IfOk, OnOk};
 ghost use Rattle.doc_axes.specs.Sets.{in_order, IsNodeSet, union};
 
 use doc_tree::{NodeId, NodeList, Tree};
@@ -47,6 +47,24 @@ pub fn push_all(list: &mut NodeList, nodes: &[NodeId]) -> Result<(), AllocError>
         list.push(*n)?;
     }
     Ok(())
+}
+
+/// The list of one node.
+pub fn one_node(alloc: Global, n: NodeId) -> Result<NodeList, AllocError>
+    ensures { IfOk result (λ nodes. nodes ≡ n ∷ []) }
+{
+    let mut nodes = ItemList::new(alloc);
+    nodes.push(n)?;
+    Ok(nodes)
+}
+
+/// The same nodes as a list of its own.
+pub fn copied_nodes(alloc: Global, nodes: &[NodeId]) -> Result<NodeList, AllocError>
+    ensures { IfOk result (λ list. list ≡ nodes.now) }
+{
+    let mut list = ItemList::new(alloc);
+    push_all(&mut list, nodes)?;
+    Ok(list)
 }
 
 /// The live ones of some nodes in document order, each once: the two halves are ordered apart, then joined.

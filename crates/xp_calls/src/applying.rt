@@ -18,8 +18,9 @@ use crate::arguments::{
 use crate::joining::joined;
 use crate::language::in_language;
 use crate::names::{local_name, namespace_uri, written_name};
-use doc_tree::{NodeId, NodeList, Tree};
-use sch_base::{ItemList, Text};
+use doc_axes::one_node;
+use doc_tree::{NodeId, Tree};
+use sch_base::Text;
 use std::alloc::{AllocError, Global};
 use std::sync::ledger::Ledger;
 use xp_convert::{number_in, sum_in, text_in};
@@ -99,15 +100,6 @@ fn count(nodes: &[NodeId]) -> Value
 }
 
 /// The node-set of one node.
-fn one_node(alloc: Global, n: NodeId) -> Result<NodeList, AllocError>
-    ensures { IfOk result (λ nodes. nodes ≡ n ∷ []) }
-{
-    let mut nodes = ItemList::new(alloc);
-    nodes.push(n)?;
-    Ok(nodes)
-}
-
-/// `one_node` as a value.
 fn node_set_of(alloc: Global, n: NodeId) -> Result<Value, EvalError>
     ensures { Gives result (Ok (values.NodeSet (n ∷ []))) }
 {

@@ -1,6 +1,6 @@
 //! The choice of nodes by the values of predicates (XPath 1.0, section 2.4), and of sets of nodes.
 
-ghost use Rattle.std.specs.Prelude.{◌≡◌, ◌∷◌, [], ◌++◌, length, flat_map, IfOk, OnOk};
+ghost use Rattle.std.specs.Prelude.{◌≡◌, ◌++◌, length, flat_map, IfOk, OnOk};
 ghost use Rattle.doc_axes.specs.Sets.{in_order};
 ghost use Rattle.xp_convert.specs.Conversions.{nodes_of};
 ghost use Rattle.xp_eval.specs.Wants.{wanted_by};
@@ -71,15 +71,6 @@ pub(crate) fn nodes_in(alloc: Global, value: Value) -> NodeList
         Value::NodeSet(nodes) => nodes,
         _ => ItemList::new(alloc),
     }
-}
-
-/// The list of one node.
-pub(crate) fn one_node(alloc: Global, n: NodeId) -> Result<NodeList, AllocError>
-    ensures { IfOk result (λ nodes. nodes ≡ n ∷ []) }
-{
-    let mut nodes = ItemList::new(alloc);
-    nodes.push(n)?;
-    Ok(nodes)
 }
 
 /// What the operand at a place is converted to: an argument as its function wants it, an operand of a union not at all.

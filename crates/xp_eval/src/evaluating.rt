@@ -17,9 +17,9 @@ ghost use Rattle.xp_eval.specs.Steps.{step_meant};
 ghost use Rattle.xp_eval.specs.Wants.{wanted_by};
 
 use crate::candidates::candidates;
-use crate::choosing::{nodes_in, one_node, push_chosen, size_of, union_of, wanted_by};
+use crate::choosing::{nodes_in, push_chosen, size_of, union_of, wanted_by};
 use crate::variables::variable;
-use doc_axes::{in_document_order, push_all};
+use doc_axes::{in_document_order, one_node, push_all};
 use doc_tree::{NodeId, NodeList, Tree};
 use sch_base::{ItemList, Text};
 use std::alloc::{AllocError, Global};

@@ -8,8 +8,7 @@ ghost use Rattle.xp_outcome.specs.Slots.{in_slot};
 ghost use Rattle.xp_convert.specs.Results.{shown};
 ghost use Rattle.xp_meaning.specs.Evaluation.{slot_value};
 
-use doc_axes::push_all;
-use doc_tree::NodeList;
+use doc_axes::copied_nodes;
 use sch_base::{ItemList, Text};
 use std::alloc::{AllocError, Global};
 use xp_meaning::Lets;
@@ -47,18 +46,9 @@ fn copied(alloc: Global, value: &Value) -> Result<Value, AllocError>
     ensures { IfOk result (λ v. v ≡ value.now) }
 {
     match value {
-        Value::NodeSet(nodes) => Ok(Value::NodeSet(copied_nodes(alloc, nodes)?)),
+        Value::NodeSet(nodes) => Ok(Value::NodeSet(copied_nodes(alloc, nodes.as_slice())?)),
         Value::Truth(truth) => Ok(Value::Truth(*truth)),
         Value::Number(number) => Ok(Value::Number(*number)),
         Value::Chars(text) => Ok(Value::Chars(Text::copy(alloc, text.as_str())?)),
     }
-}
-
-/// The same nodes once more.
-fn copied_nodes(alloc: Global, nodes: &NodeList) -> Result<NodeList, AllocError>
-    ensures { IfOk result (λ list. list ≡ nodes.now) }
-{
-    let mut list = ItemList::new(alloc);
-    push_all(&mut list, nodes.as_slice())?;
-    Ok(list)
 }

@@ -1,6 +1,6 @@
 //! The chains of a path pattern's steps to a node, and the tests of the nodes in them (XSLT 1.0, section 5.2).
 
-ghost use Rattle.std.specs.Prelude.{◌≡◌, true, false, map, IfOk};
+ghost use Rattle.std.specs.Prelude.{◌≡◌, true, false, map};
 ghost use Rattle.doc_tree.specs.Table.{is_live};
 ghost use Rattle.xp_outcome.specs.Running.{Ran};
 ghost use Rattle.xp_convert.specs.Results.{shown};
@@ -11,10 +11,9 @@ ghost use Rattle.xslt_match.specs.Matching.{chains, path_matches, starts};
 
 use crate::leading::{led_to, standing, starts, way_to};
 use crate::testing::{is_among, survivors};
-use doc_axes::{passes, push_all};
-use doc_tree::{NodeId, NodeList, Tree};
-use sch_base::ItemList;
-use std::alloc::{AllocError, Global};
+use doc_axes::{copied_nodes, passes};
+use doc_tree::{NodeId, Tree};
+use std::alloc::Global;
 use std::sync::ledger::Ledger;
 use xp_meaning::Lets;
 use xp_outcome::{Recorder, Steps};
@@ -87,8 +86,8 @@ fn chains<L: Ledger>(
     ensures { Ran (chains tree.now.nodes lets.now n (map pattern_step_seen path_steps.now) first.now first.now)
         (shown result) reads.old reads.new steps.old steps.new }
 {
-    let mut nodes = copied(alloc, first)?;
-    let mut alive = copied(alloc, first)?;
+    let mut nodes = copied_nodes(alloc, first)?;
+    let mut alive = copied_nodes(alloc, first)?;
     let mut later = path_steps;
     while let Some((step, rest)) = later.split_first() {
         nodes = standing(alloc, tree, step, rest, nodes.as_slice(), way, n)?;
@@ -100,13 +99,4 @@ fn chains<L: Ledger>(
         later = rest;
     }
     Ok(is_among(alive.as_slice(), n))
-}
-
-/// The same nodes as a list.
-fn copied(alloc: Global, nodes: &[NodeId]) -> Result<NodeList, AllocError>
-    ensures { IfOk result (λ v. v ≡ nodes.now) }
-{
-    let mut list = ItemList::new(alloc);
-    push_all(&mut list, nodes)?;
-    Ok(list)
 }
