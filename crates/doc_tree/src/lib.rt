@@ -27,6 +27,3 @@ pub use names::NameTable;
 pub use sch_base::Text;
 pub use tree::Tree;
 pub use words::WordTable;
-
-#[cfg(test)]
-mod tests;

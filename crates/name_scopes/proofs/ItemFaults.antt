@@ -17,7 +17,7 @@ use Rattle.doc_tree.specs.declared.limits.TheConstants.{MAX_DEPTH, MAX_LIVE_NODE
 use Rattle.doc_tree.specs.Scope.{Decl, namespace_in}
 use Rattle.doc_tree.specs.Table.{Name, expanded}
 use Rattle.doc_tree.specs.QNames.{qname_of}
-use Rattle.tree_write.specs.TreeText.{declaring_name}
+use Rattle.doc_write.specs.TreeText.{declaring_name}
 use Rattle.name_scopes.specs.declared.fault.DocKind.{DocKind}
 use Rattle.name_scopes.specs.declared.fault.DocKind.TheVariants.{TooManyNodes}
 use Rattle.name_scopes.specs.QNames.{prefix_part, local_part}

@@ -18,7 +18,7 @@ use Rattle.pyx_core.specs.Nesting.{is_attr, is_name, of_chars}
 use Rattle.doc_tree.specs.Scope.{Decl, namespace_in, xmlns_prefix}
 use Rattle.doc_tree.specs.Table.{Name}
 use Rattle.doc_tree.specs.QNames.{qname_of, spelled_name}
-use Rattle.tree_write.specs.TreeText.{declaring_name}
+use Rattle.doc_write.specs.TreeText.{declaring_name}
 use Rattle.name_scopes.specs.QNames.{prefix_part, local_part}
 use Rattle.name_scopes.specs.Declarations.{declaration_of, declarations, has_both_quotes, is_bad_declaration, is_empty, plain_attrs}
 use Rattle.name_scopes.specs.Scoping.{AttributeInScope, attribute_namespace, is_good_declaration, is_part, is_qualified}

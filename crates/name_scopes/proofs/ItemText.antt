@@ -10,7 +10,7 @@ use Rattle.doc_tree.specs.Lines.{Line, declares, ends, starts}
 use Rattle.doc_tree.specs.Scope.{Decl}
 use Rattle.doc_tree.specs.Table.{Name}
 use Rattle.doc_tree.specs.QNames.{qname_of}
-use Rattle.tree_write.specs.TreeText.{line_text}
+use Rattle.doc_write.specs.TreeText.{line_text}
 use Rattle.name_scopes.proofs.Items.{Items, nothing, an_element, a_text, a_comment, an_instruction, Pair, pair_line, decl_attr, pair_attr, start_attrs, item_lines, item_events}
 
 pub text_of-append : (xs ys : List Event) → text_of (xs ++ ys) ≡ text_of xs ++ text_of ys

@@ -9,7 +9,7 @@ use Rattle.doc_tree.specs.Lines.{Line, starts, declares, has_attribute, ends, ha
 use Rattle.doc_tree.specs.Scope.{Decl}
 use Rattle.doc_tree.specs.Table.{Name, expanded}
 use Rattle.doc_tree.specs.QNames.{qname_of}
-use Rattle.tree_write.specs.TreeText.{declaring_name}
+use Rattle.doc_write.specs.TreeText.{declaring_name}
 use Rattle.name_scopes.specs.Scoping.{AttributeInScope, ElementInScope, InstructionInScope}
 
 -- an attribute: its name and value

@@ -17,7 +17,7 @@ use Rattle.doc_tree.specs.Lines.{Line, lines, lines_at, lines_below, opens, firs
 use Rattle.doc_tree.specs.Scope.{Decl, scope_at}
 use Rattle.doc_tree.specs.Table.{Table, Content, root, element, attribute, text, comment, instruction, content_of, kind_of, kind_at, decls_at, kids_of, attrs_of}
 use Rattle.doc_tree.specs.Walks.{ancestors, below, order}
-use Rattle.tree_write.specs.TreeText.{line_text, tree_text}
+use Rattle.doc_write.specs.TreeText.{line_text, tree_text}
 use Rattle.name_scopes.specs.DocFaults.{begin, first_fault}
 use Rattle.name_scopes.specs.RoundTrip.{ComesBack}
 use Rattle.name_scopes.specs.ScopedTree.{event_lines, unscoped}

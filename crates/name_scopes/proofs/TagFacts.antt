@@ -12,7 +12,7 @@ use Rattle.pyx_core.specs.declared.event.Attr.{Attr}
 use Rattle.pyx_core.specs.LineTable.{is_qname}
 use Rattle.pyx_core.specs.Nesting.{is_attr, is_name, of_chars}
 use Rattle.doc_tree.specs.Scope.{Decl, first_declared, namespace_in, xmlns_prefix}
-use Rattle.tree_write.specs.TreeText.{declaring_name}
+use Rattle.doc_write.specs.TreeText.{declaring_name}
 use Rattle.name_scopes.specs.declared.fault.DocKind.TheVariants.{NoPrefix, SameAttribute, BadDeclaration, BothQuotes}
 use Rattle.name_scopes.specs.QNames.{prefix_part, local_part}
 use Rattle.name_scopes.specs.Declarations.{is_empty, declaration_of, declarations, is_plain, plain_attrs, is_bad_declaration, has_both_quotes}

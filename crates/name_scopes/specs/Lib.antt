@@ -7,4 +7,4 @@ pub mod Bindings
 pub mod Building
 pub mod Loaded
 pub mod RoundTrip
-pub use Rattle.tree_write.specs.TreeText
+pub use Rattle.doc_write.specs.TreeText

@@ -7,7 +7,7 @@ use Rattle.pyx_core.specs.Reading.{events_of, fault_of}
 use Rattle.doc_tree.specs.Kinds.{is_document}
 use Rattle.doc_tree.specs.Lines.{lines}
 use Rattle.doc_tree.specs.Table.{Table}
-use Rattle.tree_write.specs.TreeText.{tree_text}
+use Rattle.doc_write.specs.TreeText.{tree_text}
 use Rattle.name_scopes.specs.DocFaults.{doc_fault}
 use Rattle.name_scopes.specs.ScopedTree.{Scoped, event_lines, unscoped}
 use Rattle.name_scopes.specs.Scoping.{InScope}

@@ -10,10 +10,7 @@ mod qname;
 mod scope;
 mod tag;
 
+pub use doc_write::write_tree;
 pub use fault::{DocFault, DocKind, LoadError};
 pub use laws::{namespaces_follow, text_comes_back, tree_comes_back};
 pub use load::load_tree;
-pub use tree_write::write_tree;
-
-#[cfg(test)]
-mod tests;

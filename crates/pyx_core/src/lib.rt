@@ -23,6 +23,3 @@ pub use laws::{
 pub use mode::Mode;
 pub use reader::Reader;
 pub use whole::{Front, read_events, read_front};
-
-#[cfg(test)]
-mod tests;

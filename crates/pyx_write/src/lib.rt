@@ -4,8 +4,6 @@
 mod escapes;
 mod event;
 mod lines;
-#[cfg(test)]
-mod tests;
 
 pub use escapes::write_escaped;
 pub use event::write_event;

@@ -17,6 +17,3 @@ pub use limits::{
 };
 pub use names::{is_ncname, split_qname};
 pub use text::Text;
-
-#[cfg(test)]
-mod tests;

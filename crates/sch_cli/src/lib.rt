@@ -9,8 +9,6 @@ mod refusal;
 mod schema;
 mod status;
 mod stop;
-#[cfg(test)]
-mod tests;
 mod validation;
 mod words;
 

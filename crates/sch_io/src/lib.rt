@@ -12,8 +12,6 @@ mod memory_sink;
 mod reading;
 mod shelf;
 mod sink;
-#[cfg(test)]
-mod tests;
 mod writing;
 
 pub use bytes::Bytes;

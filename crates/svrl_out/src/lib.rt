@@ -6,8 +6,6 @@ mod lines;
 mod locations;
 mod plan;
 mod report;
-#[cfg(test)]
-mod tests;
 
 pub use findings::{Finding, FindingList, Findings, Outcome};
 pub use locations::location;

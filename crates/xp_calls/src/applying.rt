@@ -26,7 +26,7 @@ use std::sync::ledger::Ledger;
 use xp_convert::{number_in, sum_in, text_in};
 use xp_meaning::Context;
 use xp_outcome::{Recorder, Steps};
-use xp_typed::Function;
+use xp_typed_tree::Function;
 use xp_values::{
     EvalError, Num, Value, contains, normalize_space, starts_with, string_length, substring,
     substring_after, substring_before, translate,

@@ -8,7 +8,7 @@ ghost use Rattle.xp_values.specs.Conversions.{to_truth};
 use doc_tree::NodeId;
 use xp_convert::{Want, nodes_of};
 use xp_meaning::Context;
-use xp_typed::Function;
+use xp_typed_tree::Function;
 use xp_values::{Num, Value, to_truth};
 
 /// What the argument at a place, counted from 0, is converted to (XPath 1.0, sections 3.2 and 4).

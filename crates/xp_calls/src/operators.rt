@@ -6,28 +6,28 @@ ghost use Rattle.xp_meaning.specs.Operators.{comparison_of, operation_of, negate
 use xp_values::{EvalFault, Num, arith};
 
 /// The comparison of values that an expression's operator names.
-pub fn comparison_of(operator: xp_typed::Comparison) -> xp_values::Comparison
+pub fn comparison_of(operator: xp_typed_tree::Comparison) -> xp_values::Comparison
     ensures { result ≡ comparison_of operator }
 {
     match operator {
-        xp_typed::Comparison::Equal => xp_values::Comparison::Eq,
-        xp_typed::Comparison::NotEqual => xp_values::Comparison::Ne,
-        xp_typed::Comparison::Less => xp_values::Comparison::Lt,
-        xp_typed::Comparison::AtMost => xp_values::Comparison::Le,
-        xp_typed::Comparison::Greater => xp_values::Comparison::Gt,
-        xp_typed::Comparison::AtLeast => xp_values::Comparison::Ge,
+        xp_typed_tree::Comparison::Equal => xp_values::Comparison::Eq,
+        xp_typed_tree::Comparison::NotEqual => xp_values::Comparison::Ne,
+        xp_typed_tree::Comparison::Less => xp_values::Comparison::Lt,
+        xp_typed_tree::Comparison::AtMost => xp_values::Comparison::Le,
+        xp_typed_tree::Comparison::Greater => xp_values::Comparison::Gt,
+        xp_typed_tree::Comparison::AtLeast => xp_values::Comparison::Ge,
     }
 }
 
 /// The operation on numbers that an expression's operator names.
-pub fn operation_of(operator: xp_typed::ArithOp) -> xp_values::ArithOp
+pub fn operation_of(operator: xp_typed_tree::ArithOp) -> xp_values::ArithOp
     ensures { result ≡ operation_of operator }
 {
     match operator {
-        xp_typed::ArithOp::Plus => xp_values::ArithOp::Add,
-        xp_typed::ArithOp::Minus => xp_values::ArithOp::Sub,
-        xp_typed::ArithOp::Times => xp_values::ArithOp::Mul,
-        xp_typed::ArithOp::Mod => xp_values::ArithOp::Mod,
+        xp_typed_tree::ArithOp::Plus => xp_values::ArithOp::Add,
+        xp_typed_tree::ArithOp::Minus => xp_values::ArithOp::Sub,
+        xp_typed_tree::ArithOp::Times => xp_values::ArithOp::Mul,
+        xp_typed_tree::ArithOp::Mod => xp_values::ArithOp::Mod,
     }
 }
 

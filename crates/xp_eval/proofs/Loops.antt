@@ -1,12 +1,12 @@
 -- What a loop over operands, steps or predicates has before it: the next one and the rest, or nothing.
 use Rattle.std.proofs.Common.{◌≡◌, ℕ, ◌+◌, ◌<◌, ◌≤◌, List, length, drop, get_or, true, false, if◌then◌else◌, sym, ◌∙◌, ap}
 use Rattle.doc_tree.specs.Table.{Table}
-use Rattle.xp_typed.specs.declared.expr.TypedExpr.{TypedExpr}
-use Rattle.xp_typed.specs.declared.expr.Compared.{Compared, out-Compared}
-use Rattle.xp_typed.specs.declared.expr.Combined.{Combined, out-Combined}
-use Rattle.xp_typed.specs.declared.expr.TypedStep.{TypedStep}
-use Rattle.xp_typed.specs.TypedView.{typed_tree_of, typed_seen, compared_list_seen, combined_list_seen, typed_steps_seen}
-use Rattle.xp_typed.proofs.TypedViewLemmas.{of-compared, of-combined, of-step}
+use Rattle.xp_typed_tree.specs.declared.expr.TypedExpr.{TypedExpr}
+use Rattle.xp_typed_tree.specs.declared.expr.Compared.{Compared, out-Compared}
+use Rattle.xp_typed_tree.specs.declared.expr.Combined.{Combined, out-Combined}
+use Rattle.xp_typed_tree.specs.declared.expr.TypedStep.{TypedStep}
+use Rattle.xp_typed_tree.specs.TypedView.{typed_tree_of, typed_seen, compared_list_seen, combined_list_seen, typed_steps_seen}
+use Rattle.xp_typed_tree.proofs.TypedViewLemmas.{of-compared, of-combined, of-step}
 use Rattle.xp_outcome.specs.Outcome.{done, given, bind}
 use Rattle.xp_outcome.proofs.Outcomes.{bind_assoc}
 use Rattle.xp_outcome.proofs.Runs.{next_item, no_item}

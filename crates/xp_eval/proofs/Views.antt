@@ -4,17 +4,17 @@ use Rattle.std.specs.Prelude.{Box, Vec, Some, None, flat_map}
 use Rattle.std.specs.declared.alloc.Global.{Global}
 use Rattle.doc_tree.specs.Table.{Table}
 use Rattle.doc_axes.specs.Sets.{in_order}
-use Rattle.xp_typed.specs.declared.operators.ValueType.{ValueType}
-use Rattle.xp_typed.specs.declared.function.Function.{Function}
-use Rattle.xp_typed.specs.declared.expr.TypedExpr.{TypedExpr}
-use Rattle.xp_typed.specs.declared.expr.Compared.{Compared}
-use Rattle.xp_typed.specs.declared.expr.Combined.{Combined}
-use Rattle.xp_typed.specs.declared.expr.TypedStart.{TypedStart}
-use Rattle.xp_typed.specs.declared.expr.TypedStep.{TypedStep}
-use Rattle.xp_typed.specs.declared.expr.TypedExpr.TheVariants as exprs
-use Rattle.xp_typed.specs.declared.expr.TypedStart.TheVariants as starts
-use Rattle.xp_typed.specs.TypedView.{typed_tree_of, typed_seen, place_of, compared_list_seen, combined_list_seen, typed_steps_seen}
-use Rattle.xp_typed.proofs.TypedViewLemmas.{of-Or, of-And, of-Compare, of-Arith, of-Negate, of-Union, of-Path, of-Filter, of-Variable, of-Literal, of-Number, of-Call, of-Root, of-Here, of-From}
+use Rattle.xp_typed_tree.specs.declared.operators.ValueType.{ValueType}
+use Rattle.xp_typed_tree.specs.declared.function.Function.{Function}
+use Rattle.xp_typed_tree.specs.declared.expr.TypedExpr.{TypedExpr}
+use Rattle.xp_typed_tree.specs.declared.expr.Compared.{Compared}
+use Rattle.xp_typed_tree.specs.declared.expr.Combined.{Combined}
+use Rattle.xp_typed_tree.specs.declared.expr.TypedStart.{TypedStart}
+use Rattle.xp_typed_tree.specs.declared.expr.TypedStep.{TypedStep}
+use Rattle.xp_typed_tree.specs.declared.expr.TypedExpr.TheVariants as exprs
+use Rattle.xp_typed_tree.specs.declared.expr.TypedStart.TheVariants as starts
+use Rattle.xp_typed_tree.specs.TypedView.{typed_tree_of, typed_seen, place_of, compared_list_seen, combined_list_seen, typed_steps_seen}
+use Rattle.xp_typed_tree.proofs.TypedViewLemmas.{of-Or, of-And, of-Compare, of-Arith, of-Negate, of-Union, of-Path, of-Filter, of-Variable, of-Literal, of-Number, of-Call, of-Root, of-Here, of-From}
 use Rattle.xp_outcome.specs.Outcome.{Outcome, done, given, bind, visit, reading, variable}
 use Rattle.xp_outcome.specs.Slots.{in_slot}
 use Rattle.xp_outcome.proofs.Outcomes.{bind_alike, bind-done, bind_assoc}

@@ -1,7 +1,7 @@
 -- The meaning of a step as the program keeps it.
 use Rattle.doc_tree.specs.Table.{Table}
-use Rattle.xp_typed.specs.declared.expr.TypedStep.{TypedStep, out-TypedStep}
-use Rattle.xp_typed.specs.TypedView.{typed_seen}
+use Rattle.xp_typed_tree.specs.declared.expr.TypedStep.{TypedStep, out-TypedStep}
+use Rattle.xp_typed_tree.specs.TypedView.{typed_seen}
 use Rattle.xp_meaning.specs.Paths.{Step}
 use Rattle.xp_meaning.specs.Evaluation.{Lets, meanings}
 

@@ -1,6 +1,6 @@
 -- What operands are converted to.
 use Rattle.std.specs.Prelude.{ℕ, Option, None, Some}
-use Rattle.xp_typed.specs.declared.function.Function.{Function}
+use Rattle.xp_typed_tree.specs.declared.function.Function.{Function}
 use Rattle.xp_convert.specs.declared.want.Want.{Want}
 use Rattle.xp_convert.specs.declared.want.Want.TheVariants.{AsItIs}
 use Rattle.xp_meaning.specs.Functions.{wanted}

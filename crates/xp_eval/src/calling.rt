@@ -2,7 +2,7 @@
 
 ghost use Rattle.xp_outcome.specs.Running.{Ran};
 ghost use Rattle.xp_convert.specs.Results.{shown};
-ghost use Rattle.xp_typed.specs.TypedView.{typed_seen};
+ghost use Rattle.xp_typed_tree.specs.TypedView.{typed_seen};
 ghost use Rattle.xp_meaning.specs.Evaluation.{meaning, meanings, all_true};
 ghost use Rattle.xp_meaning.specs.Paths.{step_at};
 ghost use Rattle.xp_eval.specs.Steps.{step_meant};
@@ -13,7 +13,7 @@ use std::alloc::Global;
 use std::sync::ledger::Ledger;
 use xp_meaning::{Context, Lets};
 use xp_outcome::{Recorder, Steps};
-use xp_typed::{Typed, TypedExpr, TypedStep};
+use xp_typed_tree::{Typed, TypedExpr, TypedStep};
 use xp_values::{EvalError, Value};
 
 /// Evaluates an expression in a context (XPath 1.0, sections 2 to 4).

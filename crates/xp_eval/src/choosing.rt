@@ -12,7 +12,7 @@ use sch_base::ItemList;
 use std::alloc::{AllocError, Global};
 use xp_calls::wanted;
 use xp_convert::{Want, nodes_of};
-use xp_typed::Function;
+use xp_typed_tree::Function;
 use xp_values::{Num, Value, to_truth};
 
 /// Whether a predicate holds at a position: a number where it is the position, another value by its truth.

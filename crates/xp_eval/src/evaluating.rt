@@ -9,7 +9,7 @@ ghost use Rattle.xp_outcome.specs.Outcome.{done, bind};
 ghost use Rattle.xp_outcome.specs.Running.{Ran};
 ghost use Rattle.xp_convert.specs.Conversions.{nodes_of, number_in};
 ghost use Rattle.xp_convert.specs.Results.{shown};
-ghost use Rattle.xp_typed.specs.TypedView.{typed_tree_of, typed_seen, place_of, compared_list_seen, combined_list_seen, typed_steps_seen};
+ghost use Rattle.xp_typed_tree.specs.TypedView.{typed_tree_of, typed_seen, place_of, compared_list_seen, combined_list_seen, typed_steps_seen};
 ghost use Rattle.xp_meaning.specs.Functions.{applied};
 ghost use Rattle.xp_meaning.specs.Paths.{kept, filtered, step_at, step_from, path};
 ghost use Rattle.xp_meaning.specs.Evaluation.{meaning, meanings, some_true, all_true, compared, combined, values, start_nodes, comparands_meant, combinands_meant, steps_meant};
@@ -28,7 +28,7 @@ use xp_calls::{applied, comparison_of, negated, operation_of};
 use xp_convert::{as_wanted, compare_in, number_in};
 use xp_meaning::{Context, Lets};
 use xp_outcome::{Recorder, Steps};
-use xp_typed::{Combined, Compared, Function, TypedExpr, TypedStart, TypedStep};
+use xp_typed_tree::{Combined, Compared, Function, TypedExpr, TypedStart, TypedStep};
 use xp_values::{EvalError, Num, Value, arith, to_truth};
 
 /// The value of an expression in a context.

@@ -13,7 +13,7 @@ use Rattle.doc_axes.specs.NodeTests.{passes}
 use Rattle.doc_axes.specs.Sets.{in_order}
 use Rattle.doc_axes.proofs.SubLists.{sub-one, filter-sub}
 use Rattle.xp_outcome.specs.Outcome.{Outcome, done, bind, gather}
-use Rattle.xp_typed.specs.TypedTree.{at_context}
+use Rattle.xp_typed_tree.specs.TypedTree.{at_context}
 use Rattle.xp_values.specs.declared.values.Value.TheVariants.{NodeSet}
 use Rattle.xp_meaning.specs.Paths.{Step, candidates, step_at, step_from, filtered, path}
 use Rattle.xp_meaning.specs.Evaluation.{start_nodes}

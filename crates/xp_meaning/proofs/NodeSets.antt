@@ -9,10 +9,10 @@ use Rattle.doc_tree.proofs.ListLemmas.{mem-In}
 use Rattle.doc_axes.specs.Sets.{in_order, IsNodeSet}
 use Rattle.doc_axes.proofs.SubLists as subs
 use Rattle.doc_axes.proofs.SubLists.{Sub, sub-none, sub-one, filter-sub}
-use Rattle.xp_typed.specs.declared.operators.Comparison.{Comparison}
-use Rattle.xp_typed.specs.declared.function.Function.{Function}
-use Rattle.xp_typed.specs.declared.function.Function.TheVariants as functions
-use Rattle.xp_typed.specs.TypedTree.{TypedTree, TypedPlace, disjunction, conjunction, comparison, arithmetic, negation, union, location, selection, slot, text, whole, application, at_root, at_context, at_nodes}
+use Rattle.xp_typed_tree.specs.declared.operators.Comparison.{Comparison}
+use Rattle.xp_typed_tree.specs.declared.function.Function.{Function}
+use Rattle.xp_typed_tree.specs.declared.function.Function.TheVariants as functions
+use Rattle.xp_typed_tree.specs.TypedTree.{TypedTree, TypedPlace, disjunction, conjunction, comparison, arithmetic, negation, union, location, selection, slot, text, whole, application, at_root, at_context, at_nodes}
 use Rattle.xp_outcome.specs.Outcome.{Outcome, done, given, fault, bind, behind, visit, reading, gather}
 use Rattle.xp_outcome.specs.Slots.{in_slot}
 use Rattle.xp_values.specs.declared.values.Value.{Value}

@@ -14,7 +14,7 @@ use Rattle.xp_values.specs.declared.values.Value.{Value}
 use Rattle.xp_values.specs.declared.values.Value.TheVariants.{Number}
 use Rattle.xp_values.specs.declared.values.EvalFault.{EvalFault}
 use Rattle.xp_values.specs.declared.numbers.Num.TheVariants.{Whole}
-use Rattle.xp_typed.specs.TypedTree.{whole}
+use Rattle.xp_typed_tree.specs.TypedTree.{whole}
 use Rattle.xp_meaning.specs.Paths.{chosen, kept, placed, candidates, filtered}
 use Rattle.xp_meaning.specs.Evaluation.{Lets, meaning}
 use Rattle.xp_meaning.specs.Laws.{NumberIsPosition, step_with}

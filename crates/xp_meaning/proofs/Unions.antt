@@ -7,8 +7,8 @@ use Rattle.doc_tree.specs.Walks.{order}
 use Rattle.doc_axes.specs.Sets.{in_order}
 use Rattle.doc_axes.proofs.SubLists.{filter-same, mem-append_is}
 use Rattle.xp_outcome.specs.Outcome.{Outcome, done, bind, gather}
-use Rattle.xp_typed.specs.declared.function.Function.TheVariants.{Count}
-use Rattle.xp_typed.specs.TypedTree.{TypedTree, union, application, typed, no_typed}
+use Rattle.xp_typed_tree.specs.declared.function.Function.TheVariants.{Count}
+use Rattle.xp_typed_tree.specs.TypedTree.{TypedTree, union, application, typed, no_typed}
 use Rattle.xp_values.specs.declared.values.Value.{Value}
 use Rattle.xp_values.specs.declared.values.Value.TheVariants.{NodeSet}
 use Rattle.xp_values.specs.declared.values.EvalFault.{EvalFault}

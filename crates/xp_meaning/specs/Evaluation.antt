@@ -3,9 +3,9 @@
 use Rattle.std.specs.Prelude.{ℕ, Bool, true, false, List, [], ◌∷◌, Option, None, Some, Result, Ok, Err, flat_map, if◌then◌else◌}
 use Rattle.doc_tree.specs.Table.{Table}
 use Rattle.doc_axes.specs.Sets.{in_order}
-use Rattle.xp_typed.specs.declared.operators.Comparison.{Comparison}
-use Rattle.xp_typed.specs.declared.operators.ArithOp.{ArithOp}
-use Rattle.xp_typed.specs.TypedTree.{TypedTree, TypedPlace, TypedSteps, Comparands, Combinands, TypedTrees, disjunction, conjunction, comparison, arithmetic, negation, union, location, selection, slot, text, whole, application, at_root, at_context, at_nodes, no_more_steps, typed_step, no_comparands, comparand, no_combinands, combinand, no_typed, typed}
+use Rattle.xp_typed_tree.specs.declared.operators.Comparison.{Comparison}
+use Rattle.xp_typed_tree.specs.declared.operators.ArithOp.{ArithOp}
+use Rattle.xp_typed_tree.specs.TypedTree.{TypedTree, TypedPlace, TypedSteps, Comparands, Combinands, TypedTrees, disjunction, conjunction, comparison, arithmetic, negation, union, location, selection, slot, text, whole, application, at_root, at_context, at_nodes, no_more_steps, typed_step, no_comparands, comparand, no_combinands, combinand, no_typed, typed}
 use Rattle.xp_outcome.specs.Outcome.{Outcome, done, fault, given, bind, visit, reading, gather, variable}
 use Rattle.xp_outcome.specs.Slots.{in_slot}
 use Rattle.xp_values.specs.declared.values.Value.{Value}

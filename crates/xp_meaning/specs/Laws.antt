@@ -10,8 +10,8 @@ use Rattle.doc_tree.specs.Table.{Table, is_live}
 use Rattle.doc_axes.specs.Axes.{axis_nodes}
 use Rattle.doc_axes.specs.NodeTests.{passes}
 use Rattle.doc_axes.specs.Sets.{IsNodeSet}
-use Rattle.xp_typed.specs.declared.function.Function.TheVariants.{Count}
-use Rattle.xp_typed.specs.TypedTree.{TypedTree, union, location, whole, application, at_context, no_more_steps, typed_step, no_typed, typed}
+use Rattle.xp_typed_tree.specs.declared.function.Function.TheVariants.{Count}
+use Rattle.xp_typed_tree.specs.TypedTree.{TypedTree, union, location, whole, application, at_context, no_more_steps, typed_step, no_typed, typed}
 use Rattle.xp_outcome.specs.Slots.{in_slot}
 use Rattle.xp_values.specs.declared.values.Value.{Value}
 use Rattle.xp_values.specs.declared.values.Value.TheVariants.{NodeSet, Truth, Number, Chars}

@@ -1,9 +1,9 @@
 -- The operators of expressions as operators on values (XPath 1.0 sections 3.4 and 3.5).
 use Rattle.std.specs.Prelude.{ℕ, zero, suc, pos, Result, Ok}
-use Rattle.xp_typed.specs.declared.operators.Comparison.{Comparison}
-use Rattle.xp_typed.specs.declared.operators.Comparison.TheVariants.{Equal, NotEqual, Less, AtMost, Greater, AtLeast}
-use Rattle.xp_typed.specs.declared.operators.ArithOp.{ArithOp}
-use Rattle.xp_typed.specs.declared.operators.ArithOp.TheVariants.{Plus, Minus, Times, Mod}
+use Rattle.xp_typed_tree.specs.declared.operators.Comparison.{Comparison}
+use Rattle.xp_typed_tree.specs.declared.operators.Comparison.TheVariants.{Equal, NotEqual, Less, AtMost, Greater, AtLeast}
+use Rattle.xp_typed_tree.specs.declared.operators.ArithOp.{ArithOp}
+use Rattle.xp_typed_tree.specs.declared.operators.ArithOp.TheVariants.{Plus, Minus, Times, Mod}
 use Rattle.xp_values.specs.declared.comparing.Comparison as compared
 use Rattle.xp_values.specs.declared.comparing.Comparison.TheVariants as comparisons
 use Rattle.xp_values.specs.declared.numbers.ArithOp as combined

@@ -16,6 +16,3 @@ pub use laws::{gather_in_parts, outcomes_compose, runs_compose, slots_keep};
 pub use recorder::Recorder;
 pub use slots::Slots;
 pub use steps::Steps;
-
-#[cfg(test)]
-mod tests;

@@ -18,6 +18,3 @@ pub use parser::Parser;
 pub use stop::Stop;
 pub use stopped::fault_of;
 pub use whole::parse_tokens;
-
-#[cfg(test)]
-mod tests;

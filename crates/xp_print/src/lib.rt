@@ -5,6 +5,3 @@ mod print;
 mod terms;
 
 pub use print::print_expr;
-
-#[cfg(test)]
-mod tests;

@@ -17,11 +17,4 @@ pub use xp_tree::{
     AxisName, Chain, Expr, Join, Level, Operand, Operator, PathPattern, Pattern, PatternStart,
     PatternStep, Start, Step, StepTest,
 };
-pub use xp_typed::{Function, Typed, TypedPattern, ValueType};
-
-#[cfg(test)]
-mod examples;
-#[cfg(test)]
-mod faults;
-#[cfg(test)]
-mod patterns;
+pub use xp_typed_tree::{Function, Typed, TypedPattern, ValueType};

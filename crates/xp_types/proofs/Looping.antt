@@ -10,17 +10,17 @@ use Rattle.xp_tree.specs.declared.expr.Step.{Step, out-Step}
 use Rattle.xp_tree.specs.View.{tree_of, trees_seen, operands_seen, steps_seen}
 use Rattle.xp_tree.specs.Tree.{Steps, offset_of, operand, step}
 use Rattle.xp_tree.proofs.ViewLemmas.{of-operand, of-step}
-use Rattle.xp_typed.specs.declared.expr.TypedExpr.{TypedExpr}
-use Rattle.xp_typed.specs.declared.expr.Compared.{Compared, out-Compared}
-use Rattle.xp_typed.specs.declared.expr.Combined.{Combined, out-Combined}
-use Rattle.xp_typed.specs.declared.expr.TypedStep.{TypedStep, out-TypedStep}
-use Rattle.xp_typed.specs.TypedTree.{TypedTree, TypedTrees, TypedSteps, Comparands, Combinands, typed, no_typed, typed_step, no_more_steps, comparand, no_comparands, combinand, no_combinands, comparison, arithmetic}
-use Rattle.xp_typed.specs.TypedView.{typed_tree_of, typed_seen, compared_list_seen, compared_of, combined_list_seen, combined_of, typed_steps_seen, typed_step_of}
-use Rattle.xp_typed.specs.declared.operators.Comparison.{Comparison}
-use Rattle.xp_typed.specs.declared.operators.ArithOp.{ArithOp}
+use Rattle.xp_typed_tree.specs.declared.expr.TypedExpr.{TypedExpr}
+use Rattle.xp_typed_tree.specs.declared.expr.Compared.{Compared, out-Compared}
+use Rattle.xp_typed_tree.specs.declared.expr.Combined.{Combined, out-Combined}
+use Rattle.xp_typed_tree.specs.declared.expr.TypedStep.{TypedStep, out-TypedStep}
+use Rattle.xp_typed_tree.specs.TypedTree.{TypedTree, TypedTrees, TypedSteps, Comparands, Combinands, typed, no_typed, typed_step, no_more_steps, comparand, no_comparands, combinand, no_combinands, comparison, arithmetic}
+use Rattle.xp_typed_tree.specs.TypedView.{typed_tree_of, typed_seen, compared_list_seen, compared_of, combined_list_seen, combined_of, typed_steps_seen, typed_step_of}
+use Rattle.xp_typed_tree.specs.declared.operators.Comparison.{Comparison}
+use Rattle.xp_typed_tree.specs.declared.operators.ArithOp.{ArithOp}
 use Rattle.doc_tree.specs.declared.axes.Axis.{Axis}
 use Rattle.doc_tree.specs.declared.axes.NodeTest.{NodeTest}
-use Rattle.xp_typed.proofs.TypedViewLemmas.{of-compared, of-combined, of-step as of-typed-step}
+use Rattle.xp_typed_tree.proofs.TypedViewLemmas.{of-compared, of-combined, of-step as of-typed-step}
 use Rattle.std.specs.Prelude.{Vec}
 use Rattle.std.specs.declared.alloc.Global.{Global}
 use Rattle.xp_types.specs.declared.faults.CheckError.{CheckError}

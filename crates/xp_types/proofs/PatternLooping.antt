@@ -8,11 +8,11 @@ use Rattle.xp_tree.specs.declared.pattern.PatternStep.{PatternStep}
 use Rattle.xp_tree.specs.declared.pattern.PathPattern.{PathPattern}
 use Rattle.xp_tree.specs.PatternTree.{pattern_step_of, path_pattern_of}
 use Rattle.xp_tree.specs.View.{trees_seen}
-use Rattle.xp_typed.specs.declared.expr.TypedExpr.{TypedExpr}
-use Rattle.xp_typed.specs.declared.pattern.TypedPath.{TypedPath}
-use Rattle.xp_typed.specs.declared.pattern.TypedPatternStep.{TypedPatternStep}
-use Rattle.xp_typed.specs.TypedTree.{TypedTrees, TypedPatternStepTree, TypedPathTree}
-use Rattle.xp_typed.specs.TypedView.{typed_seen, pattern_step_seen, path_seen, paths_seen}
+use Rattle.xp_typed_tree.specs.declared.expr.TypedExpr.{TypedExpr}
+use Rattle.xp_typed_tree.specs.declared.pattern.TypedPath.{TypedPath}
+use Rattle.xp_typed_tree.specs.declared.pattern.TypedPatternStep.{TypedPatternStep}
+use Rattle.xp_typed_tree.specs.TypedTree.{TypedTrees, TypedPatternStepTree, TypedPathTree}
+use Rattle.xp_typed_tree.specs.TypedView.{typed_seen, pattern_step_seen, path_seen, paths_seen}
 use Rattle.xp_types.specs.declared.faults.CheckError.{CheckError}
 use Rattle.xp_types.specs.Scope.{Scope}
 use Rattle.xp_types.specs.Checked.{Checked, after, Gives}

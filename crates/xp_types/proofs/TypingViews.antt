@@ -12,8 +12,8 @@ use Rattle.xp_tree.specs.declared.terms.Level.TheVariants as levels
 use Rattle.xp_tree.specs.View.{tree_of, start_of, trees_seen, steps_seen}
 use Rattle.xp_tree.specs.Tree.{Tree, offset_of}
 use Rattle.xp_tree.proofs.ViewLemmas.{of-Or, of-And, of-Equal, of-Rel, of-Sum, of-Prod, of-Neg, of-Union, of-Path, of-Filter, of-Variable, of-Literal, of-Number, of-Call, of-Root, of-Here, of-From, of-chain}
-use Rattle.xp_typed.specs.TypedTree.{TypedTree, TypedTrees, typed, disjunction, conjunction, union, negation, location, selection, application, text, at_root, at_context, at_nodes}
-use Rattle.xp_typed.specs.WellTyped.{wants_nodes}
+use Rattle.xp_typed_tree.specs.TypedTree.{TypedTree, TypedTrees, typed, disjunction, conjunction, union, negation, location, selection, application, text, at_root, at_context, at_nodes}
+use Rattle.xp_typed_tree.specs.WellTyped.{wants_nodes}
 use Rattle.xp_types.specs.Scope.{Scope, variable_of}
 use Rattle.xp_types.specs.ChainParts.{first_in, rest_in}
 use Rattle.xp_types.specs.Checked.{Checked, after}

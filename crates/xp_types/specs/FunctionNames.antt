@@ -1,8 +1,8 @@
 -- The names of functions: XPath 1.0, section 4, and XSLT 1.0, section 12.
 use Rattle.std.specs.Prelude.{ℕ, Bool, false, List, [], ◌∷◌, Option, None, Some, ◌||◌, if◌then◌else◌, codes}
 use Rattle.std.specs.Str.{bytes_eq}
-use Rattle.xp_typed.specs.declared.function.Function.{Function}
-use Rattle.xp_typed.specs.declared.function.Function.TheVariants.{Last, Position, Current, Count, Sum, LocalName, NamespaceUri, Name, String, Number, Boolean, Not, True, False, Concat, StartsWith, Contains, SubstringBefore, SubstringAfter, Substring, StringLength, NormalizeSpace, Translate, Lang, Floor, Ceiling, Round}
+use Rattle.xp_typed_tree.specs.declared.function.Function.{Function}
+use Rattle.xp_typed_tree.specs.declared.function.Function.TheVariants.{Last, Position, Current, Count, Sum, LocalName, NamespaceUri, Name, String, Number, Boolean, Not, True, False, Concat, StartsWith, Contains, SubstringBefore, SubstringAfter, Substring, StringLength, NormalizeSpace, Translate, Lang, Floor, Ceiling, Round}
 
 abbrev pub named : List (List ℕ × Function) → List ℕ → Option Function
 named [] name = None

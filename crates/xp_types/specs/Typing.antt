@@ -17,15 +17,15 @@ use Rattle.xp_tree.specs.declared.pattern.PatternStart.{PatternStart}
 use Rattle.xp_tree.specs.declared.pattern.PatternStart.TheVariants as starts
 use Rattle.xp_tree.specs.Tree.{Tree, PathStart, Steps, Operands, Trees, chain, negated, path, filtered, variable, literal, number, call, root, here, from, no_steps, step, no_operands, operand, no_trees, tree, offset_of}
 use Rattle.xp_tree.specs.PatternTree.{PathTree, StepTree}
-use Rattle.xp_typed.specs.declared.operators.ValueType.{ValueType}
-use Rattle.xp_typed.specs.declared.operators.ValueType.TheVariants as types
-use Rattle.xp_typed.specs.declared.operators.Comparison.{Comparison}
-use Rattle.xp_typed.specs.declared.operators.Comparison.TheVariants as comparisons
-use Rattle.xp_typed.specs.declared.operators.ArithOp.{ArithOp}
-use Rattle.xp_typed.specs.declared.operators.ArithOp.TheVariants as ariths
-use Rattle.xp_typed.specs.declared.function.Function.{Function}
-use Rattle.xp_typed.specs.TypedTree.{TypedTree, TypedPlace, TypedSteps, Comparands, Combinands, TypedTrees, TypedPatternStepTree, TypedPathTree, disjunction, conjunction, comparison, arithmetic, negation, union, location, selection, slot, text, whole, application, at_root, at_context, at_nodes, no_more_steps, typed_step, no_comparands, comparand, no_combinands, combinand, no_typed, typed}
-use Rattle.xp_typed.specs.WellTyped.{type_of, takes, wants_nodes, may_call}
+use Rattle.xp_typed_tree.specs.declared.operators.ValueType.{ValueType}
+use Rattle.xp_typed_tree.specs.declared.operators.ValueType.TheVariants as types
+use Rattle.xp_typed_tree.specs.declared.operators.Comparison.{Comparison}
+use Rattle.xp_typed_tree.specs.declared.operators.Comparison.TheVariants as comparisons
+use Rattle.xp_typed_tree.specs.declared.operators.ArithOp.{ArithOp}
+use Rattle.xp_typed_tree.specs.declared.operators.ArithOp.TheVariants as ariths
+use Rattle.xp_typed_tree.specs.declared.function.Function.{Function}
+use Rattle.xp_typed_tree.specs.TypedTree.{TypedTree, TypedPlace, TypedSteps, Comparands, Combinands, TypedTrees, TypedPatternStepTree, TypedPathTree, disjunction, conjunction, comparison, arithmetic, negation, union, location, selection, slot, text, whole, application, at_root, at_context, at_nodes, no_more_steps, typed_step, no_comparands, comparand, no_combinands, combinand, no_typed, typed}
+use Rattle.xp_typed_tree.specs.WellTyped.{type_of, takes, wants_nodes, may_call}
 use Rattle.xp_types.specs.declared.env.Variable.{Variable}
 use Rattle.xp_types.specs.declared.faults.TypeKind.TheVariants as kinds
 use Rattle.xp_types.specs.Scope.{Scope, namespace_of, variable_of}

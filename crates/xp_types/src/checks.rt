@@ -12,7 +12,7 @@ use crate::patterns::type_paths;
 use crate::typing::type_expr;
 use std::alloc::Global;
 use xp_tree::{Expr, Pattern};
-use xp_typed::{Typed, TypedPattern};
+use xp_typed_tree::{Typed, TypedPattern};
 
 /// Checks the types of an expression, whose first fault is the answer where it has one.
 ///

@@ -8,7 +8,7 @@ use indexmap::IndexMap;
 use sch_base::Text;
 use std::alloc::{AllocError, Global};
 use std::marker::Model;
-use xp_typed::ValueType;
+use xp_typed_tree::ValueType;
 
 /// The namespace of the prefix `xml` (Namespaces in XML 1.0, section 3).
 const XML_NAMESPACE: &str = "http://www.w3.org/XML/1998/namespace";

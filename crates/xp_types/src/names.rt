@@ -3,7 +3,7 @@
 ghost use Rattle.std.specs.Prelude.{◌≡◌};
 ghost use Rattle.xp_types.specs.FunctionNames.{function_named, is_left_out};
 
-use xp_typed::Function;
+use xp_typed_tree::Function;
 
 /// The function of a name.
 pub(crate) fn function_named(name: &str) -> Option<Function>

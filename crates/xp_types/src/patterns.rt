@@ -4,7 +4,7 @@
 
 ghost use Rattle.std.specs.Prelude.{◌≡◌, map};
 ghost use Rattle.xp_tree.specs.PatternTree.{pattern_step_of, path_pattern_of};
-ghost use Rattle.xp_typed.specs.TypedView.{pattern_step_seen, paths_seen};
+ghost use Rattle.xp_typed_tree.specs.TypedView.{pattern_step_seen, paths_seen};
 ghost use Rattle.xp_types.specs.Checked.{Gives};
 ghost use Rattle.xp_types.specs.Typing.{pattern_start, pattern_axis, pattern_steps_typed, pattern_typing};
 
@@ -14,7 +14,7 @@ use crate::terms::{refusal, resolve};
 use crate::typing::type_list;
 use std::alloc::Global;
 use xp_tree::{PathPattern, PatternStart, PatternStep};
-use xp_typed::{Axis, TypedPath, TypedPatternStep};
+use xp_typed_tree::{Axis, TypedPath, TypedPatternStep};
 
 /// Whether a path pattern begins at the root; `id` and `key` are refused.
 fn begins_at_root(alloc: Global, start: &PatternStart, offset: u32) -> Result<bool, CheckError>

@@ -3,7 +3,7 @@
 ghost use Rattle.std.specs.Prelude.{◌≡◌, ◌*◌, ◌+◌, ◌-◌, ◌≤◌, min};
 ghost use Rattle.xp_tree.specs.Tree.{offset_of};
 ghost use Rattle.xp_tree.specs.View.{tree_of};
-ghost use Rattle.xp_typed.specs.TypedView.{typed_tree_of};
+ghost use Rattle.xp_typed_tree.specs.TypedView.{typed_tree_of};
 ghost use Rattle.xp_types.specs.declared.faults.TypeKind.TheVariants as kinds;
 ghost use Rattle.xp_types.specs.Scope.{namespace_of, variable_of};
 ghost use Rattle.xp_types.specs.Checked.{Gives, Tells};
@@ -16,7 +16,7 @@ use crate::names::{function_named, is_left_out};
 use sch_base::Text;
 use std::alloc::Global;
 use xp_tree::{AxisName, Expr, Operator, StepTest};
-use xp_typed::{ArithOp, Axis, Comparison, Function, NodeTest, TypedExpr, ValueType};
+use xp_typed_tree::{ArithOp, Axis, Comparison, Function, NodeTest, TypedExpr, ValueType};
 
 /// The largest whole number.
 const MAX_WHOLE: u64 = 9_007_199_254_740_991;

@@ -4,7 +4,7 @@
 
 ghost use Rattle.xp_tree.specs.View.{tree_of, start_of, trees_seen, steps_seen};
 ghost use Rattle.xp_tree.specs.Tree.{offset_of};
-ghost use Rattle.xp_typed.specs.TypedView.{typed_tree_of, place_of, typed_seen, typed_steps_seen};
+ghost use Rattle.xp_typed_tree.specs.TypedView.{typed_tree_of, place_of, typed_seen, typed_steps_seen};
 ghost use Rattle.xp_types.specs.ChainParts.{first_in, rest_in};
 ghost use Rattle.xp_types.specs.Checked.{Gives, after};
 ghost use Rattle.xp_types.specs.Typing.{typing, wanted, all_typed, chain_typed, comparison_typed, arithmetic_typed, place_typed, steps_typed};
@@ -18,7 +18,7 @@ use crate::terms::{
 use sch_base::Text;
 use std::alloc::Global;
 use xp_tree::{Chain, Expr, Start, Step};
-use xp_typed::{Combined, Compared, TypedExpr, TypedStart, TypedStep};
+use xp_typed_tree::{Combined, Compared, TypedExpr, TypedStart, TypedStep};
 
 /// The typed tree of an expression.
 #[cycle(typing)]

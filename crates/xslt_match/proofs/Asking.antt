@@ -1,10 +1,10 @@
 -- What asks for the position in a list of expressions, from a place on, and in each variant of an expression.
 use Rattle.std.proofs.Common.{◌≡◌, ℕ, ◌+◌, ◌<◌, ◌≤◌, Bool, true, false, ◌||◌, List, length, drop, get_or, sym, ◌∙◌, ap}
-use Rattle.xp_typed.specs.declared.expr.TypedExpr.{TypedExpr}
-use Rattle.xp_typed.specs.declared.expr.Compared.{Compared, out-Compared}
-use Rattle.xp_typed.specs.declared.expr.Combined.{Combined, out-Combined}
-use Rattle.xp_typed.specs.TypedView.{typed_tree_of, typed_seen, compared_list_seen, combined_list_seen}
-use Rattle.xp_typed.proofs.TypedViewLemmas.{of-compared, of-combined}
+use Rattle.xp_typed_tree.specs.declared.expr.TypedExpr.{TypedExpr}
+use Rattle.xp_typed_tree.specs.declared.expr.Compared.{Compared, out-Compared}
+use Rattle.xp_typed_tree.specs.declared.expr.Combined.{Combined, out-Combined}
+use Rattle.xp_typed_tree.specs.TypedView.{typed_tree_of, typed_seen, compared_list_seen, combined_list_seen}
+use Rattle.xp_typed_tree.proofs.TypedViewLemmas.{of-compared, of-combined}
 use Rattle.xp_outcome.proofs.Runs.{next_item, no_item}
 use Rattle.xslt_match.specs.Positional.{asks_position, comparands_ask, combinands_ask, some_asks, is_positional, some_positional}
 

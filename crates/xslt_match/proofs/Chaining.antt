@@ -7,11 +7,11 @@ use Rattle.doc_tree.specs.Table.{Table}
 use Rattle.doc_tree.specs.Walks.{order}
 use Rattle.doc_axes.specs.NodeTests.{passes}
 use Rattle.doc_axes.proofs.SubLists.{filter-none}
-use Rattle.xp_typed.specs.declared.pattern.TypedPath.{TypedPath}
-use Rattle.xp_typed.specs.declared.pattern.TypedPatternStep.{TypedPatternStep}
-use Rattle.xp_typed.specs.TypedTree.{TypedPatternStepTree, TypedPathTree}
-use Rattle.xp_typed.specs.TypedView.{pattern_step_seen, path_seen, paths_seen}
-use Rattle.xp_typed.specs.WellTyped.{PatternStepsTyped, PathsTyped}
+use Rattle.xp_typed_tree.specs.declared.pattern.TypedPath.{TypedPath}
+use Rattle.xp_typed_tree.specs.declared.pattern.TypedPatternStep.{TypedPatternStep}
+use Rattle.xp_typed_tree.specs.TypedTree.{TypedPatternStepTree, TypedPathTree}
+use Rattle.xp_typed_tree.specs.TypedView.{pattern_step_seen, path_seen, paths_seen}
+use Rattle.xp_typed_tree.specs.WellTyped.{PatternStepsTyped, PathsTyped}
 use Rattle.xp_outcome.specs.Recorded.{Recorded}
 use Rattle.xp_outcome.specs.Running.{Stop, Ran}
 use Rattle.xp_outcome.specs.Outcome.{done, bind}

@@ -18,8 +18,8 @@ use Rattle.doc_axes.specs.Axes.{backwards, is_attribute, is_attribute_kind, is_o
 use Rattle.doc_axes.specs.NodeTests.{passes}
 use Rattle.doc_axes.proofs.SubLists.{sub-one, filter-sub, filter-none, filter-same, backwards-twice}
 use Rattle.doc_axes.proofs.AxisLemmas.{ancestor_or_self_axis}
-use Rattle.xp_typed.specs.TypedTree.{TypedPatternStepTree}
-use Rattle.xp_typed.specs.WellTyped.{is_pattern_axis, PatternStepsTyped}
+use Rattle.xp_typed_tree.specs.TypedTree.{TypedPatternStepTree}
+use Rattle.xp_typed_tree.specs.WellTyped.{is_pattern_axis, PatternStepsTyped}
 use Rattle.xslt_match.specs.Matching.{is_anywhere, is_candidate, leads, led_to, reaches, starts, standing}
 use Rattle.xslt_match.specs.Leading.{is_beside, fits, holder, looks_at, looks_there, OnOneWay}
 use Rattle.xslt_match.proofs.Filters.{iff, and-false, and-true, or-false, eqb-turned, any-same, any-none, any-either, any-swap, filter-swap, filter-narrow, any-one, mem-out, Found, found, kept-passes, kept-listed, any-given, Given, given}

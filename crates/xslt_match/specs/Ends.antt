@@ -2,7 +2,7 @@
 use Rattle.std.specs.Prelude.{ℕ, Bool, false, not, List, [], ◌∷◌}
 use Rattle.doc_tree.specs.Table.{Table}
 use Rattle.doc_axes.specs.NodeTests.{passes}
-use Rattle.xp_typed.specs.TypedTree.{TypedPatternStepTree}
+use Rattle.xp_typed_tree.specs.TypedTree.{TypedPatternStepTree}
 
 -- whether the last step's node test refuses a node
 abbrev pub ends_elsewhere : Table → List TypedPatternStepTree → ℕ → Bool

@@ -8,7 +8,7 @@ use Rattle.doc_tree.specs.Walks.{above}
 use Rattle.doc_axes.specs.Axes.{is_attribute}
 use Rattle.doc_axes.specs.NodeTests.{passes}
 use Rattle.xp_tree.specs.declared.pattern.Join.{Join}
-use Rattle.xp_typed.specs.TypedTree.{TypedPatternStepTree}
+use Rattle.xp_typed_tree.specs.TypedTree.{TypedPatternStepTree}
 use Rattle.xslt_match.specs.Matching.{is_anywhere}
 
 -- attributes stand on the attribute axis, and the others on the child axis

@@ -10,7 +10,7 @@ use Rattle.doc_axes.specs.Axes.{on_axis}
 use Rattle.doc_axes.specs.NodeTests.{passes}
 use Rattle.xp_tree.specs.declared.pattern.Join.{Join}
 use Rattle.xp_tree.specs.declared.pattern.Join.TheVariants as joins
-use Rattle.xp_typed.specs.TypedTree.{TypedPatternStepTree, TypedPathTree}
+use Rattle.xp_typed_tree.specs.TypedTree.{TypedPatternStepTree, TypedPathTree}
 use Rattle.xp_outcome.specs.Outcome.{Outcome, done, bind, visit, gather}
 use Rattle.xp_values.specs.declared.values.EvalFault.{EvalFault}
 use Rattle.xp_meaning.specs.Paths.{Step, step_at, placed}

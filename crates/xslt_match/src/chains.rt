@@ -4,8 +4,8 @@ ghost use Rattle.std.specs.Prelude.{◌≡◌, true, false, map};
 ghost use Rattle.doc_tree.specs.Table.{is_live};
 ghost use Rattle.xp_outcome.specs.Running.{Ran};
 ghost use Rattle.xp_convert.specs.Results.{shown};
-ghost use Rattle.xp_typed.specs.TypedView.{path_seen, pattern_step_seen};
-ghost use Rattle.xp_typed.specs.WellTyped.{PatternStepsTyped};
+ghost use Rattle.xp_typed_tree.specs.TypedView.{path_seen, pattern_step_seen};
+ghost use Rattle.xp_typed_tree.specs.WellTyped.{PatternStepsTyped};
 ghost use Rattle.xslt_match.specs.Ends.{ends_elsewhere};
 ghost use Rattle.xslt_match.specs.Matching.{chains, path_matches, starts};
 
@@ -17,7 +17,7 @@ use std::alloc::Global;
 use std::sync::ledger::Ledger;
 use xp_meaning::Lets;
 use xp_outcome::{Recorder, Steps};
-use xp_typed::{TypedPath, TypedPatternStep};
+use xp_typed_tree::{TypedPath, TypedPatternStep};
 use xp_values::EvalError;
 
 /// Whether a live node matches a path pattern. Most paths end at another kind of node or another name: these are

@@ -10,8 +10,8 @@ ghost use Rattle.doc_tree.specs.Lists.{mem};
 ghost use Rattle.doc_tree.specs.Table.{is_live};
 ghost use Rattle.doc_tree.specs.Walks.{above, order};
 ghost use Rattle.doc_axes.specs.Axes.{backwards, is_attribute_kind};
-ghost use Rattle.xp_typed.specs.TypedView.{pattern_step_seen};
-ghost use Rattle.xp_typed.specs.WellTyped.{is_pattern_axis, PatternStepsTyped};
+ghost use Rattle.xp_typed_tree.specs.TypedView.{pattern_step_seen};
+ghost use Rattle.xp_typed_tree.specs.WellTyped.{is_pattern_axis, PatternStepsTyped};
 ghost use Rattle.xslt_match.specs.Leading.{is_beside, fits, holder, looks_at, looks_there, OnOneWay};
 ghost use Rattle.xslt_match.specs.Matching.{leads, reaches, standing, starts};
 
@@ -19,7 +19,7 @@ use doc_axes::passes;
 use doc_tree::{Axis, Kind, NodeId, NodeList, Tree};
 use sch_base::ItemList;
 use std::alloc::{AllocError, Global};
-use xp_typed::{Join, TypedPatternStep};
+use xp_typed_tree::{Join, TypedPatternStep};
 
 /// The way from the root to a live node: its ancestors and itself, the root first. Costs the depth.
 #[tactic(auto, using(crate::proofs::StepsAlong::way_is))]

@@ -4,8 +4,8 @@ ghost use Rattle.std.specs.Prelude.{◌≡◌, true};
 ghost use Rattle.doc_tree.specs.Table.{is_live};
 ghost use Rattle.xp_outcome.specs.Running.{Ran};
 ghost use Rattle.xp_convert.specs.Results.{shown};
-ghost use Rattle.xp_typed.specs.TypedView.{paths_seen};
-ghost use Rattle.xp_typed.specs.WellTyped.{PathsTyped};
+ghost use Rattle.xp_typed_tree.specs.TypedView.{paths_seen};
+ghost use Rattle.xp_typed_tree.specs.WellTyped.{PathsTyped};
 ghost use Rattle.xslt_match.specs.Matching.{matching, some_path};
 
 use crate::chains::path_matches;
@@ -14,7 +14,7 @@ use std::alloc::Global;
 use std::sync::ledger::Ledger;
 use xp_meaning::Lets;
 use xp_outcome::{Recorder, Steps};
-use xp_typed::{TypedPath, TypedPattern};
+use xp_typed_tree::{TypedPath, TypedPattern};
 use xp_values::EvalError;
 
 /// Whether a live node matches a pattern (XSLT 1.0, section 5.2), or the first fault of the tests.

@@ -1,11 +1,11 @@
 //! Predicates that ask for the position of a node (XPath 1.0, section 2.4; XSLT 1.0, section 5.2).
 
 ghost use Rattle.std.specs.Prelude.{◌≡◌};
-ghost use Rattle.xp_typed.specs.TypedView.{combined_list_seen, compared_list_seen, place_of, typed_seen, typed_tree_of};
+ghost use Rattle.xp_typed_tree.specs.TypedView.{combined_list_seen, compared_list_seen, place_of, typed_seen, typed_tree_of};
 ghost use Rattle.xslt_match.specs.Positional.{asks_position, combinands_ask, comparands_ask, place_asks, some_asks};
 ghost use Rattle.xslt_match.specs.Positional.{is_positional, some_positional, tells_position};
 
-use xp_typed::{Combined, Compared, Function, TypedExpr, TypedStart, ValueType};
+use xp_typed_tree::{Combined, Compared, Function, TypedExpr, TypedStart, ValueType};
 
 /// Whether some predicate is positional. Costs the predicates' size at most.
 pub(crate) fn some_positional(predicates: &[TypedExpr]) -> bool

@@ -5,7 +5,7 @@ ghost use Rattle.doc_tree.specs.Lists.{mem};
 ghost use Rattle.doc_tree.specs.Table.{parent_of};
 ghost use Rattle.xp_outcome.specs.Running.{Ran};
 ghost use Rattle.xp_convert.specs.Results.{shown};
-ghost use Rattle.xp_typed.specs.TypedView.{pattern_step_seen};
+ghost use Rattle.xp_typed_tree.specs.TypedView.{pattern_step_seen};
 ghost use Rattle.xslt_match.specs.Matching.{is_left, step_of, survives, survivors};
 
 use crate::positional::some_positional;
@@ -16,7 +16,7 @@ use std::sync::ledger::Ledger;
 use xp_eval::{Context, all_true, step_at};
 use xp_meaning::Lets;
 use xp_outcome::{Recorder, Steps};
-use xp_typed::TypedPatternStep;
+use xp_typed_tree::TypedPatternStep;
 use xp_values::EvalError;
 
 /// Those of some nodes that survive a step's test; n is the node that is matched.

@@ -1,7 +1,7 @@
 use Rattle.std.proofs.Common.{subst}
 use Rattle.xp_tree.specs.View.{tree_of}
-use Rattle.xp_typed.specs.TypedView.{typed_tree_of}
-use Rattle.xp_typed.specs.WellTyped.{WellTyped}
+use Rattle.xp_typed_tree.specs.TypedView.{typed_tree_of}
+use Rattle.xp_typed_tree.specs.WellTyped.{WellTyped}
 use Rattle.xp_types.proofs.Sound.{typing-sound}
 use Rattle.xp_types.proofs.checks.check.Goals as goal
 

@@ -2,11 +2,11 @@ use Rattle.std.proofs.Common.{Ok, refl, sym, ap, ◌∙◌}
 use Rattle.std.specs.Prelude.{Vec}
 use Rattle.std.specs.declared.alloc.Global.{Global}
 use Rattle.std.proofs.lemmas.Result.{err_from_is_err_and}
-use Rattle.xp_typed.specs.declared.expr.TypedExpr.{TypedExpr}
-use Rattle.xp_typed.specs.declared.expr.TypedStep.{TypedStep}
-use Rattle.xp_typed.specs.declared.function.Function.{Function}
-use Rattle.xp_typed.specs.TypedTree.{negation, selection, at_nodes, text}
-use Rattle.xp_typed.specs.TypedView.{typed_tree_of, place_of, typed_seen, typed_steps_seen}
+use Rattle.xp_typed_tree.specs.declared.expr.TypedExpr.{TypedExpr}
+use Rattle.xp_typed_tree.specs.declared.expr.TypedStep.{TypedStep}
+use Rattle.xp_typed_tree.specs.declared.function.Function.{Function}
+use Rattle.xp_typed_tree.specs.TypedTree.{negation, selection, at_nodes, text}
+use Rattle.xp_typed_tree.specs.TypedView.{typed_tree_of, place_of, typed_seen, typed_steps_seen}
 use Rattle.xp_types.proofs.Giving.{goes, stops, gives-same}
 use Rattle.xp_types.proofs.TypingViews.{view-Or, view-And, view-Union, view-Equal, view-Rel, view-Sum, view-Prod, view-Neg, view-Path, view-Path-start, view-Filter, view-Variable, view-Literal, view-Number, view-Call, view-Root, view-Here, view-From}
 use Rattle.xp_types.proofs.Looping.{list-begins, list-goes, list-stops, list-ends, chain-begins, chain-fails, chain-goes, chain-stops, chain-ends, comparison-begins, comparison-fails, comparison-goes, comparison-stops, comparison-ends, arithmetic-begins, arithmetic-fails, arithmetic-goes, arithmetic-refuses, arithmetic-stops, arithmetic-ends, steps-begin, steps-go, steps-refuse, steps-unresolved, steps-stop, steps-end}

@@ -1,7 +1,7 @@
 use Rattle.std.proofs.Common.{map, length}
 use Rattle.xp_outcome.specs.Running.{Onto}
-use Rattle.xp_typed.specs.TypedView.{pattern_step_seen}
-use Rattle.xp_typed.specs.WellTyped.{PatternStepsTyped}
+use Rattle.xp_typed_tree.specs.TypedView.{pattern_step_seen}
+use Rattle.xp_typed_tree.specs.WellTyped.{PatternStepsTyped}
 use Rattle.xslt_match.specs.Matching.{chains}
 use Rattle.xslt_match.proofs.chains.chains.Given as goal
 

@@ -1,8 +1,8 @@
 use Rattle.std.proofs.Common.{ap, ap₂, sym, ◌∙◌, map, subst}
 use Rattle.xp_outcome.proofs.Runs.{ran_alike, ran_done, ran_late}
 use Rattle.xp_convert.proofs.Exits.{exit_memory}
-use Rattle.xp_typed.specs.TypedView.{pattern_step_seen}
-use Rattle.xp_typed.specs.WellTyped.{PatternStepsTyped}
+use Rattle.xp_typed_tree.specs.TypedView.{pattern_step_seen}
+use Rattle.xp_typed_tree.specs.WellTyped.{PatternStepsTyped}
 use Rattle.xslt_match.specs.Ends.{ends_elsewhere}
 use Rattle.xslt_match.specs.Matching.{chains}
 use Rattle.xslt_match.proofs.Chaining.{chains_elsewhere}

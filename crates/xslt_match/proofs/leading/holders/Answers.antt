@@ -1,7 +1,7 @@
 -- The next node's holder comes last, where it has one.
 use Rattle.std.proofs.Common.{◌≡◌, ℕ, ◌+◌, ◌++◌, ◌∷◌, [], List, Option, take, get_or, sym, ap, ◌∙◌, append-nil}
 use Rattle.std.specs.List.{filter_map, cons_option}
-use Rattle.xp_typed.specs.TypedView.{pattern_step_seen}
+use Rattle.xp_typed_tree.specs.TypedView.{pattern_step_seen}
 use Rattle.xslt_match.specs.Leading.{holder}
 use Rattle.xslt_match.proofs.Filters.{given_more}
 use Rattle.xslt_match.proofs.leading.holders.Goals as goal

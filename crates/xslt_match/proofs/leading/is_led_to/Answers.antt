@@ -1,7 +1,7 @@
 -- A step leads to a node from where it looks for candidates at the node's holder.
 use Rattle.std.proofs.Common.{None, sym, ap, ◌∙◌, refl}
 use Rattle.std.specs.List.{list_any}
-use Rattle.xp_typed.specs.TypedView.{pattern_step_seen}
+use Rattle.xp_typed_tree.specs.TypedView.{pattern_step_seen}
 use Rattle.xslt_match.specs.Matching.{is_anywhere}
 use Rattle.xslt_match.proofs.Filters.{any-none}
 use Rattle.xslt_match.specs.Leading.{looks_there}

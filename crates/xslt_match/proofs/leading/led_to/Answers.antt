@@ -2,7 +2,7 @@
 use Rattle.std.proofs.Common.{◌≡◌, ℕ, ◌+◌, ◌++◌, ◌∷◌, [], List, Bool, cond, take, get_or, filter, sym, ap, ap₂, ◌∙◌, append-nil}
 use Rattle.std.proofs.lemmas.List.Elements.{filter_more}
 use Rattle.std.specs.List.{list_any}
-use Rattle.xp_typed.specs.TypedView.{pattern_step_seen}
+use Rattle.xp_typed_tree.specs.TypedView.{pattern_step_seen}
 use Rattle.xslt_match.specs.Matching.{leads}
 use Rattle.xslt_match.proofs.leading.led_to.Goals as goal
 use Rattle.xslt_match.proofs.leading.led_to.Goals.{then-is_led_to+in_ok-push, else-is_led_to}

@@ -1,6 +1,6 @@
 use Rattle.std.proofs.Common.{◌≡◌, filter, take}
 use Rattle.std.specs.List.{list_any}
-use Rattle.xp_typed.specs.TypedView.{pattern_step_seen}
+use Rattle.xp_typed_tree.specs.TypedView.{pattern_step_seen}
 use Rattle.xslt_match.specs.Matching.{leads}
 use Rattle.xslt_match.proofs.leading.led_to.Given as goal
 

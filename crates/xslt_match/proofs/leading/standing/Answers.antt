@@ -5,8 +5,8 @@ use Rattle.std.specs.List.{list_any}
 use Rattle.doc_tree.specs.Lists.{mem}
 use Rattle.doc_tree.specs.Table.{is_live}
 use Rattle.doc_tree.specs.Walks.{order}
-use Rattle.xp_typed.specs.TypedView.{pattern_step_seen}
-use Rattle.xp_typed.specs.TypedTree.{TypedPatternStepTree}
+use Rattle.xp_typed_tree.specs.TypedView.{pattern_step_seen}
+use Rattle.xp_typed_tree.specs.TypedTree.{TypedPatternStepTree}
 use Rattle.xslt_match.specs.Matching.{leads, reaches, standing}
 use Rattle.xslt_match.proofs.StepsAlong.{standing_is, standing_live}
 use Rattle.xslt_match.proofs.leading.standing.Goals as goal

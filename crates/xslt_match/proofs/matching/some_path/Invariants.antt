@@ -1,8 +1,8 @@
 use Rattle.std.proofs.Common.{◌||◌, drop}
 use Rattle.xp_outcome.specs.Outcome.{done, bind}
 use Rattle.xp_outcome.specs.Running.{Onto}
-use Rattle.xp_typed.specs.TypedView.{paths_seen}
-use Rattle.xp_typed.specs.WellTyped.{PathsTyped}
+use Rattle.xp_typed_tree.specs.TypedView.{paths_seen}
+use Rattle.xp_typed_tree.specs.WellTyped.{PathsTyped}
 use Rattle.xslt_match.specs.Matching.{some_path}
 use Rattle.xslt_match.proofs.matching.some_path.Given as goal
 

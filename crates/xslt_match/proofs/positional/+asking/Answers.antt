@@ -1,6 +1,6 @@
 use Rattle.std.proofs.Common.{sym, ◌∙◌, ap}
-use Rattle.xp_typed.specs.TypedView.{typed_tree_of, typed_seen, compared_list_seen, combined_list_seen, place_of}
-use Rattle.xp_typed.proofs.TypedViewLemmas.{of-Or, of-And, of-Compare, of-Arith, of-Negate, of-Union, of-Path, of-Filter, of-Variable, of-Literal, of-Number, of-Call, of-Root, of-Here, of-From}
+use Rattle.xp_typed_tree.specs.TypedView.{typed_tree_of, typed_seen, compared_list_seen, combined_list_seen, place_of}
+use Rattle.xp_typed_tree.proofs.TypedViewLemmas.{of-Or, of-And, of-Compare, of-Arith, of-Negate, of-Union, of-Path, of-Filter, of-Variable, of-Literal, of-Number, of-Call, of-Root, of-Here, of-From}
 use Rattle.xslt_match.specs.Positional.{asks_position, place_asks, some_asks, comparands_ask, combinands_ask}
 use Rattle.xslt_match.proofs.Asking.{or_yes, or_no, some_asks-next, some_asks-end, comparands-next, comparands-end, combinands-next, combinands-end}
 use Rattle.xslt_match.proofs.positional.+asking.Goals as goal

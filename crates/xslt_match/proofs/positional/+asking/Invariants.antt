@@ -1,5 +1,5 @@
 use Rattle.std.proofs.Common.{◌≡◌, drop}
-use Rattle.xp_typed.specs.TypedView.{typed_seen, compared_list_seen, combined_list_seen}
+use Rattle.xp_typed_tree.specs.TypedView.{typed_seen, compared_list_seen, combined_list_seen}
 use Rattle.xslt_match.specs.Positional.{some_asks, comparands_ask, combinands_ask}
 use Rattle.xslt_match.proofs.positional.+asking.Given as goal
 

@@ -1,5 +1,5 @@
 use Rattle.std.proofs.Common.{◌≡◌, drop}
-use Rattle.xp_typed.specs.TypedView.{typed_seen}
+use Rattle.xp_typed_tree.specs.TypedView.{typed_seen}
 use Rattle.xslt_match.specs.Positional.{some_positional}
 use Rattle.xslt_match.proofs.positional.some_positional.Given as goal
 

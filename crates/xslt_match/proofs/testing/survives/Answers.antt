@@ -1,7 +1,7 @@
 use Rattle.std.proofs.Common.{◌∙◌, ap, sym}
 use Rattle.xp_outcome.proofs.Runs.{ran_alike}
 use Rattle.xp_convert.proofs.Exits.{ran_ticked}
-use Rattle.xp_typed.specs.TypedView.{typed_seen}
+use Rattle.xp_typed_tree.specs.TypedView.{typed_seen}
 use Rattle.xp_meaning.specs.Evaluation.{meanings, all_true}
 use Rattle.xp_meaning.specs.Paths.{placed}
 use Rattle.xp_eval.proofs.Runs.{chosen_yes, chosen_no}

@@ -2,7 +2,7 @@ use Rattle.std.proofs.Common.{◌+◌, drop, [], ◌∷◌, if◌then◌else◌}
 use Rattle.xp_outcome.specs.Outcome.{done}
 use Rattle.xp_outcome.specs.Running.{Onto}
 use Rattle.xp_outcome.proofs.Outcomes.{gathering}
-use Rattle.xp_typed.specs.TypedView.{pattern_step_seen}
+use Rattle.xp_typed_tree.specs.TypedView.{pattern_step_seen}
 use Rattle.xslt_match.specs.Matching.{survives, survivors}
 use Rattle.xslt_match.proofs.testing.survivors.Given as goal
 

@@ -1,0 +1,7 @@
+//! Outside examples of whole runs and of locations.
+#![tactic(auto)]
+
+#[cfg(test)]
+mod locations;
+#[cfg(test)]
+mod runs;

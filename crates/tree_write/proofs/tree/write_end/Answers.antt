@@ -1,8 +1,0 @@
--- An element ends with its name.
-use Rattle.pyx_core.specs.Written.{end_line}
-use Rattle.tree_write.proofs.ContentLemmas.{element-closes}
-use Rattle.tree_write.proofs.tree.write_end.Goals as goal
-
-pub returns : goal.returns
-unfolding end_line
-returns g c = rw (element-closes c.args.tree.now.nodes c.args.n c.requires) c.write_element_tag.ensures

@@ -1,5 +1,0 @@
-use Rattle.xp_reprint.proofs.Whole.{printed-tokens}
-use Rattle.xp_reprint.proofs.laws.printed_text_has_the_printed_tokens.Goals as goal
-
-pub returns : goal.returns
-returns c = printed-tokens c.whole_texts_end.ensures

@@ -1,5 +1,0 @@
-use Rattle.xp_reprint.proofs.Again.{derived-again}
-use Rattle.xp_reprint.proofs.laws.printed_tokens_derive_the_same.Goals as goal
-
-pub returns : goal.returns
-returns c = derived-again

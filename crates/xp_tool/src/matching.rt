@@ -1,0 +1,89 @@
+//! Patterns with their types, and the nodes that match them.
+
+ghost use Rattle.std.specs.Prelude.{◌≡◌, ◌<◌, true};
+
+use crate::evaluation::is_short;
+use crate::fault::Fault;
+use doc_tree::{NodeId, NodeList, Tree};
+use std::alloc::Global;
+use std::marker::Brand;
+use std::sync::ledger::{Blank, Ledger};
+use xp_eval::{Lets, Recorder, Steps};
+use xp_syntax::parse_pattern;
+use xp_typed_tree::TypedPattern;
+use xp_types::{Env, check_pattern};
+use xslt_match::matches;
+
+/// The pattern that a text of at most 65,536 bytes spells, with its types, in that scope.
+pub(crate) fn pattern_checked(alloc: Global, text: &str, env: &Env) -> Result<TypedPattern, Fault>
+    requires { env.now.in_pattern ≡ true }
+{
+    is_short(text)?;
+    let pattern = parse_pattern(alloc, text)?;
+    let typed = check_pattern(alloc, pattern, env)?;
+    Ok(typed)
+}
+
+/// Whether a node matches a pattern, and how many visits that took.
+#[derive(Drop)]
+pub(crate) struct Matched {
+    pub(crate) result: Result<bool, Fault>,
+    pub(crate) visits: u64,
+}
+
+/// A node matched against a pattern; what is read goes to the recorder. A number at which no node lives matches nothing.
+pub(crate) fn match_node(
+    alloc: Global,
+    tree: &Tree,
+    pattern: &TypedPattern,
+    n: NodeId,
+    lets: &Lets,
+    reads: &mut Recorder,
+) -> Matched {
+    counted_match::<Brand>(alloc, tree, pattern, n, lets, reads, Blank::new(1))
+}
+
+/// A node matched against a pattern, the visits being counted by a ledger.
+fn counted_match<L: Ledger>(
+    alloc: Global,
+    tree: &Tree,
+    pattern: &TypedPattern,
+    n: NodeId,
+    lets: &Lets,
+    reads: &mut Recorder,
+    blank: Blank,
+) -> Matched
+    requires name { blank.name ≡ L.name }
+    requires parts { blank.parts ≡ L.parts }
+    requires some { 0 < L.parts }
+{
+    let mut steps: Steps<L> = Steps::start(blank);
+    if !tree.contains(n) {
+        return Matched {
+            result: Ok(false),
+            visits: 0,
+        };
+    }
+    let result = matches(alloc, tree, pattern, n, lets, reads, &mut steps);
+    Matched {
+        result: result.map_err(Fault::from),
+        visits: steps.taken(),
+    }
+}
+
+/// The nodes that match a pattern without variables, in document order.
+pub(crate) fn matching_nodes(
+    alloc: Global,
+    tree: &Tree,
+    pattern: &TypedPattern,
+) -> Result<NodeList, Fault> {
+    let lets = Lets::new(alloc);
+    let mut found = NodeList::new(alloc);
+    for n in tree.nodes_in_order(alloc)?.as_slice() {
+        let mut reads = Recorder::new(alloc);
+        if match_node(alloc, tree, pattern, *n, &lets, &mut reads).result? {
+            found.push(*n)?;
+        }
+    }
+    Ok(found)
+}

@@ -1,5 +1,0 @@
-use Rattle.xp_typed.proofs.TypedViewLemmas.{of-rolled-combined}
-use Rattle.xp_typed.proofs.expr.Combined.new.Goals as goal
-
-pub returns : goal.returns
-returns c = λ rest. of-rolled-combined _ rest

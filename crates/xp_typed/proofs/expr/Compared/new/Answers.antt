@@ -1,5 +1,0 @@
-use Rattle.xp_typed.proofs.TypedViewLemmas.{of-rolled-compared}
-use Rattle.xp_typed.proofs.expr.Compared.new.Goals as goal
-
-pub returns : goal.returns
-returns c = λ rest. of-rolled-compared _ rest

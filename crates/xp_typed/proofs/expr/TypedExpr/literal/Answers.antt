@@ -1,5 +1,0 @@
-use Rattle.xp_typed.proofs.TypedViewLemmas.{of-Literal}
-use Rattle.xp_typed.proofs.expr.TypedExpr.literal.Goals as goal
-
-pub returns : goal.returns
-returns c = of-Literal c.args.value

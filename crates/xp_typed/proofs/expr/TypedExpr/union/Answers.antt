@@ -1,5 +1,0 @@
-use Rattle.xp_typed.proofs.TypedViewLemmas.{of-Union}
-use Rattle.xp_typed.proofs.expr.TypedExpr.union.Goals as goal
-
-pub returns : goal.returns
-returns c = of-Union c.args.operands

@@ -1,5 +1,0 @@
-use Rattle.xp_typed.proofs.TypedViewLemmas.{of-Variable}
-use Rattle.xp_typed.proofs.expr.TypedExpr.variable.Goals as goal
-
-pub returns : goal.returns
-returns c = of-Variable c.args.place c.args.ty

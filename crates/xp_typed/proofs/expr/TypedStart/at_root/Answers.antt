@@ -1,5 +1,0 @@
-use Rattle.xp_typed.proofs.TypedViewLemmas.{of-Root}
-use Rattle.xp_typed.proofs.expr.TypedStart.at_root.Goals as goal
-
-pub returns : goal.returns
-returns c = of-Root

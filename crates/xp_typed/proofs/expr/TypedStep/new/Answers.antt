@@ -1,5 +1,0 @@
-use Rattle.xp_typed.proofs.TypedViewLemmas.{of-rolled-step}
-use Rattle.xp_typed.proofs.expr.TypedStep.new.Goals as goal
-
-pub returns : goal.returns
-returns c = λ rest. of-rolled-step _ rest

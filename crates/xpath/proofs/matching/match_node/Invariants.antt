@@ -1,4 +1,0 @@
-use Rattle.xpath.proofs.matching.match_node.Given as goal
-
-abbrev pub ghosts-counted_match : goal.ghosts-counted_match
-ghosts-counted_match a = record { name = a.blank.name; parts = a.blank.parts }
