@@ -1,7 +1,7 @@
 -- The first argument, where there is one.
 use Rattle.std.proofs.Common.{◌≡◌, List, [], ◌∷◌, Some, ap, slice_get}
 use Rattle.doc_tree.specs.Table.{Table}
-use Rattle.xp_outcome.specs.Outcome.{done}
+use Rattle.xp_outcome.specs.Evaluation.{done}
 use Rattle.xp_values.specs.declared.values.Value.{Value}
 use Rattle.xp_meaning.specs.declared.context.Context.{Context}
 use Rattle.xp_meaning.specs.Functions.{text_of, number_of, text_or_own, number_or_own, in_place}

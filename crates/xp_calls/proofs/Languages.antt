@@ -11,7 +11,7 @@ use Rattle.doc_tree.specs.Kinds.{is_element}
 use Rattle.doc_tree.specs.Laws.{HasWaysUp}
 use Rattle.doc_tree.specs.Table.{Table, attrs_of, kind_of, parent_of}
 use Rattle.doc_tree.specs.Walks.{ancestors}
-use Rattle.xp_outcome.specs.Outcome.{done, bind, reading, cell}
+use Rattle.xp_outcome.specs.Evaluation.{done, bind, reading, cell}
 use Rattle.xp_meaning.specs.Language.{decided_by, ends_or_goes_on, in_language, is_language, lang_among, language_along, or_else, own_language}
 
 module _ (T : Table) (wanted : List ℕ) (n : ℕ) where

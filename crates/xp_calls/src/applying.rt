@@ -1,7 +1,7 @@
 //! The application of functions (XPath 1.0, section 4; XSLT 1.0, section 12.4).
 
 ghost use Rattle.std.specs.Prelude.{◌≡◌, ℕ, List, [], ◌∷◌, length, Result, IfOk};
-ghost use Rattle.xp_outcome.specs.Outcome.{bind, done};
+ghost use Rattle.xp_outcome.specs.Evaluation.{bind, done};
 ghost use Rattle.xp_outcome.specs.Running.{Ran};
 ghost use Rattle.xp_convert.specs.Results.{shown};
 ghost use Rattle.xp_values.specs.Outcomes.{Gives};

@@ -2,7 +2,7 @@
 use Rattle.std.proofs.Common.{◌≡◌, ℕ, Result, Ok, Err, ◌+◌, sym, subst}
 use Rattle.std.specs.Result.{IsErrAnd}
 use Rattle.std.specs.declared.alloc.AllocError.{AllocError}
-use Rattle.xp_outcome.specs.Outcome.{Outcome, done, given, visit}
+use Rattle.xp_outcome.specs.Evaluation.{Evaluation, done, given, visit}
 use Rattle.xp_outcome.specs.Recorded.{Recorded}
 use Rattle.xp_outcome.specs.Running.{Stop, faulted, no_memory, Ran}
 use Rattle.xp_outcome.proofs.Runs.{ran_done, ran_fault, ran_late, ran_visit}
@@ -12,7 +12,7 @@ use Rattle.xp_values.specs.declared.values.EvalError.TheVariants.{Fault, Memory}
 use Rattle.xp_values.specs.Outcomes.{Gives}
 use Rattle.xp_convert.specs.Results.{stop_of, shown, shown_alloc}
 
-module _ {A : Type 0} {m : Outcome EvalFault A} {held now : Recorded} {before after : ℕ} where
+module _ {A : Type 0} {m : Evaluation EvalFault A} {held now : Recorded} {before after : ℕ} where
   -- `?` hands on an error of evaluation
   pub exit_same : (r : Result A EvalError) (e : EvalError) → IsErrAnd r (λ d. d ≡ e) → Ran m (Err (stop_of e)) held now before after → Ran m (shown r) held now before after
   exit_same (Ok v) e h ran = absurd h
@@ -40,17 +40,17 @@ pub ran_done_at : {A : Type 0} {v : A} (w : A) (held : Recorded) (n : ℕ) → v
 ran_done_at w held n is = subst (λ x. Ran {F = EvalFault} (done w) (Ok x) held held n n) (sym is) (ran_done w held n)
 
 -- a visit was counted, and then the rest
-pub ran_ticked : {A : Type 0} {m : Outcome EvalFault A} {r : Result A (Stop EvalFault)} {held now : Recorded} {before ticked after : ℕ} →
+pub ran_ticked : {A : Type 0} {m : Evaluation EvalFault A} {r : Result A (Stop EvalFault)} {held now : Recorded} {before ticked after : ℕ} →
     ticked ≡ before + 1 → Ran m r held now ticked after → Ran (visit m) r held now before after
 ran_ticked {A} {m} {r} {held} {now} {before} {ticked} {after} is h = ran_visit (subst (λ n. Ran m r held now n after) is h)
 
 -- a run that is known by equal outcomes and answers
-pub ran_is : {A : Type 0} {m : Outcome EvalFault A} {v : A} (w : A) {held now : Recorded} {before after : ℕ} → w ≡ v → Ran m (Ok v) held now before after →
+pub ran_is : {A : Type 0} {m : Evaluation EvalFault A} {v : A} (w : A) {held now : Recorded} {before after : ℕ} → w ≡ v → Ran m (Ok v) held now before after →
     Ran m (Ok w) held now before after
 ran_is {A} {m} {v} w {held} {now} {before} {after} is h = subst (λ x. Ran m (Ok x) held now before after) (sym is) h
 
 -- `?` hands on an allocator's error
-pub exit_alloc : {A : Type 0} (P : AllocError → Type 0) {m : Outcome EvalFault A} {held now : Recorded} {before after : ℕ} → (r : Result A AllocError) → IsErrAnd r P →
+pub exit_alloc : {A : Type 0} (P : AllocError → Type 0) {m : Evaluation EvalFault A} {held now : Recorded} {before after : ℕ} → (r : Result A AllocError) → IsErrAnd r P →
     Ran m (Err no_memory) held now before after → Ran m (shown_alloc r) held now before after
 exit_alloc P (Ok v) h ran = absurd h
 exit_alloc P (Err d) h ran = ran

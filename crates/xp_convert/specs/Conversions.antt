@@ -3,7 +3,7 @@
 use Rattle.std.specs.Prelude.{ℕ, Bool, List, [], ◌∷◌, ◌++◌, Result, Ok, pos, if◌then◌else◌}
 use Rattle.doc_tree.specs.Table.{Table}
 use Rattle.doc_tree.specs.Walks.{string_value_of}
-use Rattle.xp_outcome.specs.Outcome.{Outcome, done, given, bind}
+use Rattle.xp_outcome.specs.Evaluation.{Evaluation, done, given, bind}
 use Rattle.xp_convert.specs.declared.want.Want.{Want}
 use Rattle.xp_convert.specs.declared.want.Want.TheVariants.{AsItIs, AsText, AsNumber}
 use Rattle.xp_values.specs.declared.values.Value.{Value}
@@ -33,11 +33,11 @@ first_of [] = []
 first_of (n ∷ ns) = n ∷ []
 
 -- a value as a text: of a node-set the string-value of the first node is taken
-unfoldable pub text_in : Table → Value → Outcome EvalFault (List ℕ)
+unfoldable pub text_in : Table → Value → Evaluation EvalFault (List ℕ)
 text_in T v = taking T (first_of (nodes_of v)) (done (to_text T v))
 
 -- a value as a number
-unfoldable pub number_in : Table → Value → Outcome EvalFault Num
+unfoldable pub number_in : Table → Value → Evaluation EvalFault Num
 number_in T v = taking T (first_of (nodes_of v)) (given (to_number T v))
 
 -- the nodes whose string-values a comparison takes: those of the left side, then those of the right side, and none
@@ -46,7 +46,7 @@ abbrev pub compared_nodes : Value → Value → List ℕ
 compared_nodes v w = if is_truth v then [] else (if is_truth w then [] else nodes_of v ++ nodes_of w)
 
 -- a comparison of two values
-unfoldable pub compare_in : Table → Comparison → Value → Value → Outcome EvalFault Bool
+unfoldable pub compare_in : Table → Comparison → Value → Value → Evaluation EvalFault Bool
 compare_in T op v w = taking T (compared_nodes v w) (given (compare T op v w))
 
 -- the numbers of some nodes added in turn, each sum in range
@@ -56,11 +56,11 @@ sum_from T total (n ∷ ns) =
     then_of (text_to_number (string_value_of T n)) (λ number. then_of (arith ops.Add total number) (λ sum. sum_from T sum ns))
 
 -- the sum of the numbers of some nodes, whose string-values are all taken first (XPath 1.0 section 4.4)
-unfoldable pub sum_in : Table → List ℕ → Outcome EvalFault Num
+unfoldable pub sum_in : Table → List ℕ → Evaluation EvalFault Num
 sum_in T ns = taking T ns (given (sum_from T (Whole (pos 0)) ns))
 
 -- a value as it is wanted
-abbrev pub as_wanted : Table → Want → Value → Outcome EvalFault Value
+abbrev pub as_wanted : Table → Want → Value → Evaluation EvalFault Value
 as_wanted T AsItIs v = done v
 as_wanted T AsText v = bind (text_in T v) (λ s. done (Chars s))
 as_wanted T AsNumber v = bind (number_in T v) (λ n. done (Number n))

@@ -8,7 +8,7 @@ use Rattle.doc_tree.specs.declared.axes.Axis.{Axis}
 use Rattle.doc_tree.specs.declared.axes.Axis.TheVariants.{Ancestor, AncestorOrSelf, Attribute, Child, Descendant, DescendantOrSelf, Following, FollowingSibling, Parent, Preceding, PrecedingSibling, SelfNode}
 use Rattle.doc_tree.specs.Table.{Table, kind_of, parent_of}
 use Rattle.doc_tree.specs.Kinds.{holds_kids, is_element}
-use Rattle.xp_outcome.specs.Outcome.{Read, cell, Outcome, all_reading, visits}
+use Rattle.xp_outcome.specs.Evaluation.{Read, cell, Evaluation, all_reading, visits}
 
 -- a cell, where the node's kind has it
 abbrev pub read_if : Bool → Cell → List Read
@@ -52,5 +52,5 @@ abbrev pub text_read : Table → ℕ → Read
 text_read T n = cell (if holds_kids (kind_of T n) then Text n else Value n)
 
 -- the string-values of some nodes are taken, with one visit each, and then the rest
-unfoldable pub taking : {F A : Type 0} → Table → List ℕ → Outcome F A → Outcome F A
+unfoldable pub taking : {F A : Type 0} → Table → List ℕ → Evaluation F A → Evaluation F A
 taking T ns m = all_reading (map (text_read T) ns) (visits (length ns) m)

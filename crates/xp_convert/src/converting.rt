@@ -8,7 +8,7 @@ ghost use Rattle.xp_values.specs.declared.numbers.Num.TheVariants.{Whole};
 ghost use Rattle.xp_values.specs.Comparisons.{is_truth};
 ghost use Rattle.xp_convert.specs.Results.{shown, shown_alloc};
 ghost use Rattle.xp_convert.specs.Reads.{taking};
-ghost use Rattle.xp_outcome.specs.Outcome.{done};
+ghost use Rattle.xp_outcome.specs.Evaluation.{done};
 
 use crate::reading::take_texts;
 use crate::want::Want;

@@ -4,7 +4,7 @@ ghost use Rattle.std.specs.Prelude.{◌≡◌, OnOk, OnErr, option_map};
 ghost use Rattle.std.specs.Option.{option_to_list};
 ghost use Rattle.doc_tree.specs.Table.{kind_of};
 ghost use Rattle.doc_tree.specs.Kinds.{holds_kids, is_element};
-ghost use Rattle.xp_outcome.specs.Outcome.{cell, done};
+ghost use Rattle.xp_outcome.specs.Evaluation.{cell, done};
 ghost use Rattle.xp_outcome.specs.Recorded.{note_all};
 ghost use Rattle.xp_outcome.specs.Running.{Ran};
 ghost use Rattle.xp_convert.specs.Reads.{axis_reads, sibling_reads, text_read, taking};

@@ -7,7 +7,7 @@ use Rattle.xp_typed_tree.specs.declared.expr.Combined.{Combined, out-Combined}
 use Rattle.xp_typed_tree.specs.declared.expr.TypedStep.{TypedStep}
 use Rattle.xp_typed_tree.specs.TypedView.{typed_tree_of, typed_seen, compared_list_seen, combined_list_seen, typed_steps_seen}
 use Rattle.xp_typed_tree.proofs.TypedViewLemmas.{of-compared, of-combined, of-step}
-use Rattle.xp_outcome.specs.Outcome.{done, given, bind}
+use Rattle.xp_outcome.specs.Evaluation.{done, given, bind}
 use Rattle.xp_outcome.proofs.Outcomes.{bind_assoc}
 use Rattle.xp_outcome.proofs.Runs.{next_item, no_item}
 use Rattle.xp_values.specs.declared.values.Value.{Value}

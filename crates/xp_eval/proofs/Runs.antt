@@ -1,7 +1,7 @@
 -- Runs of loops, one turn further.
 use Rattle.std.proofs.Common.{◌≡◌, ℕ, ◌+◌, Bool, true, false, List, [], ◌∷◌, ◌++◌, Result, Ok, Err, IfOk, if◌then◌else◌, sym, ap, ap₂, subst}
 use Rattle.std.specs.declared.alloc.AllocError.{AllocError}
-use Rattle.xp_outcome.specs.Outcome.{Outcome, done, given, bind, gather}
+use Rattle.xp_outcome.specs.Evaluation.{Evaluation, done, given, bind, gather}
 use Rattle.xp_outcome.specs.Recorded.{Recorded}
 use Rattle.xp_outcome.specs.Running.{Stop, faulted, Ran, Onto}
 use Rattle.xp_outcome.proofs.Outcomes.{bind-right, gathering, gathering_start}
@@ -11,7 +11,7 @@ use Rattle.xp_convert.proofs.Exits.{ran_done_at}
 use Rattle.xp_meaning.specs.Paths.{placed}
 use Rattle.xp_outcome.proofs.Runs.{ran_alike, ran_done, ran_fault, ran_late, onto_start, onto_alike, onto_bind, onto_stop, gather_more, gather_stop, gather_end}
 
-module _ {F A B : Type 0} {m k : Outcome F B} {held now : Recorded} {before after : ℕ} (a : Outcome F A) (next : A → Outcome F B) (is : k ≡ bind a next) where
+module _ {F A B : Type 0} {m k : Evaluation F B} {held now : Recorded} {before after : ℕ} (a : Evaluation F A) (next : A → Evaluation F B) (is : k ≡ bind a next) where
   -- the next part answered, or stopped
   pub onto_goes : {v : A} {later : Recorded} {end : ℕ} → Onto m held before k now after → Ran a (Ok v) now later after end → Onto m held before (next v) later end
   onto_goes {v} h one = onto_bind next {v = v} (onto_alike is h) one
@@ -27,9 +27,9 @@ pub chosen_no : {A : Type 0} (x y : A) (b : Bool) → b ≡ false → (if b then
 chosen_no x y b is = ap (λ c. if c then x else y) is
 
 -- gathering from the items of a list, by place
-module _ {F X A B C : Type 0} (act : ℕ → X → Outcome F A) (piece : ℕ → X → A → List B) (next : List B → Outcome F C) {held : Recorded} {before : ℕ} where
+module _ {F X A B C : Type 0} (act : ℕ → X → Evaluation F A) (piece : ℕ → X → A → List B) (next : List B → Evaluation F C) {held : Recorded} {before : ℕ} where
   -- one item more, where the list begins with it
-  pub gather_goes : {m : Outcome F C} (acc : List B) (i : ℕ) (ys : List X) (x : X) (zs : List X) → ys ≡ x ∷ zs →
+  pub gather_goes : {m : Evaluation F C} (acc : List B) (i : ℕ) (ys : List X) (x : X) (zs : List X) → ys ≡ x ∷ zs →
       {v : A} {all : List B} {now later : Recorded} {after end : ℕ} → all ≡ acc ++ piece i x v →
       Onto m held before (gathering act piece next acc i ys) now after → Ran (act i x) (Ok v) now later after end →
       Onto m held before (gathering act piece next all (i + 1) zs) later end
@@ -37,13 +37,13 @@ module _ {F X A B C : Type 0} (act : ℕ → X → Outcome F A) (piece : ℕ →
       subst (λ bs. Onto m held before (gathering act piece next bs (i + 1) zs) later end) (sym more)
       (gather_more act piece next acc i x zs {v = v} (onto_alike (ap (gathering act piece next acc i) is) h) one)
 
-  pub gather_stops : {m : Outcome F C} (acc : List B) (i : ℕ) (ys : List X) (x : X) (zs : List X) → ys ≡ x ∷ zs →
+  pub gather_stops : {m : Evaluation F C} (acc : List B) (i : ℕ) (ys : List X) (x : X) (zs : List X) → ys ≡ x ∷ zs →
       {now later : Recorded} {after end : ℕ} (e : Stop F) →
       Onto m held before (gathering act piece next acc i ys) now after → Ran (act i x) (Err e) now later after end → Ran m (Err e) held later before end
   gather_stops {m} acc i ys x zs is e h one =
       gather_stop act piece next acc i x zs e (onto_alike (ap (gathering act piece next acc i) is) h) one
 
-  pub gather_ends : {m : Outcome F C} (acc : List B) (i : ℕ) (ys : List X) → ys ≡ [] → {now : Recorded} {after : ℕ} →
+  pub gather_ends : {m : Evaluation F C} (acc : List B) (i : ℕ) (ys : List X) → ys ≡ [] → {now : Recorded} {after : ℕ} →
       Onto m held before (gathering act piece next acc i ys) now after → Onto m held before (next acc) now after
   gather_ends acc i ys is h = gather_end act piece next acc i (onto_alike (ap (gathering act piece next acc i) is) h)
 
@@ -55,7 +55,7 @@ module _ {F X A B C : Type 0} (act : ℕ → X → Outcome F A) (piece : ℕ →
       (onto_alike (gathering_start act piece next i xs) (onto_start (bind (gather act piece i xs) next) held before))
 
 -- the same, where nothing follows
-pub gather_begins_alone : {F X A B : Type 0} (act : ℕ → X → Outcome F A) (piece : ℕ → X → A → List B) (acc : List B) (i : ℕ) (xs : List X) → acc ≡ [] →
+pub gather_begins_alone : {F X A B : Type 0} (act : ℕ → X → Evaluation F A) (piece : ℕ → X → A → List B) (acc : List B) (i : ℕ) (xs : List X) → acc ≡ [] →
     {held : Recorded} {before : ℕ} → Onto (gather act piece i xs) held before (gathering act piece done acc i xs) held before
 gather_begins_alone {B = B} act piece acc i xs is {held} {before} =
     subst (λ m. Onto m held before (gathering act piece done acc i xs) held before) (bind-right (gather act piece i xs)) (gather_begins act piece done acc i xs is)

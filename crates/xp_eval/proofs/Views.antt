@@ -15,7 +15,7 @@ use Rattle.xp_typed_tree.specs.declared.expr.TypedExpr.TheVariants as exprs
 use Rattle.xp_typed_tree.specs.declared.expr.TypedStart.TheVariants as starts
 use Rattle.xp_typed_tree.specs.TypedView.{typed_tree_of, typed_seen, place_of, compared_list_seen, combined_list_seen, typed_steps_seen}
 use Rattle.xp_typed_tree.proofs.TypedViewLemmas.{of-Or, of-And, of-Compare, of-Arith, of-Negate, of-Union, of-Path, of-Filter, of-Variable, of-Literal, of-Number, of-Call, of-Root, of-Here, of-From}
-use Rattle.xp_outcome.specs.Outcome.{Outcome, done, given, bind, visit, reading, variable}
+use Rattle.xp_outcome.specs.Evaluation.{Evaluation, done, given, bind, visit, reading, variable}
 use Rattle.xp_outcome.specs.Slots.{in_slot}
 use Rattle.xp_outcome.proofs.Outcomes.{bind_alike, bind-done, bind_assoc}
 use Rattle.xp_values.specs.declared.values.Value.{Value}
@@ -31,7 +31,7 @@ use Rattle.xp_meaning.specs.Evaluation.{Lets, meaning, meanings, some_true, all_
 use Rattle.xp_eval.specs.Wants.{wanted_by}
 
 -- what follows a part of a value follows the value
-bind_mapped : {F A B C : Type 0} (m : Outcome F A) (part : A → B) (next : B → Outcome F C) →
+bind_mapped : {F A B C : Type 0} (m : Evaluation F A) (part : A → B) (next : B → Evaluation F C) →
     bind (bind m (λ v. done (part v))) next ≡ bind m (λ v. next (part v))
 bind_mapped m part next =
     bind_assoc m (λ v. done (part v)) next

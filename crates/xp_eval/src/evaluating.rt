@@ -5,7 +5,7 @@
 ghost use Rattle.std.specs.Prelude.{◌≡◌, None, Some, flat_map, IfOk};
 ghost use Rattle.doc_axes.specs.Sets.{in_order};
 ghost use Rattle.xp_values.specs.declared.values.Value.TheVariants as value_kinds;
-ghost use Rattle.xp_outcome.specs.Outcome.{done, bind};
+ghost use Rattle.xp_outcome.specs.Evaluation.{done, bind};
 ghost use Rattle.xp_outcome.specs.Running.{Ran};
 ghost use Rattle.xp_convert.specs.Conversions.{nodes_of, number_in};
 ghost use Rattle.xp_convert.specs.Results.{shown};

@@ -2,7 +2,7 @@
 
 ghost use Rattle.std.specs.Prelude.{◌≡◌, ℕ, IfOk};
 ghost use Rattle.xp_values.specs.Outcomes.{Gives};
-ghost use Rattle.xp_outcome.specs.Outcome.{reading, variable};
+ghost use Rattle.xp_outcome.specs.Evaluation.{reading, variable};
 ghost use Rattle.xp_outcome.specs.Running.{Ran};
 ghost use Rattle.xp_outcome.specs.Slots.{in_slot};
 ghost use Rattle.xp_convert.specs.Results.{shown};

@@ -3,7 +3,7 @@ use Rattle.std.proofs.Common.{◌≡◌, ℕ, ◌+◌, Bool, true, false, cond, 
 use Rattle.std.specs.Prelude.{filter}
 use Rattle.doc_axes.proofs.SubLists as subs
 use Rattle.doc_axes.proofs.SubLists.{Sub, sub-all}
-use Rattle.xp_outcome.specs.Outcome.{Outcome, done, fault, bind, behind, gather}
+use Rattle.xp_outcome.specs.Evaluation.{Evaluation, done, fault, bind, behind, gather}
 use Rattle.xp_outcome.proofs.Outcomes.{bind-fault}
 use Rattle.xp_values.specs.declared.values.Value.{Value}
 use Rattle.xp_values.specs.declared.values.EvalFault.{EvalFault}
@@ -22,12 +22,12 @@ unfolding keep_or
 same_ok v w is = ap (keep_or v) is
 
 -- what came before an answer
-pub record Before {F A B : Type 0} (m : Outcome F A) (next : A → Outcome F B) (v : B) : Type 0 where
+pub record Before {F A B : Type 0} (m : Evaluation F A) (next : A → Evaluation F B) (v : B) : Type 0 where
   pub first : A
   pub is : m.answer ≡ Ok first
   pub then : (next first).answer ≡ Ok v
 
-pub came_before : {F A B : Type 0} (m : Outcome F A) (next : A → Outcome F B) (v : B) → (bind m next).answer ≡ Ok v → Before m next v
+pub came_before : {F A B : Type 0} (m : Evaluation F A) (next : A → Evaluation F B) (v : B) → (bind m next).answer ≡ Ok v → Before m next v
 unfolding bind behind fault
 came_before {F} {A} {B} m next v is = by m.answer refl
   where
@@ -51,7 +51,7 @@ chosen-keeps i n w xs ys s =
     elim (holds_at i w) as (λ b. Sub (cond b (n ∷ []) [] ++ xs) (n ∷ ys)) [ true ↦ subs.keep s | false ↦ subs.skip s ]
 
 -- a predicate keeps some of its nodes, in their order
-gathered-sub : (act : ℕ → ℕ → Outcome EvalFault Value) (i : ℕ) (ns v : List ℕ) → (gather act chosen i ns).answer ≡ Ok v → Sub v ns
+gathered-sub : (act : ℕ → ℕ → Evaluation EvalFault Value) (i : ℕ) (ns v : List ℕ) → (gather act chosen i ns).answer ≡ Ok v → Sub v ns
 unfolding done
 gathered-sub act i [] v is = subst (λ k. Sub k []) (same_ok {F = EvalFault} [] v is) subs.done
 gathered-sub act i (n ∷ ns) v is =

@@ -12,7 +12,7 @@ use Rattle.doc_axes.specs.Axes.{axis_nodes}
 use Rattle.doc_axes.specs.NodeTests.{passes}
 use Rattle.doc_axes.specs.Sets.{in_order}
 use Rattle.doc_axes.proofs.SubLists.{sub-one, filter-sub}
-use Rattle.xp_outcome.specs.Outcome.{Outcome, done, bind, gather}
+use Rattle.xp_outcome.specs.Evaluation.{Evaluation, done, bind, gather}
 use Rattle.xp_typed_tree.specs.TypedTree.{at_context}
 use Rattle.xp_values.specs.declared.values.Value.TheVariants.{NodeSet}
 use Rattle.xp_meaning.specs.Paths.{Step, candidates, step_at, step_from, filtered, path}
@@ -47,7 +47,7 @@ module _ (T : Table) (ord : Ordered T) (n : ℕ) (live : is_live T n ≡ true) w
   from_node : (current : ℕ) → (step_from T self_step current (n ∷ [])).answer ≡ Ok (n ∷ [])
   unfolding done
   from_node current =
-      let gathered : Outcome _ (List ℕ) = gather (λ _ k. step_at T self_step current k) (λ _ _ ms. ms) 1 (n ∷ []) in
+      let gathered : Evaluation _ (List ℕ) = gather (λ _ k. step_at T self_step current k) (λ _ _ ms. ms) 1 (n ∷ []) in
       answer_then gathered (λ ms. done (in_order T ms)) (n ∷ [])
       (answer_then (step_at T self_step current n) (λ ms. bind (gather (λ _ k. step_at T self_step current k) (λ _ _ ks. ks) (1 + 1) []) (λ rest. done (ms ++ rest)))
       (n ∷ []) (at_node current)

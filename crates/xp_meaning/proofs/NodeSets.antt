@@ -13,7 +13,7 @@ use Rattle.xp_typed_tree.specs.declared.operators.Comparison.{Comparison}
 use Rattle.xp_typed_tree.specs.declared.function.Function.{Function}
 use Rattle.xp_typed_tree.specs.declared.function.Function.TheVariants as functions
 use Rattle.xp_typed_tree.specs.TypedTree.{TypedTree, TypedPlace, disjunction, conjunction, comparison, arithmetic, negation, union, location, selection, slot, text, whole, application, at_root, at_context, at_nodes}
-use Rattle.xp_outcome.specs.Outcome.{Outcome, done, given, fault, bind, behind, visit, reading, gather}
+use Rattle.xp_outcome.specs.Evaluation.{Evaluation, done, given, fault, bind, behind, visit, reading, gather}
 use Rattle.xp_outcome.specs.Slots.{in_slot}
 use Rattle.xp_values.specs.declared.values.Value.{Value}
 use Rattle.xp_values.specs.declared.values.Value.TheVariants.{NodeSet, Truth, Number, Chars}
@@ -58,7 +58,7 @@ module _ (T : Table) (ord : Ordered T) where
   unfolding done
   done_proper w v h is = subst (IsProper T) (same_ok {F = EvalFault} w v is) h
 
-  made_proper : {A : Type 0} (m : Outcome EvalFault A) (f : A → Value) (v : Value) → ((x : A) → IsProper T (f x)) →
+  made_proper : {A : Type 0} (m : Evaluation EvalFault A) (f : A → Value) (v : Value) → ((x : A) → IsProper T (f x)) →
       (bind m (λ x. done (f x))).answer ≡ Ok v → IsProper T v
   made_proper m f v all is = let b = came_before m (λ x. done (f x)) v is in done_proper (f b.first) v (all b.first) b.then
 

@@ -9,7 +9,7 @@ use Rattle.doc_tree.specs.declared.axes.NodeTest.{NodeTest}
 use Rattle.doc_tree.specs.Table.{Table}
 use Rattle.doc_axes.specs.Axes.{axis_nodes}
 use Rattle.doc_axes.specs.NodeTests.{passes}
-use Rattle.xp_outcome.specs.Outcome.{Outcome, done, bind, behind, visit, visits, all_reading, gather}
+use Rattle.xp_outcome.specs.Evaluation.{Evaluation, done, bind, behind, visit, visits, all_reading, gather}
 use Rattle.xp_values.specs.declared.values.Value.{Value}
 use Rattle.xp_values.specs.declared.values.Value.TheVariants.{Number}
 use Rattle.xp_values.specs.declared.values.EvalFault.{EvalFault}
@@ -26,7 +26,7 @@ chosen_from w i [] = []
 chosen_from w i (n ∷ ns) = chosen i n w ++ chosen_from w (i + 1) ns
 
 -- a predicate that has the same value at each node
-module _ (act : ℕ → ℕ → Outcome EvalFault Value) (w : Value) (always : (i n : ℕ) → (act i n).answer ≡ Ok w) where
+module _ (act : ℕ → ℕ → Evaluation EvalFault Value) (w : Value) (always : (i n : ℕ) → (act i n).answer ≡ Ok w) where
   gathered_answer : (i : ℕ) (ns : List ℕ) → (gather act chosen i ns).answer ≡ Ok (chosen_from w i ns)
   unfolding done
   gathered_answer i [] = refl

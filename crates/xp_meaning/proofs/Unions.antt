@@ -6,7 +6,7 @@ use Rattle.doc_tree.specs.Table.{Table}
 use Rattle.doc_tree.specs.Walks.{order}
 use Rattle.doc_axes.specs.Sets.{in_order}
 use Rattle.doc_axes.proofs.SubLists.{filter-same, mem-append_is}
-use Rattle.xp_outcome.specs.Outcome.{Outcome, done, bind, gather}
+use Rattle.xp_outcome.specs.Evaluation.{Evaluation, done, bind, gather}
 use Rattle.xp_typed_tree.specs.declared.function.Function.TheVariants.{Count}
 use Rattle.xp_typed_tree.specs.TypedTree.{TypedTree, union, application, typed, no_typed}
 use Rattle.xp_values.specs.declared.values.Value.{Value}
@@ -24,7 +24,7 @@ use Rattle.xp_meaning.proofs.Answers.{answer_then, answer_visit}
 
 -- values that are taken as they are
 module _ (T : Table) (want : ℕ → Want) (as_is : (i : ℕ) (v : Value) → (as_wanted T (want i) v).answer ≡ Ok v) (c : Context) where
-  abbrev act : ℕ → Meaning → Outcome EvalFault Value
+  abbrev act : ℕ → Meaning → Evaluation EvalFault Value
   act i m = bind (m c) (λ v. as_wanted T (want i) v)
 
   abbrev piece : ℕ → Meaning → Value → List Value

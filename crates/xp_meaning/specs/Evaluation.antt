@@ -6,7 +6,7 @@ use Rattle.doc_axes.specs.Sets.{in_order}
 use Rattle.xp_typed_tree.specs.declared.operators.Comparison.{Comparison}
 use Rattle.xp_typed_tree.specs.declared.operators.ArithOp.{ArithOp}
 use Rattle.xp_typed_tree.specs.TypedTree.{TypedTree, TypedPlace, TypedSteps, Comparands, Combinands, TypedTrees, disjunction, conjunction, comparison, arithmetic, negation, union, location, selection, slot, text, whole, application, at_root, at_context, at_nodes, no_more_steps, typed_step, no_comparands, comparand, no_combinands, combinand, no_typed, typed}
-use Rattle.xp_outcome.specs.Outcome.{Outcome, done, fault, given, bind, visit, reading, gather, variable}
+use Rattle.xp_outcome.specs.Evaluation.{Evaluation, done, fault, given, bind, visit, reading, gather, variable}
 use Rattle.xp_outcome.specs.Slots.{in_slot}
 use Rattle.xp_values.specs.declared.values.Value.{Value}
 use Rattle.xp_values.specs.declared.values.Value.TheVariants.{NodeSet, Truth, Number, Chars}
@@ -33,33 +33,33 @@ pub record Operand (O : Type 0) : Type 0 where
   pub meaning : Meaning
 
 -- whether some operand is true; those behind it aren't evaluated (section 3.4)
-abbrev pub some_true : List Meaning → Context → Outcome EvalFault Bool
+abbrev pub some_true : List Meaning → Context → Evaluation EvalFault Bool
 some_true [] c = done false
 some_true (m ∷ ms) c = bind (m c) (λ v. if to_truth v then done true else some_true ms c)
 
 -- whether all operands are true; those behind a false one aren't evaluated
-abbrev pub all_true : List Meaning → Context → Outcome EvalFault Bool
+abbrev pub all_true : List Meaning → Context → Evaluation EvalFault Bool
 all_true [] c = done true
 all_true (m ∷ ms) c = bind (m c) (λ v. if to_truth v then all_true ms c else done false)
 
 -- comparisons from left to right, each with the truth of those before it
-abbrev pub compared : Table → List (Operand Comparison) → Value → Context → Outcome EvalFault Value
+abbrev pub compared : Table → List (Operand Comparison) → Value → Context → Evaluation EvalFault Value
 compared T [] v c = done v
 compared T (m ∷ ms) v c =
     bind (m.meaning c) (λ w. bind (compare_in T (comparison_of m.operator) v w) (λ truth. compared T ms (Truth truth) c))
 
 -- arithmetic from left to right: each operand is converted and combined before the next one is evaluated
-abbrev pub combined : Table → List (Operand ArithOp) → Num → Context → Outcome EvalFault Num
+abbrev pub combined : Table → List (Operand ArithOp) → Num → Context → Evaluation EvalFault Num
 combined T [] x c = done x
 combined T (m ∷ ms) x c =
     bind (m.meaning c) (λ w. bind (number_in T w) (λ y. bind (given (arith (operation_of m.operator) x y)) (λ z. combined T ms z c)))
 
 -- each expression in turn, its value converted before the next one is evaluated
-abbrev pub values : Table → (ℕ → Want) → List Meaning → Context → Outcome EvalFault (List Value)
+abbrev pub values : Table → (ℕ → Want) → List Meaning → Context → Evaluation EvalFault (List Value)
 values T want ms c = gather (λ i m. bind (m c) (λ v. as_wanted T (want i) v)) (λ _ _ v. v ∷ []) 0 ms
 
 -- what a variable's slot gives; an expression names only slots that are set
-abbrev pub slot_value : Option (Result Value EvalFault) → Outcome EvalFault Value
+abbrev pub slot_value : Option (Result Value EvalFault) → Evaluation EvalFault Value
 slot_value None = done (NodeSet [])
 slot_value (Some (Ok v)) = done v
 slot_value (Some (Err f)) = fault f
@@ -86,7 +86,7 @@ abbrev mutual
   meaning T L (application f ts) c = visit (bind (values T (wanted f) (meanings T L ts) c) (λ vs. applied T f c vs))
 
   -- the nodes at which a path begins
-  pub start_nodes : Table → Lets → TypedPlace → Context → Outcome EvalFault (List ℕ)
+  pub start_nodes : Table → Lets → TypedPlace → Context → Evaluation EvalFault (List ℕ)
   start_nodes T L at_root c = done (0 ∷ [])
   start_nodes T L at_context c = done (c.node ∷ [])
   start_nodes T L (at_nodes base) c = bind (meaning T L base c) (λ v. done (nodes_of v))

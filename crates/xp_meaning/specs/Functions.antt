@@ -3,7 +3,7 @@ use Rattle.std.specs.Prelude.{ℕ, zero, suc, pos, Bool, true, false, not, List,
 use Rattle.doc_tree.specs.Table.{Table}
 use Rattle.xp_typed_tree.specs.declared.function.Function.{Function}
 use Rattle.xp_typed_tree.specs.declared.function.Function.TheVariants as functions
-use Rattle.xp_outcome.specs.Outcome.{Outcome, done, given, bind}
+use Rattle.xp_outcome.specs.Evaluation.{Evaluation, done, given, bind}
 use Rattle.xp_values.specs.declared.values.Value.{Value}
 use Rattle.xp_values.specs.declared.values.Value.TheVariants.{NodeSet, Truth, Number, Chars}
 use Rattle.xp_values.specs.declared.values.EvalFault.{EvalFault}
@@ -95,23 +95,23 @@ named_node c [] = Some c.node
 named_node c (v ∷ vs) = slice_get (nodes_of v) 0
 
 -- the text of the argument, or the string-value of the context node without one
-abbrev pub text_or_own : Table → Context → List Value → Outcome EvalFault (List ℕ)
+abbrev pub text_or_own : Table → Context → List Value → Evaluation EvalFault (List ℕ)
 text_or_own T c [] = text_in T (NodeSet (c.node ∷ []))
 text_or_own T c (v ∷ vs) = done (text_of v)
 
 -- the number of the argument, or that of the context node without one
-abbrev pub number_or_own : Table → Context → List Value → Outcome EvalFault Num
+abbrev pub number_or_own : Table → Context → List Value → Evaluation EvalFault Num
 number_or_own T c [] = number_in T (NodeSet (c.node ∷ []))
 number_or_own T c (v ∷ vs) = done (number_of v)
 
 -- answers as values
-abbrev pub as_text : Outcome EvalFault (List ℕ) → Outcome EvalFault Value
+abbrev pub as_text : Evaluation EvalFault (List ℕ) → Evaluation EvalFault Value
 as_text m = bind m (λ text. done (Chars text))
 
-abbrev pub as_number : Outcome EvalFault Num → Outcome EvalFault Value
+abbrev pub as_number : Evaluation EvalFault Num → Evaluation EvalFault Value
 as_number m = bind m (λ number. done (Number number))
 
-abbrev pub as_truth : Outcome EvalFault Bool → Outcome EvalFault Value
+abbrev pub as_truth : Evaluation EvalFault Bool → Evaluation EvalFault Value
 as_truth m = bind m (λ truth. done (Truth truth))
 
 abbrev pub as_chars : Result (List ℕ) EvalFault → Result Value EvalFault
@@ -122,7 +122,7 @@ abbrev pub counted : ℕ → Value
 counted n = Number (Whole (pos n))
 
 -- what a function gives for its converted arguments; numbers are whole, so that `floor`, `ceiling` and `round` keep them
-abbrev pub applied : Table → Function → Context → List Value → Outcome EvalFault Value
+abbrev pub applied : Table → Function → Context → List Value → Evaluation EvalFault Value
 applied T functions.Last c vs = done (counted c.size)
 applied T functions.Position c vs = done (counted c.position)
 applied T functions.Current c vs = done (NodeSet (c.current ∷ []))

@@ -7,7 +7,7 @@ use Rattle.doc_tree.specs.Kinds.{is_element}
 use Rattle.doc_tree.specs.Scope.{xml_namespace}
 use Rattle.doc_tree.specs.Walks.{above}
 use Rattle.doc_axes.specs.NodeTests.{named}
-use Rattle.xp_outcome.specs.Outcome.{Outcome, done, bind, reading, cell}
+use Rattle.xp_outcome.specs.Evaluation.{Evaluation, done, bind, reading, cell}
 use Rattle.xp_values.specs.declared.values.EvalFault.{EvalFault}
 
 -- a tag ends, or goes on behind a hyphen
@@ -28,24 +28,24 @@ abbrev pub lang_among : Table → List ℕ → Option ℕ
 lang_among T attributes = find (is_lang T) attributes
 
 -- what an attribute that was found decides
-abbrev pub decided_by : Table → List ℕ → Option ℕ → Outcome EvalFault (Option Bool)
+abbrev pub decided_by : Table → List ℕ → Option ℕ → Evaluation EvalFault (Option Bool)
 decided_by T wanted None = done None
 decided_by T wanted (Some a) = reading (cell (Value a)) (done (Some (is_language (value_of T a) wanted)))
 
 -- what a node's own attribute `xml:lang` decides; the attributes of an element are read, and the value of the one found
-abbrev pub own_language : Table → List ℕ → ℕ → Outcome EvalFault (Option Bool)
+abbrev pub own_language : Table → List ℕ → ℕ → Evaluation EvalFault (Option Bool)
 own_language T wanted n =
     if is_element (kind_of T n) then reading (cell (Attrs n)) (decided_by T wanted (lang_among T (attrs_of T n))) else done None
 
-abbrev pub or_else : Option Bool → Outcome EvalFault Bool → Outcome EvalFault Bool
+abbrev pub or_else : Option Bool → Evaluation EvalFault Bool → Evaluation EvalFault Bool
 or_else None rest = rest
 or_else (Some truth) rest = done truth
 
 -- the first of some nodes whose own attribute decides; none decides for any language
-abbrev pub language_along : Table → List ℕ → List ℕ → Outcome EvalFault Bool
+abbrev pub language_along : Table → List ℕ → List ℕ → Evaluation EvalFault Bool
 language_along T wanted [] = done false
 language_along T wanted (n ∷ ns) = bind (own_language T wanted n) (λ found. or_else found (language_along T wanted ns))
 
 -- whether a node is in a language, by the nearest attribute `xml:lang` of the node and its ancestors
-unfoldable pub in_language : Table → ℕ → List ℕ → Outcome EvalFault Bool
+unfoldable pub in_language : Table → ℕ → List ℕ → Evaluation EvalFault Bool
 in_language T n wanted = language_along T wanted (above T n)

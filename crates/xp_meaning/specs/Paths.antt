@@ -6,7 +6,7 @@ use Rattle.doc_tree.specs.Table.{Table}
 use Rattle.doc_axes.specs.Axes.{axis_nodes}
 use Rattle.doc_axes.specs.NodeTests.{passes}
 use Rattle.doc_axes.specs.Sets.{in_order}
-use Rattle.xp_outcome.specs.Outcome.{Outcome, done, bind, visits, all_reading, gather}
+use Rattle.xp_outcome.specs.Evaluation.{Evaluation, done, bind, visits, all_reading, gather}
 use Rattle.xp_values.specs.declared.values.Value.{Value}
 use Rattle.xp_values.specs.declared.values.Value.TheVariants.{NodeSet, Truth, Number, Chars}
 use Rattle.xp_values.specs.declared.values.EvalFault.{EvalFault}
@@ -19,7 +19,7 @@ use Rattle.xp_meaning.specs.declared.context.Context.{Context}
 
 -- what an expression gives in a context
 abbrev pub Meaning : Type 0
-Meaning = Context → Outcome EvalFault Value
+Meaning = Context → Evaluation EvalFault Value
 
 -- a step: its axis, its node test, and what its predicates give
 pub record Step : Type 0 where
@@ -44,29 +44,29 @@ placed current size position n = record { node = n; position = position; size = 
 
 -- the nodes for which a predicate holds: it is evaluated at each, whose position is its place in the list, among as
 -- many as the list has (section 2.4)
-abbrev pub kept : Meaning → ℕ → List ℕ → Outcome EvalFault (List ℕ)
+abbrev pub kept : Meaning → ℕ → List ℕ → Evaluation EvalFault (List ℕ)
 kept predicate current ns = gather (λ position n. predicate (placed current (length ns) position n)) chosen 1 ns
 
 -- each predicate filters what the one before it has left
-abbrev pub filtered : List Meaning → ℕ → List ℕ → Outcome EvalFault (List ℕ)
+abbrev pub filtered : List Meaning → ℕ → List ℕ → Evaluation EvalFault (List ℕ)
 filtered [] current ns = done ns
 filtered (p ∷ ps) current ns = bind (kept p current ns) (λ ms. filtered ps current ms)
 
 -- the candidates of a step at a node: the nodes on its axis, in the axis's own order, that pass its test; the node is
 -- visited, and so is each node on the axis (sections 2.2 and 2.3)
-unfoldable pub candidates : Table → Axis → NodeTest → ℕ → Outcome EvalFault (List ℕ)
+unfoldable pub candidates : Table → Axis → NodeTest → ℕ → Evaluation EvalFault (List ℕ)
 candidates T axis node_test n =
     all_reading (axis_reads T axis n) (visits (1 + length (axis_nodes T axis n)) (done (filter (passes T axis node_test) (axis_nodes T axis n))))
 
 -- a step at a node: its candidates, filtered by its predicates (section 2.1)
-abbrev pub step_at : Table → Step → ℕ → ℕ → Outcome EvalFault (List ℕ)
+abbrev pub step_at : Table → Step → ℕ → ℕ → Evaluation EvalFault (List ℕ)
 step_at T s current n = bind (candidates T s.axis s.test n) (λ ms. filtered s.predicates current ms)
 
 -- a step from a set of nodes: what it selects at each of them, as one set in document order
-abbrev pub step_from : Table → Step → ℕ → List ℕ → Outcome EvalFault (List ℕ)
+abbrev pub step_from : Table → Step → ℕ → List ℕ → Evaluation EvalFault (List ℕ)
 step_from T s current ns = bind (gather (λ _ n. step_at T s current n) (λ _ _ ms. ms) 1 ns) (λ ms. done (in_order T ms))
 
 -- the steps of a path, one after another (section 2)
-abbrev pub path : Table → List Step → ℕ → List ℕ → Outcome EvalFault (List ℕ)
+abbrev pub path : Table → List Step → ℕ → List ℕ → Evaluation EvalFault (List ℕ)
 path T [] current ns = done ns
 path T (s ∷ ss) current ns = bind (step_from T s current ns) (λ ms. path T ss current ms)

@@ -1,16 +1,16 @@
 -- Laws of outcomes: doing nothing before or after changes nothing, and how evaluations are bracketed doesn't matter.
 use Rattle.std.proofs.Common.{◌≡◌, ℕ, ◌+◌, List, [], ◌∷◌, ◌++◌, length, refl, sym, ◌∙◌, ap, append_assoc, append-nil, zero-add, add-zero, add_assoc, Result, Ok, Err, arith}
-use Rattle.xp_outcome.specs.Outcome.{Read, Outcome, done, fault, behind, follow, bind, visit, visits, reading, all_reading, gather}
+use Rattle.xp_outcome.specs.Evaluation.{Read, Evaluation, done, fault, behind, follow, bind, visit, visits, reading, all_reading, gather}
 
 module _ {F A : Type 0} where
   -- reads and visits before others are those of both
-  pub behind-behind : (xs ys : List Read) (n k : ℕ) (m : Outcome F A) → behind xs n (behind ys k m) ≡ behind (xs ++ ys) (n + k) m
+  pub behind-behind : (xs ys : List Read) (n k : ℕ) (m : Evaluation F A) → behind xs n (behind ys k m) ≡ behind (xs ++ ys) (n + k) m
   unfolding behind
   behind-behind xs ys n k m =
       ap (λ rs. record { answer = m.answer; reads = rs; work = n + (k + m.work) }) (sym (append_assoc xs ys m.reads))
       ∙ ap (λ w. record { answer = m.answer; reads = (xs ++ ys) ++ m.reads; work = w }) (sym (add_assoc n k m.work))
 
-  pub behind-nothing : (m : Outcome F A) → behind [] 0 m ≡ m
+  pub behind-nothing : (m : Evaluation F A) → behind [] 0 m ≡ m
   unfolding behind
   behind-nothing m = ap (λ w. record { answer = m.answer; reads = m.reads; work = w }) (zero-add m.work)
 
@@ -19,51 +19,51 @@ module _ {F A : Type 0} where
 
 module _ {F A B : Type 0} where
   -- after an answer the next is done, after the reads and visits of the first
-  pub bind-answer : (m : Outcome F A) (next : A → Outcome F B) (v : A) → m.answer ≡ Ok v → bind m next ≡ behind m.reads m.work (next v)
+  pub bind-answer : (m : Evaluation F A) (next : A → Evaluation F B) (v : A) → m.answer ≡ Ok v → bind m next ≡ behind m.reads m.work (next v)
   unfolding bind
   bind-answer m next v is = ap (λ a. behind m.reads m.work (follow a next)) is
 
   -- after a fault nothing is done
-  pub bind-fault : (m : Outcome F A) (next : A → Outcome F B) (f : F) → m.answer ≡ Err f → bind m next ≡ behind m.reads m.work (fault f)
+  pub bind-fault : (m : Evaluation F A) (next : A → Evaluation F B) (f : F) → m.answer ≡ Err f → bind m next ≡ behind m.reads m.work (fault f)
   unfolding bind
   bind-fault m next f is = ap (λ a. behind m.reads m.work (follow a next)) is
 
   -- nothing before
-  pub bind-done : (v : A) (next : A → Outcome F B) → bind (done v) next ≡ next v
+  pub bind-done : (v : A) (next : A → Evaluation F B) → bind (done v) next ≡ next v
   unfolding bind done
   bind-done v next = behind-nothing (next v)
 
-  pub bind_after_fault : (f : F) (next : A → Outcome F B) → bind (fault f) next ≡ fault f
+  pub bind_after_fault : (f : F) (next : A → Evaluation F B) → bind (fault f) next ≡ fault f
   unfolding bind fault
   bind_after_fault f next = behind-nothing (fault f)
 
   -- reads and visits before the first are before both
-  pub bind-behind : (xs : List Read) (n : ℕ) (m : Outcome F A) (next : A → Outcome F B) → bind (behind xs n m) next ≡ behind xs n (bind m next)
+  pub bind-behind : (xs : List Read) (n : ℕ) (m : Evaluation F A) (next : A → Evaluation F B) → bind (behind xs n m) next ≡ behind xs n (bind m next)
   unfolding bind behind
   bind-behind xs n m next = sym (behind-behind xs m.reads n m.work (follow m.answer next))
 
-  pub bind-visit : (m : Outcome F A) (next : A → Outcome F B) → bind (visit m) next ≡ visit (bind m next)
+  pub bind-visit : (m : Evaluation F A) (next : A → Evaluation F B) → bind (visit m) next ≡ visit (bind m next)
   unfolding visit
   bind-visit m next = bind-behind [] 1 m next
 
-  pub bind-visits : (n : ℕ) (m : Outcome F A) (next : A → Outcome F B) → bind (visits n m) next ≡ visits n (bind m next)
+  pub bind-visits : (n : ℕ) (m : Evaluation F A) (next : A → Evaluation F B) → bind (visits n m) next ≡ visits n (bind m next)
   unfolding visits
   bind-visits n m next = bind-behind [] n m next
 
-  pub bind-reading : (x : Read) (m : Outcome F A) (next : A → Outcome F B) → bind (reading x m) next ≡ reading x (bind m next)
+  pub bind-reading : (x : Read) (m : Evaluation F A) (next : A → Evaluation F B) → bind (reading x m) next ≡ reading x (bind m next)
   unfolding reading
   bind-reading x m next = bind-behind (x ∷ []) 0 m next
 
-  pub bind-all_reading : (xs : List Read) (m : Outcome F A) (next : A → Outcome F B) → bind (all_reading xs m) next ≡ all_reading xs (bind m next)
+  pub bind-all_reading : (xs : List Read) (m : Evaluation F A) (next : A → Evaluation F B) → bind (all_reading xs m) next ≡ all_reading xs (bind m next)
   unfolding all_reading
   bind-all_reading xs m next = bind-behind xs 0 m next
 
   -- what follows alike is alike
-  pub bind_alike : (m : Outcome F A) (f g : A → Outcome F B) → ((v : A) → f v ≡ g v) → bind m f ≡ bind m g
+  pub bind_alike : (m : Evaluation F A) (f g : A → Evaluation F B) → ((v : A) → f v ≡ g v) → bind m f ≡ bind m g
   bind_alike m f g alike = ap (λ next. bind m next) (λ i v. alike v i)
 
 -- nothing after
-pub bind-right : {F A : Type 0} (m : Outcome F A) → bind m done ≡ m
+pub bind-right : {F A : Type 0} (m : Evaluation F A) → bind m done ≡ m
 unfolding bind done behind fault
 bind-right {F} {A} m =
     let by_answer : (a : Result A F) (xs : List Read) (n : ℕ) → behind xs n (follow a done) ≡ record { answer = a; reads = xs; work = n } =
@@ -75,7 +75,7 @@ bind-right {F} {A} m =
 
 -- how three are bracketed doesn't matter
 module _ {F A B C : Type 0} where
-  pub bind_assoc : (m : Outcome F A) (f : A → Outcome F B) (g : B → Outcome F C) → bind (bind m f) g ≡ bind m (λ v. bind (f v) g)
+  pub bind_assoc : (m : Evaluation F A) (f : A → Evaluation F B) (g : B → Evaluation F C) → bind (bind m f) g ≡ bind m (λ v. bind (f v) g)
   unfolding bind behind fault
   bind_assoc m f g =
       let by_answer : (a : Result A F) (xs : List Read) (n : ℕ) →
@@ -87,20 +87,20 @@ module _ {F A B C : Type 0} where
       by_answer m.answer m.reads m.work
 
 -- items gathered in two parts
-module _ {F X A B C : Type 0} (act : ℕ → X → Outcome F A) (piece : ℕ → X → A → List B) where
+module _ {F X A B C : Type 0} (act : ℕ → X → Evaluation F A) (piece : ℕ → X → A → List B) where
   -- the rest of a gathering with what goes on from it, once `acc` was gathered
-  unfoldable pub gathering : (List B → Outcome F C) → List B → ℕ → List X → Outcome F C
+  unfoldable pub gathering : (List B → Evaluation F C) → List B → ℕ → List X → Evaluation F C
   gathering next acc i xs = bind (gather act piece i xs) (λ rest. next (acc ++ rest))
 
-  pub gathering_start : (next : List B → Outcome F C) (i : ℕ) (xs : List X) → bind (gather act piece i xs) next ≡ gathering next [] i xs
+  pub gathering_start : (next : List B → Evaluation F C) (i : ℕ) (xs : List X) → bind (gather act piece i xs) next ≡ gathering next [] i xs
   unfolding gathering
   gathering_start next i xs = refl
 
-  pub gathering_end : (next : List B → Outcome F C) (acc : List B) (i : ℕ) → gathering next acc i [] ≡ next acc
+  pub gathering_end : (next : List B → Evaluation F C) (acc : List B) (i : ℕ) → gathering next acc i [] ≡ next acc
   unfolding gathering
   gathering_end next acc i = bind-done [] (λ rest. next (acc ++ rest)) ∙ ap next (append-nil acc)
 
-  pub gathering_more : (next : List B → Outcome F C) (acc : List B) (i : ℕ) (x : X) (xs : List X) →
+  pub gathering_more : (next : List B → Evaluation F C) (acc : List B) (i : ℕ) (x : X) (xs : List X) →
       gathering next acc i (x ∷ xs) ≡ bind (act i x) (λ v. gathering next (acc ++ piece i x v) (i + 1) xs)
   unfolding gathering
   gathering_more next acc i x xs =
@@ -111,7 +111,7 @@ module _ {F X A B C : Type 0} (act : ℕ → X → Outcome F A) (piece : ℕ →
       bind-done (piece i x v ++ rest) (λ more. next (acc ++ more)) ∙ ap next (sym (append_assoc acc (piece i x v) rest))))
 
 -- what is gathered from two lists, one behind the other
-module _ {F X A B : Type 0} (act : ℕ → X → Outcome F A) (piece : ℕ → X → A → List B) where
+module _ {F X A B : Type 0} (act : ℕ → X → Evaluation F A) (piece : ℕ → X → A → List B) where
   next_place : (i : ℕ) (x : X) (xs : List X) → (i + 1) + length xs ≡ i + length (x ∷ xs)
   next_place i x xs = omega arith
 

@@ -1,4 +1,4 @@
-pub mod Outcome
+pub mod Evaluation
 pub mod Recorded
 pub mod Running
 pub mod Settling

@@ -7,7 +7,7 @@ use Rattle.std.specs.FinSet as set
 use Rattle.std.specs.Coded.{Coded, code_by, coded×, coded_ℕ}
 use Rattle.doc_tree.specs.declared.cell.Cell.{Cell}
 use Rattle.doc_tree.specs.declared.cell.Cell.TheVariants.{Kids, Shape, Attrs, Value, Text}
-use Rattle.xp_outcome.specs.Outcome.{Read, cell, variable}
+use Rattle.xp_outcome.specs.Evaluation.{Read, cell, variable}
 
 -- the kind of a cell, as a number
 abbrev pub kind_number : Cell → ℕ

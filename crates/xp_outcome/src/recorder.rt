@@ -2,7 +2,7 @@
 
 ghost use Rattle.std.specs.Prelude.{◌≡◌, OnOk, OnErr};
 ghost use Rattle.std.specs.FinSet as set;
-ghost use Rattle.xp_outcome.specs.Outcome.{cell as of_cell, variable};
+ghost use Rattle.xp_outcome.specs.Evaluation.{cell as of_cell, variable};
 ghost use Rattle.xp_outcome.specs.Recorded.{nothing_read, note, without_lets_from};
 
 use crate::cell_set::CellSet;

@@ -14,7 +14,7 @@ use Rattle.xp_typed_tree.specs.TypedView.{pattern_step_seen, path_seen, paths_se
 use Rattle.xp_typed_tree.specs.WellTyped.{PatternStepsTyped, PathsTyped}
 use Rattle.xp_outcome.specs.Recorded.{Recorded}
 use Rattle.xp_outcome.specs.Running.{Stop, Ran}
-use Rattle.xp_outcome.specs.Outcome.{done, bind}
+use Rattle.xp_outcome.specs.Evaluation.{done, bind}
 use Rattle.xp_outcome.proofs.Outcomes.{bind-done, bind_assoc, bind_alike}
 use Rattle.xp_outcome.proofs.Runs.{next_item, no_item, ran_alike}
 use Rattle.xp_values.specs.declared.values.EvalFault.{EvalFault}

@@ -11,7 +11,7 @@ use Rattle.doc_axes.specs.NodeTests.{passes}
 use Rattle.xp_tree.specs.declared.pattern.Join.{Join}
 use Rattle.xp_tree.specs.declared.pattern.Join.TheVariants as joins
 use Rattle.xp_typed_tree.specs.TypedTree.{TypedPatternStepTree, TypedPathTree}
-use Rattle.xp_outcome.specs.Outcome.{Outcome, done, bind, visit, gather}
+use Rattle.xp_outcome.specs.Evaluation.{Evaluation, done, bind, visit, gather}
 use Rattle.xp_values.specs.declared.values.EvalFault.{EvalFault}
 use Rattle.xp_meaning.specs.Paths.{Step, step_at, placed}
 use Rattle.xp_meaning.specs.Evaluation.{Lets, meanings, all_true}
@@ -56,37 +56,37 @@ abbrev pub standing : Table → TypedPatternStepTree → List TypedPatternStepTr
 standing T s ss ms n = filter (λ k. reaches T ss (k ∷ []) n) (led_to T s ms)
 
 -- the step at the parent of a node, where it has one: whether the node is left
-abbrev pub is_left : Table → Step → ℕ → ℕ → Option ℕ → Outcome EvalFault Bool
+abbrev pub is_left : Table → Step → ℕ → ℕ → Option ℕ → Evaluation EvalFault Bool
 is_left T s n k None = done false
 is_left T s n k (Some p) = bind (step_at T s n p) (λ ms. done (mem k ms))
 
 -- whether a node that stands at a step survives its test: by its place among the step's nodes where a predicate is
 -- positional, else by the predicates at the node alone, as position 1 of 1
-abbrev pub survives : Table → Lets → TypedPatternStepTree → ℕ → ℕ → Outcome EvalFault Bool
+abbrev pub survives : Table → Lets → TypedPatternStepTree → ℕ → ℕ → Evaluation EvalFault Bool
 survives T L s n k =
     if some_positional s.predicates then is_left T (step_of T L s) n k (parent_of T k)
     else visit (all_true (meanings T L s.predicates) (placed n 1 1 k))
 
 -- the nodes that survive, tested from the root downwards
-abbrev pub survivors : Table → Lets → TypedPatternStepTree → ℕ → List ℕ → Outcome EvalFault (List ℕ)
+abbrev pub survivors : Table → Lets → TypedPatternStepTree → ℕ → List ℕ → Evaluation EvalFault (List ℕ)
 survivors T L s n ks = gather (λ _ k. survives T L s n k) (λ _ k b. if b then k ∷ [] else []) 1 ks
 
 -- step by step from the left, with the nodes that stand before the step, and those of them to which a chain leads whose
 -- nodes all survived
-abbrev pub chains : Table → Lets → ℕ → List TypedPatternStepTree → List ℕ → List ℕ → Outcome EvalFault Bool
+abbrev pub chains : Table → Lets → ℕ → List TypedPatternStepTree → List ℕ → List ℕ → Evaluation EvalFault Bool
 chains T L n [] ms alive = done (mem n alive)
 chains T L n (s ∷ ss) ms alive =
     bind (survivors T L s n (standing T s ss ms n)) (λ ks.
     chains T L n ss (standing T s ss ms n) (filter (λ k. list_any (λ m. leads T s m k) alive) ks))
 
-abbrev pub path_matches : Table → Lets → ℕ → TypedPathTree → Outcome EvalFault Bool
+abbrev pub path_matches : Table → Lets → ℕ → TypedPathTree → Evaluation EvalFault Bool
 path_matches T L n p = chains T L n p.steps (starts T p.from_root n) (starts T p.from_root n)
 
 -- all path patterns are tested, also behind one that matches, since the first fault is the answer
-abbrev pub some_path : Table → Lets → ℕ → List TypedPathTree → Outcome EvalFault Bool
+abbrev pub some_path : Table → Lets → ℕ → List TypedPathTree → Evaluation EvalFault Bool
 some_path T L n [] = done false
 some_path T L n (p ∷ ps) = bind (path_matches T L n p) (λ b. bind (some_path T L n ps) (λ c. done (b || c)))
 
 -- whether a node matches a pattern: one visit, and those of the tests
-abbrev pub matching : Table → Lets → List TypedPathTree → ℕ → Outcome EvalFault Bool
+abbrev pub matching : Table → Lets → List TypedPathTree → ℕ → Evaluation EvalFault Bool
 matching T L ps n = visit (some_path T L n ps)

@@ -13,7 +13,7 @@ use Rattle.doc_axes.specs.NodeTests.{passes}
 use Rattle.doc_axes.proofs.SubLists.{mem-same, occurs-backwards}
 use Rattle.xp_typed_tree.specs.TypedTree.{TypedTrees, TypedPatternStepTree, no_typed, typed}
 use Rattle.xp_typed_tree.specs.WellTyped.{type_of, is_pattern_axis}
-use Rattle.xp_outcome.specs.Outcome.{Outcome, done, bind, visit, gather}
+use Rattle.xp_outcome.specs.Evaluation.{Evaluation, done, bind, visit, gather}
 use Rattle.xp_values.specs.declared.values.Value.{Value}
 use Rattle.xp_values.specs.declared.values.EvalFault.{EvalFault}
 use Rattle.xp_values.specs.Conversions.{to_truth}
@@ -31,12 +31,12 @@ use Rattle.xslt_match_laws.proofs.Numbers.{Plain, plain_holds, meaning_plain}
 use Rattle.xslt_match_laws.proofs.Gathering.{answered-done, mem-filter, both, parts, sub-mem}
 
 -- a value at a node
-record Valued (at : ℕ → Outcome EvalFault Value) (k : ℕ) : Type 0 where
+record Valued (at : ℕ → Evaluation EvalFault Value) (k : ℕ) : Type 0 where
   pub value : Value
   pub is : (at k).answer ≡ Ok value
 
 -- a predicate whose value at a node is the same at each position and is no number
-module _ (act : ℕ → ℕ → Outcome EvalFault Value) (at : ℕ → Outcome EvalFault Value) (same : (i k : ℕ) → (act i k).answer ≡ (at k).answer)
+module _ (act : ℕ → ℕ → Evaluation EvalFault Value) (at : ℕ → Evaluation EvalFault Value) (same : (i k : ℕ) → (act i k).answer ≡ (at k).answer)
     (plain : (k : ℕ) (v : Value) → (at k).answer ≡ Ok v → Plain v) where
   chosen-is : (i x k : ℕ) (w v : Value) (ns rest : List ℕ) → (at x).answer ≡ Ok w → (at k).answer ≡ Ok v → mem k rest ≡ (mem k ns && to_truth v) →
       (d t : Bool) → eqb k x ≡ d → to_truth w ≡ t → mem k (cond t (x ∷ []) [] ++ rest) ≡ ((d || mem k ns) && to_truth v)
@@ -79,8 +79,8 @@ module _ (T : Table) (L : Lets) (n : ℕ) where
       let q = none_of (is_positional t) (some_positional ts) free in
       let r = none_of (is_number_type (type_of t)) (asks_position t) q.0 in
       let one = came_before (kept (meaning T L t) n ns) (λ ms. filtered (meanings T L ts) n ms) js is in
-      let act : ℕ → ℕ → Outcome EvalFault Value = λ position m. meaning T L t (placed n (length ns) position m) in
-      let at : ℕ → Outcome EvalFault Value = λ m. meaning T L t (placed n 1 1 m) in
+      let act : ℕ → ℕ → Evaluation EvalFault Value = λ position m. meaning T L t (placed n (length ns) position m) in
+      let at : ℕ → Evaluation EvalFault Value = λ m. meaning T L t (placed n 1 1 m) in
       let same : (i m : ℕ) → (act i m).answer ≡ (at m).answer = λ i m. ap (λ o. o.answer) (meaning_same T L n m (length ns) i 1 1 t r.1) in
       let plain : (m : ℕ) (v : Value) → (at m).answer ≡ Ok v → Plain v = λ m v e. meaning_plain T L t (placed n 1 1 m) v r.0 fits.0 e in
       let v = gathered-tested act at same plain 1 ns one.first one.is k among in

@@ -8,7 +8,7 @@ use Rattle.xp_typed_tree.specs.declared.operators.ArithOp.{ArithOp}
 use Rattle.xp_typed_tree.specs.declared.function.Function.{Function}
 use Rattle.xp_typed_tree.specs.declared.function.Function.TheVariants as functions
 use Rattle.xp_typed_tree.specs.TypedTree.{TypedTree, TypedPlace, Comparands, Combinands, TypedTrees, disjunction, conjunction, comparison, arithmetic, negation, union, location, selection, slot, text, whole, application, at_root, at_context, at_nodes, no_comparands, comparand, no_combinands, combinand, no_typed, typed}
-use Rattle.xp_outcome.specs.Outcome.{Outcome, done, given, bind, visit, gather}
+use Rattle.xp_outcome.specs.Evaluation.{Evaluation, done, given, bind, visit, gather}
 use Rattle.xp_outcome.proofs.Outcomes.{bind_alike}
 use Rattle.xp_values.specs.declared.values.Value.{Value}
 use Rattle.xp_values.specs.declared.values.Value.TheVariants.{NodeSet, Truth, Number, Chars}
@@ -33,7 +33,7 @@ none_of true b h = absurd (true≢false h)
 none_of false b h = (refl, h)
 
 -- one evaluation after another
-binds : {F A B : Type 0} (m k : Outcome F A) (f g : A → Outcome F B) → m ≡ k → ((v : A) → f v ≡ g v) → bind m f ≡ bind k g
+binds : {F A B : Type 0} (m k : Evaluation F A) (f g : A → Evaluation F B) → m ≡ k → ((v : A) → f v ≡ g v) → bind m f ≡ bind k g
 binds m k f g is all = ap (λ o. bind o f) is ∙ bind_alike k f g all
 
 module _ (T : Table) (L : Lets) (current node size position others place : ℕ) where
@@ -78,7 +78,7 @@ module _ (T : Table) (L : Lets) (current node size position others place : ℕ) 
       (λ w. bind (number_in T w) (λ y. bind (given (arith (operation_of m.operator) x y)) (λ z. combined T ms z there))) h.0
       (λ w. bind_alike (number_in T w) _ _ (λ y. bind_alike (given (arith (operation_of m.operator) x y)) _ _ (λ z. combined_same ms z h.1)))
 
-  abbrev act : (ℕ → Want) → Context → ℕ → Meaning → Outcome EvalFault Value
+  abbrev act : (ℕ → Want) → Context → ℕ → Meaning → Evaluation EvalFault Value
   act want c i m = bind (m c) (λ v. as_wanted T (want i) v)
 
   abbrev piece : ℕ → Meaning → Value → List Value

@@ -5,7 +5,7 @@ use Rattle.std.specs.List.{list_any}
 use Rattle.doc_tree.specs.Lists.{mem}
 use Rattle.doc_tree.proofs.ListLemmas.{In, In-mem, mem-In, mem-append}
 use Rattle.doc_axes.proofs.SubLists.{Sub, sub-occurs, mem-append_is}
-use Rattle.xp_outcome.specs.Outcome.{Outcome, done, bind, gather}
+use Rattle.xp_outcome.specs.Evaluation.{Evaluation, done, bind, gather}
 use Rattle.xp_values.specs.declared.values.EvalFault.{EvalFault}
 use Rattle.xp_meaning.proofs.Choices.{came_before, same_ok}
 use Rattle.xslt_match.proofs.Filters.{and-false}
@@ -65,7 +65,7 @@ pub sub-mem : (k : ℕ) (xs ys : List ℕ) → Sub xs ys → mem k xs ≡ true �
 sub-mem k xs ys s h = let i : In k xs = mem-In k xs h in let j : In k ys = omega (arith, i, sub-occurs k s) in In-mem k ys j
 
 -- a number is drawn from the piece of some item
-pub record Drawn {A : Type 0} (f : ℕ → Outcome EvalFault A) (g : ℕ → A → List ℕ) (xs : List ℕ) (k : ℕ) : Type 0 where
+pub record Drawn {A : Type 0} (f : ℕ → Evaluation EvalFault A) (g : ℕ → A → List ℕ) (xs : List ℕ) (k : ℕ) : Type 0 where
   pub at : ℕ
   pub listed : mem at xs ≡ true
   pub value : A
@@ -73,13 +73,13 @@ pub record Drawn {A : Type 0} (f : ℕ → Outcome EvalFault A) (g : ℕ → A �
   pub drawn : mem k (g at value) ≡ true
 
 -- an item gives its piece
-pub record Given {A : Type 0} (f : ℕ → Outcome EvalFault A) (g : ℕ → A → List ℕ) (ys : List ℕ) (x : ℕ) : Type 0 where
+pub record Given {A : Type 0} (f : ℕ → Evaluation EvalFault A) (g : ℕ → A → List ℕ) (ys : List ℕ) (x : ℕ) : Type 0 where
   pub value : A
   pub answer : (f x).answer ≡ Ok value
   pub keeps : (k : ℕ) → mem k (g x value) ≡ true → mem k ys ≡ true
 
-module _ {A : Type 0} (f : ℕ → Outcome EvalFault A) (g : ℕ → A → List ℕ) where
-  abbrev all : ℕ → List ℕ → Outcome EvalFault (List ℕ)
+module _ {A : Type 0} (f : ℕ → Evaluation EvalFault A) (g : ℕ → A → List ℕ) where
+  abbrev all : ℕ → List ℕ → Evaluation EvalFault (List ℕ)
   all i xs = gather (λ _ x. f x) (λ _ x v. g x v) i xs
 
   given-one : (z x : ℕ) (v : A) (zs rest ys : List ℕ) → (f z).answer ≡ Ok v → g z v ++ rest ≡ ys → (mem x zs ≡ true → Given f g rest x) →

@@ -9,7 +9,7 @@ use Rattle.xp_typed_tree.specs.declared.function.Function.{Function}
 use Rattle.xp_typed_tree.specs.declared.function.Function.TheVariants as functions
 use Rattle.xp_typed_tree.specs.TypedTree.{TypedTree, Comparands, disjunction, conjunction, comparison, arithmetic, negation, union, location, selection, slot, text, whole, application, no_comparands, comparand}
 use Rattle.xp_typed_tree.specs.WellTyped.{type_of, result_type}
-use Rattle.xp_outcome.specs.Outcome.{Outcome, done, given, fault, bind, behind, visit, reading}
+use Rattle.xp_outcome.specs.Evaluation.{Evaluation, done, given, fault, bind, behind, visit, reading}
 use Rattle.xp_outcome.specs.Slots.{in_slot}
 use Rattle.xp_values.specs.declared.values.Value.{Value}
 use Rattle.xp_values.specs.declared.values.Value.TheVariants.{NodeSet, Truth, Number, Chars}
@@ -46,7 +46,7 @@ done_plain : (w v : Value) → Plain w → (done {F = EvalFault} w).answer ≡ O
 unfolding done
 done_plain w v h is = subst Plain (same_ok {F = EvalFault} w v is) h
 
-made_plain : {A : Type 0} (m : Outcome EvalFault A) (f : A → Value) (v : Value) → ((x : A) → Plain (f x)) → (bind m (λ x. done (f x))).answer ≡ Ok v → Plain v
+made_plain : {A : Type 0} (m : Evaluation EvalFault A) (f : A → Value) (v : Value) → ((x : A) → Plain (f x)) → (bind m (λ x. done (f x))).answer ≡ Ok v → Plain v
 made_plain m f v all is = let b = came_before m (λ x. done (f x)) v is in done_plain (f b.first) v (all b.first) b.then
 
 chars_plain : (r : Result (List ℕ) EvalFault) (v : Value) → (given (as_chars r)).answer ≡ Ok v → Plain v

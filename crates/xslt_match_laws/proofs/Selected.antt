@@ -13,7 +13,7 @@ use Rattle.doc_axes.specs.Axes.{on_axis}
 use Rattle.doc_axes.specs.Sets.{in_order}
 use Rattle.xp_typed_tree.specs.TypedTree.{TypedPathTree, TypedSteps, location}
 use Rattle.xp_typed_tree.specs.WellTyped.{PatternStepsTyped, PathsTyped}
-use Rattle.xp_outcome.specs.Outcome.{Outcome, done, bind, gather}
+use Rattle.xp_outcome.specs.Evaluation.{Evaluation, done, bind, gather}
 use Rattle.xp_values.specs.declared.values.Value.{Value}
 use Rattle.xp_values.specs.declared.values.Value.TheVariants.{NodeSet}
 use Rattle.xp_values.specs.declared.values.EvalFault.{EvalFault}
@@ -85,7 +85,7 @@ module _ (T : Table) (L : Lets) (n m : ℕ) where
       at true ns e = answered-done (0 ∷ []) ns e
       at false ns e = answered-done (m ∷ []) ns e
 
-  abbrev act : ℕ → Meaning → Outcome EvalFault Value
+  abbrev act : ℕ → Meaning → Evaluation EvalFault Value
   act i meant = bind (meant (placed n 1 1 m)) (λ v. as_wanted T AsItIs v)
 
   abbrev piece : ℕ → Meaning → Value → List Value

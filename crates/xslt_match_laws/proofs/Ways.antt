@@ -11,7 +11,7 @@ use Rattle.doc_axes.specs.Sets.{in_order}
 use Rattle.xp_tree.specs.declared.pattern.Join.{Join}
 use Rattle.xp_tree.specs.declared.pattern.Join.TheVariants as joins
 use Rattle.xp_typed_tree.specs.TypedTree.{TypedSteps, TypedPatternStepTree, typed_step, no_typed}
-use Rattle.xp_outcome.specs.Outcome.{Outcome, done, gather}
+use Rattle.xp_outcome.specs.Evaluation.{Evaluation, done, gather}
 use Rattle.xp_values.specs.declared.values.EvalFault.{EvalFault}
 use Rattle.xp_meaning.specs.Paths.{Step, candidates, filtered, step_at, step_from, path}
 use Rattle.xp_meaning.specs.Evaluation.{Lets, steps_meant}
@@ -110,7 +110,7 @@ module _ (T : Table) (n : ℕ) where
       ∙ found-is T axes.DescendantOrSelf tests.Any m x ∙ and-true (mem x (order T) && on_axis T axes.DescendantOrSelf m x)
 
   -- a step from some nodes: what it selects at each in order
-  abbrev at_each : Step → ℕ → Outcome EvalFault (List ℕ)
+  abbrev at_each : Step → ℕ → Evaluation EvalFault (List ℕ)
   at_each s m = step_at T s n m
 
   abbrev whole_set : ℕ → List ℕ → List ℕ
@@ -210,7 +210,7 @@ pub record Begun (T : Table) (L : Lets) (n : ℕ) (ss : List TypedPatternStepTre
   pub way : Way T L n ss node
 
 module _ (T : Table) (L : Lets) (n : ℕ) where
-  abbrev walks : List TypedPatternStepTree → List ℕ → Outcome EvalFault (List ℕ)
+  abbrev walks : List TypedPatternStepTree → List ℕ → Evaluation EvalFault (List ℕ)
   walks ss ms = path T (steps_meant T L (as_steps ss)) n ms
 
   -- a path without fault has none at any node from which it goes

@@ -1,5 +1,5 @@
 use Rattle.std.proofs.Common.{◌∙◌, ap, ap₂, sym, not, length}
-use Rattle.xp_outcome.specs.Outcome.{done, given}
+use Rattle.xp_outcome.specs.Evaluation.{done, given}
 use Rattle.xp_outcome.proofs.Runs.{ran_alike, ran_done}
 use Rattle.xp_convert.proofs.Exits.{ran_done_at, ran_given}
 use Rattle.xp_values.specs.declared.values.Value.TheVariants.{Truth, Number, Chars}

@@ -1,5 +1,5 @@
 use Rattle.std.proofs.Common.{◌∙◌, sym, ap}
-use Rattle.xp_outcome.specs.Outcome.{done}
+use Rattle.xp_outcome.specs.Evaluation.{done}
 use Rattle.xp_outcome.specs.Running.{no_memory}
 use Rattle.xp_outcome.proofs.Runs.{ran_alike, ran_done}
 use Rattle.xp_values.specs.declared.values.EvalFault.{EvalFault}

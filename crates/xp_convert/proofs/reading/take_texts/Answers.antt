@@ -1,5 +1,5 @@
 use Rattle.std.proofs.Common.{ℕ, List, ◌∙◌, ap, drop, ◌+◌}
-use Rattle.xp_outcome.specs.Outcome.{done}
+use Rattle.xp_outcome.specs.Evaluation.{done}
 use Rattle.xp_outcome.specs.Recorded.{note}
 use Rattle.xp_values.specs.declared.values.EvalFault.{EvalFault}
 use Rattle.xp_outcome.proofs.Runs.{next_item, no_item, onto_alike, onto_moved, onto_visit, onto_reading, onto_done}

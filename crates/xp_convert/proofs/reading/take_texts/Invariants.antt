@@ -1,5 +1,5 @@
 use Rattle.std.proofs.Common.{drop}
-use Rattle.xp_outcome.specs.Outcome.{done}
+use Rattle.xp_outcome.specs.Evaluation.{done}
 use Rattle.xp_outcome.specs.Running.{Onto}
 use Rattle.xp_values.specs.declared.values.EvalFault.{EvalFault}
 use Rattle.xp_convert.specs.Reads.{taking}

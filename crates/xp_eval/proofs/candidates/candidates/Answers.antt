@@ -3,7 +3,7 @@ use Rattle.std.specs.Prelude.{filter}
 use Rattle.doc_tree.specs.Lists.{mem}
 use Rattle.doc_axes.specs.Axes.{axis_nodes}
 use Rattle.doc_axes.specs.NodeTests.{passes}
-use Rattle.xp_outcome.specs.Outcome.{done}
+use Rattle.xp_outcome.specs.Evaluation.{done}
 use Rattle.xp_outcome.proofs.Runs.{ran_all_reading, ran_visits, ran_late, ran_moved, ran_alike}
 use Rattle.xp_values.specs.declared.values.EvalFault.{EvalFault}
 use Rattle.xp_convert.proofs.Exits.{exit_alloc}

@@ -2,7 +2,7 @@ use Rattle.std.specs.Prelude.{flat_map}
 use Rattle.std.proofs.Common.{ℕ, ◌+◌, ◌∷◌, [], ◌++◌, List, drop, length, refl, sym, ◌∙◌, ap}
 use Rattle.doc_axes.specs.Sets.{in_order}
 use Rattle.xp_typed_tree.specs.TypedView.{typed_tree_of, typed_seen}
-use Rattle.xp_outcome.specs.Outcome.{done, bind}
+use Rattle.xp_outcome.specs.Evaluation.{done, bind}
 use Rattle.xp_outcome.proofs.Runs.{next_item, no_item, ran_alike, ran_bind, ran_stop, ran_done, ran_late, onto_alike, onto_bind, onto_stop, onto_done, onto_late, onto_end}
 use Rattle.xp_values.specs.declared.values.Value.{Value}
 use Rattle.xp_values.specs.declared.values.Value.TheVariants.{NodeSet}

@@ -1,6 +1,6 @@
 use Rattle.std.proofs.Common.{◌≡◌, ◌+◌, drop, length, [], ◌∷◌}
 use Rattle.xp_typed_tree.specs.TypedView.{typed_tree_of, typed_seen, compared_list_seen, combined_list_seen, typed_steps_seen}
-use Rattle.xp_outcome.specs.Outcome.{done, bind}
+use Rattle.xp_outcome.specs.Evaluation.{done, bind}
 use Rattle.xp_outcome.specs.Running.{Onto}
 use Rattle.xp_outcome.proofs.Outcomes.{gathering}
 use Rattle.doc_axes.specs.Sets.{in_order}

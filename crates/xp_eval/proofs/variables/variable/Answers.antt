@@ -1,5 +1,5 @@
 use Rattle.std.proofs.Common.{◌∙◌, ap, refl, sym, option_copied}
-use Rattle.xp_outcome.specs.Outcome.{reading, variable}
+use Rattle.xp_outcome.specs.Evaluation.{reading, variable}
 use Rattle.xp_outcome.proofs.Runs.{ran_alike, ran_moved, ran_reading}
 use Rattle.xp_convert.proofs.Exits.{ran_done_at, ran_given}
 use Rattle.xp_values.specs.declared.values.Value.TheVariants.{NodeSet}

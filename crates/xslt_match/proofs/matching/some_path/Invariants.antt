@@ -1,5 +1,5 @@
 use Rattle.std.proofs.Common.{◌||◌, drop}
-use Rattle.xp_outcome.specs.Outcome.{done, bind}
+use Rattle.xp_outcome.specs.Evaluation.{done, bind}
 use Rattle.xp_outcome.specs.Running.{Onto}
 use Rattle.xp_typed_tree.specs.TypedView.{paths_seen}
 use Rattle.xp_typed_tree.specs.WellTyped.{PathsTyped}

@@ -1,5 +1,5 @@
 use Rattle.std.proofs.Common.{◌+◌, [], ◌∷◌, drop, refl, if◌then◌else◌}
-use Rattle.xp_outcome.specs.Outcome.{done}
+use Rattle.xp_outcome.specs.Evaluation.{done}
 use Rattle.xp_outcome.proofs.Runs.{next_item, no_item, onto_done, onto_late}
 use Rattle.xp_convert.proofs.Exits.{exit_same, exit_memory}
 use Rattle.xp_typed_tree.specs.TypedView.{pattern_step_seen}

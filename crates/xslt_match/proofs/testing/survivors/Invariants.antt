@@ -1,5 +1,5 @@
 use Rattle.std.proofs.Common.{◌+◌, drop, [], ◌∷◌, if◌then◌else◌}
-use Rattle.xp_outcome.specs.Outcome.{done}
+use Rattle.xp_outcome.specs.Evaluation.{done}
 use Rattle.xp_outcome.specs.Running.{Onto}
 use Rattle.xp_outcome.proofs.Outcomes.{gathering}
 use Rattle.xp_typed_tree.specs.TypedView.{pattern_step_seen}
