@@ -39,7 +39,7 @@ pub fn is_name_start(c: char) -> bool
     )
 }
 
-/// Whether a name may have the character behind its first one: NameChar of XML 1.0, section 2.3, without the colon.
+/// Whether a name may have the character after its first one: NameChar of XML 1.0, section 2.3, without the colon.
 #[tactic(auto, unfolding(crate::specs::Characters::is_name_char))]
 pub fn is_name_char(c: char) -> bool
     ensures { result ≡ is_name_char c }

@@ -1,6 +1,6 @@
 //! The lists of every layer: they grow at their end and are read by place.
 
-ghost use Rattle.std.specs.Prelude.{◌≡◌, ◌==◌, [], ◌∷◌, ◌++◌, length, slice_get, OnOk, OnErr};
+ghost use Rattle.std.specs.Prelude.{◌≡◌, ◌==◌, [], ◌∷◌, ◌++◌, if◌then◌else◌, length, reverse, slice_get, IfOk, OnOk, OnErr};
 ghost use Rattle.std.specs.Option.{option_copied};
 
 use std::alloc::{AllocError, Global};
@@ -57,6 +57,14 @@ impl<T> ItemList<T> {
     {
         self.items.as_slice().get(index)
     }
+
+    /// The items from the last to the first. They are turned round where they are, so that no memory is taken.
+    pub fn reversed(mut self) -> ItemList<T>
+        ensures { result ≡ reverse self }
+    {
+        self.items.reverse();
+        self
+    }
 }
 
 impl<T: Drop> ItemList<T> {
@@ -67,5 +75,44 @@ impl<T: Drop> ItemList<T> {
     {
         self.items.push(item)?;
         Ok(())
+    }
+
+    /// Puts the item at the end if it stays, and else drops it; without memory the list stays as it was.
+    pub fn push_if(&mut self, item: T, stays: bool) -> Result<(), AllocError>
+        ensures pushed { OnOk result (self.new ≡ self.old ++ (if stays then item ∷ [] else [])) }
+        ensures unchanged { OnErr result (self.new ≡ self.old) }
+    {
+        if stays {
+            self.push(item)?;
+        }
+        Ok(())
+    }
+
+    /// The list of one item.
+    pub fn of_one(alloc: Global, item: T) -> Result<ItemList<T>, AllocError>
+        ensures { IfOk result (λ list. list ≡ item ∷ []) }
+    {
+        let mut list = ItemList::new(alloc);
+        list.push(item)?;
+        Ok(list)
+    }
+}
+
+impl<T: Copy> ItemList<T> {
+    /// Puts the items at the end in their order; without memory the list stays as it was. Memory is asked for once.
+    pub fn push_all(&mut self, items: &[T]) -> Result<(), AllocError>
+        ensures pushed { OnOk result (self.new ≡ self.old ++ items.now) }
+        ensures unchanged { OnErr result (self.new ≡ self.old) }
+    {
+        self.items.extend_from_slice(items)
+    }
+
+    /// A list of its own with the same items.
+    pub fn copy_of(alloc: Global, items: &[T]) -> Result<ItemList<T>, AllocError>
+        ensures { IfOk result (λ list. list ≡ items.now) }
+    {
+        let mut list = ItemList::new(alloc);
+        list.push_all(items)?;
+        Ok(list)
     }
 }

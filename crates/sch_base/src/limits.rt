@@ -1,9 +1,10 @@
-//! What the layers above hold at most.
+//! The limits of schemas, expressions and evaluations. Those of a file stand in `sch_io`, and those of a tree in
+//! `doc_tree`, whose count of a whole document's text has the same value as the limit of one text made here.
 
-/// Bytes of one text made by evaluation, and of the expanded schema.
+/// Bytes of one text that an evaluation makes, and of the expanded schema.
 pub const MAX_TEXT_BYTES: usize = 16_777_216;
 
-/// Bytes of one expression.
+/// Bytes of one expression or pattern, as it stands in the schema.
 pub const MAX_EXPRESSION_BYTES: usize = 65_536;
 
 /// Brackets and signs that are open at one place of an expression.
@@ -12,7 +13,7 @@ pub const MAX_NESTING: usize = 64;
 /// Rules of the expanded schema.
 pub const MAX_RULES: usize = 4_096;
 
-/// Assertions of the expanded schema.
+/// Assertions and reports of the expanded schema, together.
 pub const MAX_ASSERTIONS: usize = 16_384;
 
 /// Lets of the expanded schema.
@@ -24,7 +25,7 @@ pub const MAX_ACTIVE_PATTERNS: usize = 1_024;
 /// Includes of a schema in all.
 pub const MAX_INCLUDES: usize = 256;
 
-/// Depth of a chain of includes.
+/// Includes that stand inside one another.
 pub const MAX_INCLUDE_DEPTH: usize = 16;
 
 /// Active patterns times live nodes.

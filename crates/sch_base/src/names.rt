@@ -6,8 +6,9 @@ ghost use Rattle.std.specs.Str.{chars};
 ghost use Rattle.sch_base.specs.Characters.{is_name_char};
 ghost use Rattle.sch_base.specs.Names.{is_ncname, split_qname};
 
-use super::characters::{is_name_char, is_name_start};
+use crate::characters::{is_name_char, is_name_start};
 
+/// Whether all characters of the text may stand in a name after its first one.
 fn are_name_chars(s: &str) -> bool
     ensures { result ≡ list_all is_name_char (chars s.now) }
 {
@@ -29,7 +30,7 @@ pub fn is_ncname(s: &str) -> bool
 ///
 /// The answer is the length of the prefix and the place where the local part begins, both in bytes: `(0, 0)` for
 /// `a`, `(1, 2)` for `p:a`. It is None exactly where the text is no QName.
-#[tactic(auto, using(crate::proofs::NameLemmas::none_passes))]
+#[tactic(auto, using(crate::proofs::Lists::none_passes))]
 pub fn split_qname(s: &str) -> Option<(usize, usize)>
     ensures { result ≡ split_qname s.now }
 {
