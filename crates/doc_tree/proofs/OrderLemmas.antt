@@ -1,13 +1,13 @@
 -- Places in document order, from the laws of a tree: what stands before what, and below what.
 use Rattle.std.proofs.Common.{◌≡◌, ◌≢◌, ℕ, ◌+◌, ◌-◌, ◌<◌, ◌≤◌, suc, zero, Bool, true, false, cond, List, [], ◌∷◌, ◌++◌, ◌⊎◌, length, Option, None, Some, refl, sym, ap, ◌∙◌, subst, inl, inr, ⊎_elim, true≢false, arith, append_assoc, eqb, ltb, eqb-true, eq-eqb, ltb-true, ltb-false}
 use Rattle.std.specs.List.{flat_map}
-use Rattle.doc_tree.specs.declared.limits.TheConstants.{MAX_DEPTH}
-use Rattle.doc_tree.specs.Lists.{mem, occurs, Distinct}
-use Rattle.doc_tree.specs.Table.{Table, parent_of, kids_of, attrs_of, is_live}
-use Rattle.doc_tree.specs.Walks.{ancestors, above, order, below}
-use Rattle.doc_tree.specs.Order.{after, comes_first, is_before, Nested, IsUp}
-use Rattle.doc_tree.specs.Laws.{WellFormed, Ordered, HasWaysUp}
-use Rattle.doc_tree.proofs.ListLemmas.{In, In-mem, mem-In, In-cons, In-append, none-mem, occurs-append, occurs-head, flat_map-same, singles, eq_or}
+use Rattle.doc_table.specs.declared.limits.TheConstants.{MAX_DEPTH}
+use Rattle.doc_table.specs.Lists.{mem, occurs, Distinct}
+use Rattle.doc_table.specs.Table.{Table, parent_of, kids_of, attrs_of, is_live}
+use Rattle.doc_table.specs.Walks.{ancestors, above, order, below}
+use Rattle.doc_table.specs.Order.{after, comes_first, is_before, Nested, IsUp}
+use Rattle.doc_table.specs.Laws.{WellFormed, Ordered, HasWaysUp}
+use Rattle.doc_table.proofs.ListLemmas.{In, In-mem, mem-In, In-cons, In-append, none-mem, occurs-append, occurs-head, flat_map-same, singles, eq_or}
 
 -- one number stands in a front part of a list, another in the rest
 pub record Apart (a b : ℕ) (xs : List ℕ) : Type 0 where

@@ -1,15 +1,14 @@
 //! Which of two nodes comes first in document order.
 
 ghost use Rattle.std.specs.Prelude.{◌≡◌, ◌≢◌, ℕ, ◌≤◌, ◌++◌, true, length, Some};
-ghost use Rattle.doc_tree.specs.Kept.{IsPlace};
-ghost use Rattle.doc_tree.specs.Lists.{mem};
-ghost use Rattle.doc_tree.specs.Order.{comes_first, is_before, IsUp, Nested};
-ghost use Rattle.doc_tree.specs.Table.{is_live, attrs_of, kids_of, parent_of};
-ghost use Rattle.doc_tree.specs.Walks.{ancestors, below};
+ghost use Rattle.doc_table.specs.inner.Kept.{IsPlace};
+ghost use Rattle.doc_table.specs.Lists.{mem};
+ghost use Rattle.doc_table.specs.Order.{comes_first, is_before, IsUp, Nested};
+ghost use Rattle.doc_table.specs.Table.{is_live, attrs_of, kids_of, parent_of};
+ghost use Rattle.doc_table.specs.Walks.{ancestors, below};
 
-use crate::ids::NodeId;
-use crate::kinds::Kind;
-use crate::tree::{Tree, node_at};
+use crate::tree::Tree;
+use doc_table::{Kind, NodeId};
 
 impl Tree {
     /// Whether `a` stands before `b` in document order (XPath 1.0 section 5).
@@ -54,10 +53,7 @@ impl Tree {
         requires { is_live self.now.nodes n ≡ true }
         ensures { result ≡ length (ancestors self.now.nodes n) }
     {
-        match node_at(self.nodes.as_slice(), n) {
-            Some(node) => node.depth,
-            None => 0,
-        }
+        self.bare.depth(n)
     }
 
     /// The ancestor of a live node so many levels up, or the node itself for none.
@@ -124,9 +120,6 @@ impl Tree {
     fn place(&self, n: NodeId) -> u32
         ensures { IsPlace self.now.nodes n result }
     {
-        match node_at(self.nodes.as_slice(), n) {
-            Some(node) => node.place,
-            None => 0,
-        }
+        self.bare.place(n)
     }
 }

@@ -1,19 +1,15 @@
 //! Namespace declarations, and the namespaces of prefixes in scope (Namespaces in XML 1.0).
 
-ghost use Rattle.std.specs.Prelude.{◌≡◌, ◌<◌, List, ℕ, None, Some, length, IfOk, OnOk, OnErr, slice_index_or, slice_set, vec_len, vec_capacity};
+ghost use Rattle.std.specs.Prelude.{◌≡◌, None, Some, length, OnOk, OnErr};
 ghost use Rattle.std.specs.Option.{option_copied};
 ghost use Rattle.std.specs.Str.{bytes_eq};
-ghost use Rattle.doc_tree.specs.declared.kinds.Kind.TheVariants.{Element};
-ghost use Rattle.doc_tree.specs.Table.{kind_of, decls_of, Name, decls_in};
-ghost use Rattle.doc_tree.specs.Views.{content_seen};
-ghost use Rattle.doc_tree.specs.Scope.{HasScopes, decl_at, first_declared, namespace_at, scope_at, undeclared, xml_namespace, xml_prefix, xmlns_prefix};
-ghost use Rattle.doc_tree.specs.Declaring.{Declared};
-ghost use Rattle.doc_tree.specs.KeptDecls.{kept_declaring, kept_declaring_at};
+ghost use Rattle.doc_table.specs.declared.kind.Kind.TheVariants.{Element};
+ghost use Rattle.doc_table.specs.Table.{kind_of, decls_of};
+ghost use Rattle.doc_table.specs.Scope.{HasScopes, decl_at, first_declared, namespace_at, scope_at, undeclared, xml_namespace, xml_prefix, xmlns_prefix};
+ghost use Rattle.doc_table.specs.Declaring.{Declared};
 
-use crate::ids::NodeId;
-use crate::node::{Decl, Node, NodeContent};
-use crate::tree::{Tree, node_at};
-use sch_base::Text;
+use crate::tree::Tree;
+use doc_table::{Decl, NodeId};
 use std::alloc::AllocError;
 
 impl Tree {
@@ -33,11 +29,7 @@ impl Tree {
         ensures names { self.new.names ≡ self.old.names }
         ensures unchanged { OnErr result (self.new ≡ self.old) }
     {
-        let decl = Decl {
-            prefix: Text::copy(self.alloc, prefix)?,
-            uri: Text::copy(self.alloc, uri)?,
-        };
-        declare(&mut self.nodes, element, decl)
+        self.bare.append_decl(element, prefix, uri)
     }
 
     /// How many declarations an element has; none where the node is no element.
@@ -92,7 +84,7 @@ impl Tree {
     pub fn scope_laws(&self)
         ensures { HasScopes self.now.nodes }
     {
-        let _ = &self.live;
+        self.bare.scope_laws()
     }
 
     /// The namespace that the nearest declaration of a prefix gives it.
@@ -114,73 +106,7 @@ impl Tree {
     fn decls(&self, n: NodeId) -> &[Decl]
         ensures { result.now ≡ decls_of self.now.nodes n }
     {
-        match node_at(self.nodes.as_slice(), n) {
-            Some(node) => node.content.decls(),
-            None => &[],
-        }
-    }
-}
-
-impl Decl {
-    /// The prefix, empty for the default namespace.
-    fn prefix(&self) -> &str
-        ensures { result.now ≡ self.now.0 }
-    {
-        self.prefix.as_str()
-    }
-
-    /// The namespace.
-    fn uri(&self) -> &str
-        ensures { result.now ≡ self.now.1 }
-    {
-        self.uri.as_str()
-    }
-}
-
-impl NodeContent {
-    /// The declarations; none where it is no element's content.
-    fn decls(&self) -> &[Decl]
-        ensures { (names : List Name) → decls_in (content_seen names self.now) ≡ result.now }
-    {
-        match self {
-            NodeContent::Element(_, decls) => decls.as_slice(),
-            NodeContent::Root
-            | NodeContent::Attribute(_, _)
-            | NodeContent::Text(_)
-            | NodeContent::Comment(_)
-            | NodeContent::Pi(_, _) => &[],
-        }
-    }
-}
-
-impl Node {
-    /// Puts a declaration at the end of those of an element.
-    fn declare(&mut self, decl: Decl) -> Result<(), AllocError>
-        ensures declared { OnOk result (self.new ≡ kept_declaring decl self.old) }
-        ensures unchanged { OnErr result (self.new ≡ self.old) }
-    {
-        match &mut self.content {
-            NodeContent::Element(_, decls) => decls.push(decl),
-            NodeContent::Root
-            | NodeContent::Attribute(_, _)
-            | NodeContent::Text(_)
-            | NodeContent::Comment(_)
-            | NodeContent::Pi(_, _) => Ok(()),
-        }
-    }
-}
-
-/// Puts a declaration at the end of those of an element among the nodes.
-fn declare(nodes: &mut Vec<Option<Node>>, n: NodeId, decl: Decl) -> Result<(), AllocError>
-    requires { n < vec_len nodes.old }
-    ensures declared { OnOk result (nodes.new.items ≡ slice_set nodes.old.items n (kept_declaring_at decl (slice_index_or nodes.old.items n None))) }
-    ensures unchanged { OnErr result (nodes.new.items ≡ nodes.old.items) }
-    ensures len { vec_len nodes.new ≡ vec_len nodes.old }
-{
-    let slot = &mut nodes[n.index()];
-    match slot {
-        Some(node) => node.declare(decl),
-        None => Ok(()),
+        self.bare.decls(n)
     }
 }
 
@@ -204,7 +130,7 @@ pub fn undeclared_namespace(prefix: &str) -> Option<&'static str>
 }
 
 /// Whether a prefix is `xmlns`, which is never in scope.
-#[tactic(auto, unfolding(crate::specs::Scope::xmlns_prefix))]
+#[tactic(auto, unfolding(doc_table::specs::Scope::xmlns_prefix))]
 pub fn is_xmlns(prefix: &str) -> bool
     ensures { result ≡ bytes_eq prefix.now xmlns_prefix }
 {
@@ -212,7 +138,7 @@ pub fn is_xmlns(prefix: &str) -> bool
 }
 
 /// Whether a prefix is `xml`, which is always in scope.
-#[tactic(auto, unfolding(crate::specs::Scope::xml_prefix))]
+#[tactic(auto, unfolding(doc_table::specs::Scope::xml_prefix))]
 pub fn is_xml(prefix: &str) -> bool
     ensures { result ≡ bytes_eq prefix.now xml_prefix }
 {
@@ -220,7 +146,7 @@ pub fn is_xml(prefix: &str) -> bool
 }
 
 /// The namespace of the prefix `xml`.
-#[tactic(auto, unfolding(crate::specs::Scope::xml_namespace))]
+#[tactic(auto, unfolding(doc_table::specs::Scope::xml_namespace))]
 pub fn xml_namespace() -> &'static str
     ensures { result.now ≡ xml_namespace }
 {

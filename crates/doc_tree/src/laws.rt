@@ -1,7 +1,7 @@
 //! What holds of every tree, as calls that do nothing.
 
-ghost use Rattle.doc_tree.specs.Laws.{WellFormed, Ordered, HasWaysUp, Walks};
-ghost use Rattle.doc_tree.specs.Numbering.{EachOnce};
+ghost use Rattle.doc_table.specs.Laws.{WellFormed, Ordered, HasWaysUp, Walks};
+ghost use Rattle.doc_names.specs.Numbering.{EachOnce};
 
 use crate::tree::Tree;
 
@@ -14,7 +14,6 @@ impl Tree {
         ensures walks { Walks self.now.nodes }
         ensures names_once { EachOnce self.now.names }
     {
-        let _ = &self.live;
-        self.names.laws();
+        self.bare.laws();
     }
 }

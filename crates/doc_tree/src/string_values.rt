@@ -1,30 +1,14 @@
 //! The string-values of nodes (XPath 1.0 section 5).
 
-ghost use Rattle.std.specs.Prelude.{◌≡◌, ◌++◌, ℕ, List, IfOk, OnOk, Some, string_bytes};
-ghost use Rattle.doc_tree.specs.Kinds.{holds_kids};
-ghost use Rattle.doc_tree.specs.Table.{Name, kind_of, content_of};
-ghost use Rattle.doc_tree.specs.Views.{content_seen};
-ghost use Rattle.doc_tree.specs.Walks.{characters_in, joined_text, string_value_of};
+ghost use Rattle.std.specs.Prelude.{◌≡◌, ◌++◌, IfOk, OnOk, string_bytes};
+ghost use Rattle.doc_table.specs.Kinds.{holds_kids};
+ghost use Rattle.doc_table.specs.Table.{kind_of, content_of};
+ghost use Rattle.doc_table.specs.Walks.{characters_in, joined_text, string_value_of};
 
-use crate::ids::NodeId;
-use crate::kinds::Kind;
-use crate::node::NodeContent;
-use crate::tree::{Tree, node_at};
+use crate::tree::Tree;
+use doc_table::{Kind, NodeId};
 use sch_base::Text;
 use std::alloc::{AllocError, Global};
-
-impl NodeContent {
-    /// The characters of a text node; empty for every other kind.
-    fn characters(&self) -> &str
-        ensures { (names : List Name) → characters_in (Some (content_seen names self.now)) ≡ result.now }
-    {
-        match self {
-            NodeContent::Text(text) => text.as_str(),
-            NodeContent::Root | NodeContent::Element(_, _) | NodeContent::Attribute(_, _) => "",
-            NodeContent::Comment(_) | NodeContent::Pi(_, _) => "",
-        }
-    }
-}
 
 impl Tree {
     /// The string-value of a node: of the root and elements the joined characters of the texts below, of the other
@@ -54,10 +38,7 @@ impl Tree {
     fn characters(&self, n: NodeId) -> &str
         ensures { result.now ≡ characters_in (content_of self.now.nodes n) }
     {
-        match node_at(self.nodes.as_slice(), n) {
-            Some(node) => node.content.characters(),
-            None => "",
-        }
+        self.bare.characters(n)
     }
 
     /// Puts the characters of all texts below a node at the end of the text, in document order.

@@ -1,17 +1,14 @@
 //! The tree, and its reading calls.
 
-ghost use Rattle.std.specs.Prelude.{◌≡◌, ◌<◌, true, length, Some, None, IfOk, IfSome, OnErr, slice_index_or};
-ghost use Rattle.std.specs.Option.{option_copied, option_map};
-ghost use Rattle.doc_tree.specs.Table.{root_alone, kind_of, name_of, parent_of, kids_of, attrs_of, value_of, is_live, numbered};
-ghost use Rattle.doc_tree.specs.Numbering.{Numbered};
-ghost use Rattle.doc_tree.specs.Kinds.{is_document};
-ghost use Rattle.doc_tree.specs.Walks.{order};
+ghost use Rattle.std.specs.Prelude.{◌≡◌, ◌<◌, true, length, Some, IfOk, IfSome, OnErr};
+ghost use Rattle.std.specs.Option.{option_map};
+ghost use Rattle.doc_table.specs.Table.{root_alone, kind_of, name_of, parent_of, kids_of, attrs_of, value_of, is_live, numbered};
+ghost use Rattle.doc_names.specs.Numbering.{Numbered};
+ghost use Rattle.doc_table.specs.Kinds.{is_document};
+ghost use Rattle.doc_table.specs.Walks.{order};
 
-use crate::ids::{NameId, NodeId};
-use crate::kinds::Kind;
-use crate::names::NameTable;
-use crate::node::{Node, NodeContent};
-use sch_base::ItemList;
+use doc_names::NameId;
+use doc_table::{Bare, Kind, NodeId};
 use std::alloc::{AllocError, Global};
 use std::marker::Model;
 
@@ -21,34 +18,19 @@ use std::marker::Model;
 /// answer of a number that isn't live as of a node that holds nothing.
 #[derive(Drop)]
 pub struct Tree {
-    pub(crate) alloc: Global,
-    pub(crate) nodes: Vec<Option<Node>>,
-    pub(crate) names: NameTable,
-    pub(crate) live: u32,
-    pub(crate) text_bytes: usize,
+    pub(crate) bare: Bare,
 }
 
 impl Model for Tree {
-    ghost use Rattle.doc_tree.specs.Table.{Contents};
+    ghost use Rattle.doc_table.specs.Table.{Contents};
 
     ghost Value = { Contents };
 
-    ghost use Rattle.doc_tree.specs.Views.{table_seen};
-    ghost use Rattle.doc_tree.specs.Sound.{Sound};
+    ghost use Rattle.doc_table.specs.inner.Parts.{contents, IsSound};
 
-    ghost view = { λ t. record { nodes = table_seen t.names t.nodes.items; names = t.names } };
+    ghost view = { λ t. contents t.bare };
 
-    ghost invariant = { λ t. Sound t.nodes.items t.names t.live t.text_bytes };
-}
-
-/// The node with a number, None where it was deleted or never made.
-pub(crate) fn node_at(nodes: &[Option<Node>], n: NodeId) -> Option<&Node>
-    ensures { option_copied result ≡ slice_index_or nodes.now n None }
-{
-    match nodes.get(n.index()) {
-        Some(Some(node)) => Some(node),
-        _ => None,
-    }
+    ghost invariant = { λ t. IsSound t.bare };
 }
 
 impl Tree {
@@ -56,21 +38,8 @@ impl Tree {
     pub fn new(alloc: Global) -> Result<Tree, AllocError>
         ensures { IfOk result (λ tree. tree ≡ root_alone) }
     {
-        let mut nodes = Vec::new(alloc);
-        nodes.push(Some(Node {
-            parent: None,
-            depth: 0,
-            place: 0,
-            kids: ItemList::new(alloc),
-            attributes: ItemList::new(alloc),
-            content: NodeContent::Root,
-        }))?;
         Ok(Tree {
-            alloc,
-            nodes,
-            names: NameTable::new(alloc),
-            live: 1,
-            text_bytes: 0,
+            bare: Bare::new(alloc)?,
         })
     }
 
@@ -81,28 +50,28 @@ impl Tree {
         ensures nodes { self.new.nodes ≡ self.old.nodes }
         ensures unchanged { OnErr result (self.new ≡ self.old) }
     {
-        self.names.number(self.alloc, prefix, local, uri)
+        self.bare.name_id(prefix, local, uri)
     }
 
     /// The root.
     pub fn root(&self) -> NodeId
         ensures { result ≡ 0 }
     {
-        NodeId::from_number(0)
+        self.bare.root()
     }
 
     /// Whether a node with this number lives in the tree.
     pub fn contains(&self, n: NodeId) -> bool
         ensures { result ≡ is_live self.now.nodes n }
     {
-        node_at(self.nodes.as_slice(), n).is_some()
+        self.bare.contains(n)
     }
 
     /// How many nodes live, the root and attributes counted.
     pub fn live_nodes(&self) -> u32
         ensures { result ≡ length (order self.now.nodes) }
     {
-        self.live
+        self.bare.live_nodes()
     }
 
     /// The kind of a live node.
@@ -120,7 +89,7 @@ impl Tree {
     pub(crate) fn kind_if_live(&self, n: NodeId) -> Option<Kind>
         ensures { result ≡ kind_of self.now.nodes n }
     {
-        Some(node_at(self.nodes.as_slice(), n)?.content.kind())
+        self.bare.kind_of(n)
     }
 
     /// Whether the root has exactly one element kid and no text kid.
@@ -144,7 +113,7 @@ impl Tree {
         ensures name { option_map (numbered self.now.names) result ≡ name_of self.now.nodes n }
         ensures known { IfSome result (λ id. id < length self.now.names) }
     {
-        node_at(self.nodes.as_slice(), n)?.content.name()
+        self.bare.name(n)
     }
 
     /// The prefix of a name, empty where it has none.
@@ -152,7 +121,7 @@ impl Tree {
         requires { name < length self.now.names }
         ensures { result.now ≡ (numbered self.now.names name).prefix }
     {
-        self.names.prefix(name)
+        self.bare.prefix_of(name)
     }
 
     /// The local part of a name.
@@ -160,7 +129,7 @@ impl Tree {
         requires { name < length self.now.names }
         ensures { result.now ≡ (numbered self.now.names name).local }
     {
-        self.names.local(name)
+        self.bare.local_of(name)
     }
 
     /// The namespace of a name, empty where it has none.
@@ -168,34 +137,28 @@ impl Tree {
         requires { name < length self.now.names }
         ensures { result.now ≡ (numbered self.now.names name).uri }
     {
-        self.names.uri(name)
+        self.bare.uri_of(name)
     }
 
     /// The node's parent: of an attribute its element, of the root None.
     pub fn parent(&self, n: NodeId) -> Option<NodeId>
         ensures { result ≡ parent_of self.now.nodes n }
     {
-        node_at(self.nodes.as_slice(), n)?.parent
+        self.bare.parent(n)
     }
 
     /// The node's kids, in document order.
     pub fn kids(&self, n: NodeId) -> &[NodeId]
         ensures { result.now ≡ kids_of self.now.nodes n }
     {
-        match node_at(self.nodes.as_slice(), n) {
-            Some(node) => node.kids.as_slice(),
-            None => &[],
-        }
+        self.bare.kids(n)
     }
 
     /// The element's attributes, in document order.
     pub fn attrs(&self, n: NodeId) -> &[NodeId]
         ensures { result.now ≡ attrs_of self.now.nodes n }
     {
-        match node_at(self.nodes.as_slice(), n) {
-            Some(node) => node.attributes.as_slice(),
-            None => &[],
-        }
+        self.bare.attrs(n)
     }
 
     /// The attribute's value, the characters of a text or comment, or a processing instruction's data; empty for the
@@ -203,9 +166,6 @@ impl Tree {
     pub fn value(&self, n: NodeId) -> &str
         ensures { result.now ≡ value_of self.now.nodes n }
     {
-        match node_at(self.nodes.as_slice(), n) {
-            Some(node) => node.content.value(),
-            None => "",
-        }
+        self.bare.value(n)
     }
 }

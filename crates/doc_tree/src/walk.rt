@@ -1,10 +1,10 @@
 //! Walks through a tree in document order.
 
 ghost use Rattle.std.specs.Prelude.{◌≡◌, ◌++◌, IfOk, OnOk};
-ghost use Rattle.doc_tree.specs.Walks.{order, below};
+ghost use Rattle.doc_table.specs.Walks.{order, below};
 
-use crate::ids::{NodeId, NodeList};
 use crate::tree::Tree;
+use doc_table::{NodeId, NodeList};
 use sch_base::ItemList;
 use std::alloc::{AllocError, Global};
 

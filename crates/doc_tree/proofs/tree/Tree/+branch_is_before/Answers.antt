@@ -1,6 +1,6 @@
 -- What is below two siblings stands as they do; what is below others is below their parents.
 use Rattle.std.proofs.Common.{◌≡◌, Some, sym, ap, ◌∙◌, eqb-true}
-use Rattle.doc_tree.specs.Table.{parent_of}
+use Rattle.doc_table.specs.Table.{parent_of}
 use Rattle.doc_tree.proofs.OrderLemmas.{branches, below_parent}
 use Rattle.doc_tree.proofs.tree.Tree.+branch_is_before.Goals as goal
 

@@ -1,5 +1,5 @@
 use Rattle.std.proofs.Common.{length}
-use Rattle.doc_tree.specs.Walks.{ancestors}
+use Rattle.doc_table.specs.Walks.{ancestors}
 use Rattle.doc_tree.proofs.tree.Tree.+nearest.Given as goal
 
 -- how far the root is

@@ -1,7 +1,7 @@
 use Rattle.std.proofs.Common.{◌≡◌, ◌++◌, ◌-◌, ◌+◌, take, length}
 use Rattle.std.specs.List.{flat_map}
-use Rattle.doc_tree.specs.declared.limits.TheConstants.{MAX_DEPTH}
-use Rattle.doc_tree.specs.Walks.{below, ancestors}
+use Rattle.doc_table.specs.declared.limits.TheConstants.{MAX_DEPTH}
+use Rattle.doc_table.specs.Walks.{below, ancestors}
 use Rattle.doc_tree.proofs.tree.Tree.+push_below.Given as goal
 
 -- how much deeper a way down can go

@@ -1,9 +1,9 @@
 -- A kid has one ancestor more than its parent, and no node has more than the limit of depth allows.
 use Rattle.std.proofs.Common.{◌≡◌, ℕ, length, sym, ap, ◌∙◌, arith, true, subst, ◌∷◌}
-use Rattle.doc_tree.specs.Lists.{mem}
-use Rattle.doc_tree.specs.Table.{kids_of}
-use Rattle.doc_tree.specs.Walks.{ancestors}
-use Rattle.doc_tree.proofs.ListLemmas.{mem-get}
+use Rattle.doc_table.specs.Lists.{mem}
+use Rattle.doc_table.specs.Table.{kids_of}
+use Rattle.doc_table.specs.Walks.{ancestors}
+use Rattle.doc_table.proofs.ListLemmas.{mem-get}
 use Rattle.doc_tree.proofs.tree.Tree.+push_text_below.Goals as goal
 
 pub push_text_below-requires : goal.push_text_below-requires

@@ -1,7 +1,7 @@
 use Rattle.std.proofs.Common.{◌≡◌, ◌++◌, ◌-◌, ◌+◌, take, length, string_bytes}
 use Rattle.std.specs.List.{flat_map}
-use Rattle.doc_tree.specs.declared.limits.TheConstants.{MAX_DEPTH}
-use Rattle.doc_tree.specs.Walks.{joined_text, ancestors}
+use Rattle.doc_table.specs.declared.limits.TheConstants.{MAX_DEPTH}
+use Rattle.doc_table.specs.Walks.{joined_text, ancestors}
 use Rattle.doc_tree.proofs.tree.Tree.+push_text_below.Given as goal
 
 -- how much deeper a way down can go

@@ -1,6 +1,6 @@
 -- By its kind a node is one of its parent's attributes.
 use Rattle.std.proofs.Common.{sym, ap, ◌∙◌, Some}
-use Rattle.doc_tree.proofs.Siblings.{attribute-listed}
+use Rattle.doc_table.proofs.Siblings.{attribute-listed}
 use Rattle.doc_tree.proofs.tree.Tree.is_attribute.Goals as goal
 
 pub returns-in-Some-Attribute : goal.returns-in-Some-Attribute

@@ -1,6 +1,6 @@
 use Rattle.std.proofs.Common.{◌≡◌, take, count_by}
-use Rattle.doc_tree.specs.Table.{kind_of}
-use Rattle.doc_tree.specs.Kinds.{is_element, is_text}
+use Rattle.doc_table.specs.Table.{kind_of}
+use Rattle.doc_table.specs.Kinds.{is_element, is_text}
 use Rattle.doc_tree.proofs.tree.Tree.is_document.Given as goal
 
 abbrev pub invariant-loop-kid : goal.invariant-loop-kid

@@ -1,6 +1,6 @@
 -- One level more is the parent's, which is there as long as there are levels to go.
 use Rattle.std.proofs.Common.{◌+◌, sym, ◌∙◌, subst}
-use Rattle.doc_tree.specs.Order.{IsUp}
+use Rattle.doc_table.specs.Order.{IsUp}
 use Rattle.doc_tree.proofs.OrderLemmas.{up-more, up-parent}
 use Rattle.doc_tree.proofs.tree.Tree.lifted.Goals as goal
 use Rattle.doc_tree.proofs.tree.Tree.lifted.Goals.{in-Some, in_default}

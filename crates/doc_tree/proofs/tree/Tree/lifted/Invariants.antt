@@ -1,4 +1,4 @@
-use Rattle.doc_tree.specs.Order.{IsUp}
+use Rattle.doc_table.specs.Order.{IsUp}
 use Rattle.doc_tree.proofs.tree.Tree.lifted.Given as goal
 
 abbrev pub invariant-loop : goal.invariant-loop

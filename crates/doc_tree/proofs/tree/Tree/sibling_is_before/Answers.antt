@@ -1,6 +1,6 @@
 -- Two of one list stand by their places; an attribute stands before a kid.
 use Rattle.std.proofs.Common.{◌∙◌}
-use Rattle.doc_tree.proofs.Siblings.{by_places, by_lists, equal_flags, other_flags}
+use Rattle.doc_table.proofs.Siblings.{by_places, by_lists, equal_flags, other_flags}
 use Rattle.doc_tree.proofs.tree.Tree.sibling_is_before.Goals as goal
 
 pub returns-then-is_attribute : goal.returns-then-is_attribute

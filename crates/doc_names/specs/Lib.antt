@@ -1,0 +1,4 @@
+pub mod Name
+pub mod Numbering
+pub mod QNames
+pub mod inner

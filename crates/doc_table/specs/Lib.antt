@@ -1,0 +1,11 @@
+pub mod Lists
+pub mod Table
+pub mod Kinds
+pub mod Walks
+pub mod Order
+pub mod Lines
+pub mod Growth
+pub mod Laws
+pub mod Scope
+pub mod Declaring
+pub mod inner

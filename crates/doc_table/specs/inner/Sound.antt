@@ -1,0 +1,52 @@
+-- What holds of every tree as it is kept.
+use Rattle.std.specs.Prelude.{◌≡◌, ◌≢◌, ℕ, ◌+◌, ◌≤◌, true, List, [], ◌∷◌, length, Option, None, Some, slice_index_or}
+use Rattle.doc_table.specs.declared.limits.TheConstants.{MAX_DEPTH, MAX_LIVE_NODES, MAX_LIVE_TEXT_BYTES, MAX_NODE_NUMBERS}
+use Rattle.doc_table.specs.declared.kind.Kind.TheVariants.{Root, Element, Attribute, Text}
+use Rattle.doc_table.specs.declared.node.Node.{Node}
+use Rattle.doc_table.specs.inner.Kept.{depth_at, place_at, IsPlace, NamesAreBelow}
+use Rattle.doc_table.specs.Lists.{mem}
+use Rattle.doc_table.specs.Table.{Table, Name, is_live, kids_of, attrs_of, kind_of, value_of, expanded_of}
+use Rattle.doc_table.specs.Walks.{order, ancestors, text_bytes}
+use Rattle.doc_table.specs.Kinds.{holds_kids, can_be_kid}
+use Rattle.doc_table.specs.Laws.{TextsApart}
+use Rattle.doc_table.specs.inner.Forest.{Forest, Whole}
+use Rattle.doc_table.specs.inner.Views.{table_seen}
+
+-- what holds of each number by itself: what may hang from its node, and how its text and depth are
+pub record Fits (T : Table) (n : ℕ) : Type 0 where
+  pub one_root : kind_of T n ≡ Some Root → n ≡ 0
+  pub kid_kind : (k : ℕ) → mem k (kids_of T n) ≡ true → can_be_kid (kind_of T k) ≡ true
+  pub attribute_kind : (a : ℕ) → mem a (attrs_of T n) ≡ true → kind_of T a ≡ Some Attribute
+  pub holder_kind : (k : ℕ) → mem k (kids_of T n) ≡ true → holds_kids (kind_of T n) ≡ true
+  pub owner_kind : (a : ℕ) → mem a (attrs_of T n) ≡ true → kind_of T n ≡ Some Element
+  pub names_differ : (a b : ℕ) → mem a (attrs_of T n) ≡ true → mem b (attrs_of T n) ≡ true → expanded_of T a ≡ expanded_of T b → a ≡ b
+  pub some_text : kind_of T n ≡ Some Text → value_of T n ≢ []
+  pub texts_apart : TextsApart T (kids_of T n)
+  pub not_deep : kind_of T n ≡ Some Element → length (ancestors T n) ≤ MAX_DEPTH
+
+-- how many nodes live
+abbrev pub count_live : Table → ℕ
+count_live [] = 0
+count_live (None ∷ T) = count_live T
+count_live (Some _ ∷ T) = 1 + count_live T
+
+-- the table of a tree: it shows a forest, each number fits, and the limits hold
+pub record Formed (T : Table) : Type 0 where
+  pub forest : Forest
+  pub whole : Whole T forest
+  pub root_kind : kind_of T 0 ≡ Some Root
+  pub fits : (n : ℕ) → Fits T n
+  pub counted : count_live T ≡ length (order T)
+  pub few_nodes : length (order T) ≤ MAX_LIVE_NODES
+  pub few_numbers : length T ≤ MAX_NODE_NUMBERS
+  pub little_text : text_bytes T ≤ MAX_LIVE_TEXT_BYTES
+
+-- the kept nodes show such a table, and what is kept beside them is as the table says
+pub record Sound (nodes : List (Option Node)) (names : List Name) (live bytes : ℕ) : Type 0 where
+  pub formed : Formed (table_seen names nodes)
+  pub known : NamesAreBelow (length names) nodes
+  pub depths : (n : ℕ) → is_live (table_seen names nodes) n ≡ true →
+      depth_at (slice_index_or nodes n None) ≡ length (ancestors (table_seen names nodes) n)
+  pub places : (n : ℕ) → IsPlace (table_seen names nodes) n (place_at (slice_index_or nodes n None))
+  pub live_is : live ≡ length (order (table_seen names nodes))
+  pub bytes_is : bytes ≡ text_bytes (table_seen names nodes)

@@ -1,0 +1,216 @@
+//! Growing a table at its end.
+
+ghost use Rattle.std.specs.Prelude.{◌≡◌, ◌<◌, ◌∷◌, [], ◌++◌, true, length, None, Some, IfOk, IfErr, OnOk, OnErr, slice_index_or, slice_set, vec_len, vec_capacity, if◌then◌else◌};
+ghost use Rattle.doc_table.specs.Table.{AllLive, attrs_of, kids_of, kind_of, value_in};
+ghost use Rattle.doc_table.specs.Walks.{is_open, above};
+ghost use Rattle.doc_table.specs.Growth.{Grew, FitsUnder, Refuses, passed_limit};
+ghost use Rattle.doc_table.specs.Kinds.{holds_kids};
+ghost use Rattle.doc_table.specs.inner.Labels.{LabelIsBelow, content_labelled, kept_labelled};
+ghost use Rattle.doc_table.specs.inner.Kept.{kept_link, linked};
+ghost use Rattle.doc_table.specs.inner.Parts.{IsSound, table_of};
+
+use crate::bare::{Bare, node_at};
+use crate::ids::NodeId;
+use crate::limits::{MAX_DEPTH, MAX_LIVE_NODES, MAX_LIVE_TEXT_BYTES};
+use crate::new_node::AppendError;
+use crate::node::{Label, Node, NodeContent};
+use sch_base::{ItemList, Text};
+use std::alloc::{AllocError, Global};
+
+impl Bare {
+    /// Puts a node, given by its label and its text, under the root or an element, as the last of its kids or attributes
+    /// and the last one of the tree in document order. A refused node changes nothing.
+    ///
+    /// Costs constant time, and the copying of the text.
+    pub fn append(
+        &mut self,
+        parent: NodeId,
+        label: &Label,
+        text: &str,
+    ) -> Result<NodeId, AppendError>
+        requires sound { IsSound self.old }
+        requires holder { holds_kids (kind_of (table_of self.old) parent) ≡ true }
+        requires fits { FitsUnder (table_of self.old) parent (content_labelled self.old.names label.now text.now) }
+        requires name { LabelIsBelow (length self.old.names) label.now }
+        requires text { value_in (content_labelled self.old.names label.now text.now) ≡ text.now }
+        requires last { is_open (table_of self.old) parent ≡ true }
+        requires all_live { AllLive (table_of self.old) }
+        ensures sound { IsSound self.new }
+        ensures grew { IfOk result (λ n. Grew (table_of self.old) (table_of self.new) parent n (content_labelled self.old.names label.now text.now)) }
+        ensures names { self.new.names ≡ self.old.names }
+        ensures within { OnOk result (passed_limit (table_of self.old) parent (content_labelled self.old.names label.now text.now) ≡ None) }
+        ensures refused { IfErr result (Refuses (passed_limit (table_of self.old) parent (content_labelled self.old.names label.now text.now))) }
+        ensures unchanged { OnErr result (self.new ≡ self.old) }
+    {
+        let depth = self.depth_under(parent);
+        self.check_limits(parent, depth, label, text)?;
+        let number = self.add(parent, depth, label, text)?;
+        Ok(number)
+    }
+
+    /// How many ancestors a node under this one has.
+    fn depth_under(&self, parent: NodeId) -> u32
+        requires sound { IsSound self.now }
+        requires holder { holds_kids (kind_of (table_of self.now) parent) ≡ true }
+        ensures { result ≡ length (above (table_of self.now) parent) }
+    {
+        match node_at(self.nodes.as_slice(), parent) {
+            Some(node) => node.depth + 1,
+            None => 1,
+        }
+    }
+
+    /// How many attributes, or else kids, a node has: the place of the next one.
+    fn next_place(&self, parent: NodeId, is_attribute: bool) -> u32
+        requires sound { IsSound self.now }
+        requires holder { holds_kids (kind_of (table_of self.now) parent) ≡ true }
+        ensures { result ≡ length (if is_attribute then attrs_of (table_of self.now) parent else kids_of (table_of self.now) parent) }
+    {
+        self.laws();
+        self.attributes_or_kids(parent, is_attribute).len() as u32
+    }
+
+    /// The attributes of a node, or else its kids.
+    fn attributes_or_kids(&self, parent: NodeId, attributes: bool) -> &[NodeId]
+        ensures { result.now ≡ (if attributes then attrs_of (table_of self.now) parent else kids_of (table_of self.now) parent) }
+    {
+        if attributes {
+            self.attrs(parent)
+        } else {
+            self.kids(parent)
+        }
+    }
+
+    /// Finds the first limit that a node with so many ancestors would pass.
+    fn check_limits(
+        &self,
+        parent: NodeId,
+        depth: u32,
+        label: &Label,
+        text: &str,
+    ) -> Result<(), AppendError>
+        requires sound { IsSound self.now }
+        requires depth { depth ≡ length (above (table_of self.now) parent) }
+        requires text { value_in (content_labelled self.now.names label.now text.now) ≡ text.now }
+        ensures within { OnOk result (passed_limit (table_of self.now) parent (content_labelled self.now.names label.now text.now) ≡ None) }
+        ensures refused { IfErr result (λ e. passed_limit (table_of self.now) parent (content_labelled self.now.names label.now text.now) ≡ Some e) }
+    {
+        if self.live >= MAX_LIVE_NODES {
+            return Err(AppendError::TooManyNodes);
+        }
+        if label.is_element() && depth > MAX_DEPTH {
+            return Err(AppendError::TooDeep);
+        }
+        if text.len() > MAX_LIVE_TEXT_BYTES - self.text_bytes {
+            return Err(AppendError::TooMuchText);
+        }
+        Ok(())
+    }
+
+    /// Puts a node that passes no limit under its parent.
+    fn add(
+        &mut self,
+        parent: NodeId,
+        depth: u32,
+        label: &Label,
+        text: &str,
+    ) -> Result<NodeId, AllocError>
+        requires sound { IsSound self.old }
+        requires holder { holds_kids (kind_of (table_of self.old) parent) ≡ true }
+        requires fits { FitsUnder (table_of self.old) parent (content_labelled self.old.names label.now text.now) }
+        requires name { LabelIsBelow (length self.old.names) label.now }
+        requires text { value_in (content_labelled self.old.names label.now text.now) ≡ text.now }
+        requires last { is_open (table_of self.old) parent ≡ true }
+        requires all_live { AllLive (table_of self.old) }
+        requires depth { depth ≡ length (above (table_of self.old) parent) }
+        requires within { passed_limit (table_of self.old) parent (content_labelled self.old.names label.now text.now) ≡ None }
+        ensures sound { IsSound self.new }
+        ensures grew { IfOk result (λ n. Grew (table_of self.old) (table_of self.new) parent n (content_labelled self.old.names label.now text.now)) }
+        ensures names { self.new.names ≡ self.old.names }
+        ensures unchanged { OnErr result (self.new ≡ self.old) }
+    {
+        let is_attribute = label.is_attribute();
+        let place = self.next_place(parent, is_attribute);
+        let content = kept_content(self.alloc, label, text)?;
+        let number = NodeId::from_number(self.nodes.len() as u32);
+        let added = Node {
+            parent: Some(parent),
+            depth,
+            place,
+            kids: ItemList::new(self.alloc),
+            attributes: ItemList::new(self.alloc),
+            content,
+        };
+        attach(&mut self.nodes, parent, number, is_attribute, added)?;
+        self.live += 1;
+        self.text_bytes += text.len();
+        Ok(number)
+    }
+}
+
+/// What the tree keeps of a new node.
+fn kept_content(alloc: Global, label: &Label, text: &str) -> Result<NodeContent, AllocError>
+    ensures { IfOk result (λ content. content ≡ kept_labelled label.now text.now) }
+{
+    Ok(match label {
+        Label::Element(name) => NodeContent::Element(*name, ItemList::new(alloc)),
+        Label::Attribute(name) => NodeContent::Attribute(*name, Text::copy(alloc, text)?),
+        Label::Text => NodeContent::Text(Text::copy(alloc, text)?),
+        Label::Comment => NodeContent::Comment(Text::copy(alloc, text)?),
+        Label::Pi(name) => NodeContent::Pi(*name, Text::copy(alloc, text)?),
+    })
+}
+
+impl Node {
+    /// Puts a number at the end of the kids, or of the attributes.
+    fn link(&mut self, number: NodeId, is_attribute: bool) -> Result<(), AllocError>
+        ensures linked { OnOk result (self.new ≡ linked self.old number is_attribute) }
+        ensures unchanged { OnErr result (self.new ≡ self.old) }
+    {
+        if is_attribute {
+            self.attributes.push(number)
+        } else {
+            self.kids.push(number)
+        }
+    }
+}
+
+/// Puts a number at the end of the kids, or of the attributes, of a node.
+fn link(
+    nodes: &mut Vec<Option<Node>>,
+    parent: NodeId,
+    number: NodeId,
+    is_attribute: bool,
+) -> Result<(), AllocError>
+    requires { parent < vec_len nodes.old }
+    ensures linked { OnOk result (nodes.new.items ≡ slice_set nodes.old.items parent (kept_link number is_attribute (slice_index_or nodes.old.items parent None))) }
+    ensures unchanged { OnErr result (nodes.new.items ≡ nodes.old.items) }
+    ensures len { vec_len nodes.new ≡ vec_len nodes.old }
+    ensures capacity { vec_capacity nodes.new ≡ vec_capacity nodes.old }
+{
+    let slot = &mut nodes[parent.index()];
+    match slot {
+        Some(node) => node.link(number, is_attribute),
+        None => Ok(()),
+    }
+}
+
+/// Puts a node at the end, under its parent. What needs memory comes first.
+fn attach(
+    nodes: &mut Vec<Option<Node>>,
+    parent: NodeId,
+    number: NodeId,
+    is_attribute: bool,
+    node: Node,
+) -> Result<(), AllocError>
+    requires { parent < vec_len nodes.old }
+    ensures attached { OnOk result (nodes.new.items ≡ slice_set nodes.old.items parent (kept_link number is_attribute (slice_index_or nodes.old.items parent None)) ++ Some node ∷ []) }
+    ensures unchanged { OnErr result (nodes.new.items ≡ nodes.old.items) }
+{
+    nodes.reserve(1)?;
+    link(nodes, parent, number, is_attribute)?;
+    match nodes.push(Some(node)) {
+        Ok(()) => Ok(()),
+        Err(_) => unreachable!(),
+    }
+}

@@ -1,0 +1,223 @@
+//! The bare table, and its reading calls.
+
+ghost use Rattle.std.specs.Prelude.{◌≡◌, ◌<◌, ◌≤◌, ℕ, true, length, Some, None, IfOk, IfSome, OnErr, slice_index_or};
+ghost use Rattle.std.specs.Option.{option_copied, option_map};
+ghost use Rattle.doc_names.specs.Numbering.{Numbered};
+ghost use Rattle.doc_table.specs.Table.{root_alone, kind_of, name_of, parent_of, kids_of, attrs_of, content_of, value_of, decls_of, is_live, numbered};
+ghost use Rattle.doc_table.specs.Walks.{order, ancestors, characters_in};
+ghost use Rattle.doc_table.specs.inner.Kept.{IsPlace};
+ghost use Rattle.doc_table.specs.inner.Parts.{IsSound, contents, table_of};
+
+use crate::ids::NodeId;
+use crate::kind::Kind;
+use crate::node::{Decl, Node, NodeContent};
+use doc_names::{NameId, NameTable};
+use sch_base::ItemList;
+use std::alloc::{AllocError, Global};
+use std::marker::Model;
+
+/// The nodes of a tree by number, its names, and its counts, with no promise that they hang together.
+///
+/// Contracts see these parts as plain lists and numbers.
+#[derive(Drop)]
+pub struct Bare {
+    pub(crate) alloc: Global,
+    pub(crate) nodes: Vec<Option<Node>>,
+    pub(crate) names: NameTable,
+    pub(crate) live: u32,
+    pub(crate) text_bytes: usize,
+}
+
+impl Model for Bare {
+    ghost use Rattle.doc_table.specs.inner.Parts.{Parts};
+
+    ghost Value = { Parts };
+
+    ghost view = { λ t. record { nodes = t.nodes.items; names = t.names; live = t.live; text_bytes = t.text_bytes } };
+}
+
+/// The node with a number, None where it was deleted or never made.
+pub(crate) fn node_at(nodes: &[Option<Node>], n: NodeId) -> Option<&Node>
+    ensures { option_copied result ≡ slice_index_or nodes.now n None }
+{
+    match nodes.get(n.index()) {
+        Some(Some(node)) => Some(node),
+        _ => None,
+    }
+}
+
+impl Bare {
+    /// The table of the root alone.
+    pub fn new(alloc: Global) -> Result<Bare, AllocError>
+        ensures alone { IfOk result (λ bare. contents bare ≡ root_alone) }
+        ensures sound { IfOk result IsSound }
+    {
+        let mut nodes = Vec::new(alloc);
+        nodes.push(Some(Node {
+            parent: None,
+            depth: 0,
+            place: 0,
+            kids: ItemList::new(alloc),
+            attributes: ItemList::new(alloc),
+            content: NodeContent::Root,
+        }))?;
+        Ok(Bare {
+            alloc,
+            nodes,
+            names: NameTable::new(alloc),
+            live: 1,
+            text_bytes: 0,
+        })
+    }
+
+    /// The number of a name; a new one takes the next number. Each of its texts is copied where it is new, and
+    /// otherwise only looked up.
+    pub fn name_id(&mut self, prefix: &str, local: &str, uri: &str) -> Result<NameId, AllocError>
+        requires sound { IsSound self.old }
+        ensures sound { IsSound self.new }
+        ensures numbered { IfOk result (λ id. Numbered self.old.names self.new.names (record { prefix = prefix.now; local = local.now; uri = uri.now }) id) }
+        ensures nodes { table_of self.new ≡ table_of self.old }
+        ensures unchanged { OnErr result (self.new ≡ self.old) }
+    {
+        self.names.number(self.alloc, prefix, local, uri)
+    }
+
+    /// The root.
+    pub fn root(&self) -> NodeId
+        ensures { result ≡ 0 }
+    {
+        NodeId::from_number(0)
+    }
+
+    /// Whether a node with this number lives.
+    pub fn contains(&self, n: NodeId) -> bool
+        ensures { result ≡ is_live (table_of self.now) n }
+    {
+        node_at(self.nodes.as_slice(), n).is_some()
+    }
+
+    /// How many nodes live, the root and attributes counted.
+    pub fn live_nodes(&self) -> u32
+        requires { IsSound self.now }
+        ensures { result ≡ length (order (table_of self.now)) }
+    {
+        self.live
+    }
+
+    /// The kind of a node, None for a number that isn't live.
+    pub fn kind_of(&self, n: NodeId) -> Option<Kind>
+        ensures { result ≡ kind_of (table_of self.now) n }
+    {
+        Some(node_at(self.nodes.as_slice(), n)?.content.kind())
+    }
+
+    /// The name of an element, an attribute or a processing instruction.
+    pub fn name(&self, n: NodeId) -> Option<NameId>
+        ensures name { option_map (numbered self.now.names) result ≡ name_of (table_of self.now) n }
+        ensures known { IsSound self.now → IfSome result (λ id. id < length self.now.names) }
+    {
+        node_at(self.nodes.as_slice(), n)?.content.name()
+    }
+
+    /// The prefix of a name, empty where it has none.
+    pub fn prefix_of(&self, name: NameId) -> &str
+        ensures { result.now ≡ (numbered self.now.names name).prefix }
+    {
+        self.names.prefix(name)
+    }
+
+    /// The local part of a name.
+    pub fn local_of(&self, name: NameId) -> &str
+        ensures { result.now ≡ (numbered self.now.names name).local }
+    {
+        self.names.local(name)
+    }
+
+    /// The namespace of a name, empty where it has none.
+    pub fn uri_of(&self, name: NameId) -> &str
+        ensures { result.now ≡ (numbered self.now.names name).uri }
+    {
+        self.names.uri(name)
+    }
+
+    /// The node's parent: of an attribute its element, of the root None.
+    pub fn parent(&self, n: NodeId) -> Option<NodeId>
+        ensures { result ≡ parent_of (table_of self.now) n }
+    {
+        node_at(self.nodes.as_slice(), n)?.parent
+    }
+
+    /// The node's kids, in document order.
+    pub fn kids(&self, n: NodeId) -> &[NodeId]
+        ensures { result.now ≡ kids_of (table_of self.now) n }
+    {
+        match node_at(self.nodes.as_slice(), n) {
+            Some(node) => node.kids.as_slice(),
+            None => &[],
+        }
+    }
+
+    /// The element's attributes, in document order.
+    pub fn attrs(&self, n: NodeId) -> &[NodeId]
+        ensures { result.now ≡ attrs_of (table_of self.now) n }
+    {
+        match node_at(self.nodes.as_slice(), n) {
+            Some(node) => node.attributes.as_slice(),
+            None => &[],
+        }
+    }
+
+    /// The attribute's value, the characters of a text or comment, or a processing instruction's data; empty for the
+    /// root and elements.
+    pub fn value(&self, n: NodeId) -> &str
+        ensures { result.now ≡ value_of (table_of self.now) n }
+    {
+        match node_at(self.nodes.as_slice(), n) {
+            Some(node) => node.content.value(),
+            None => "",
+        }
+    }
+
+    /// The characters of a text node; empty for every other node.
+    pub fn characters(&self, n: NodeId) -> &str
+        ensures { result.now ≡ characters_in (content_of (table_of self.now) n) }
+    {
+        match node_at(self.nodes.as_slice(), n) {
+            Some(node) => node.content.characters(),
+            None => "",
+        }
+    }
+
+    /// A node's declarations; none where it is no element.
+    pub fn decls(&self, n: NodeId) -> &[Decl]
+        ensures { result.now ≡ decls_of (table_of self.now) n }
+    {
+        match node_at(self.nodes.as_slice(), n) {
+            Some(node) => node.content.decls(),
+            None => &[],
+        }
+    }
+
+    /// How many ancestors a live node has.
+    pub fn depth(&self, n: NodeId) -> u32
+        requires sound { IsSound self.now }
+        requires lives { is_live (table_of self.now) n ≡ true }
+        ensures { result ≡ length (ancestors (table_of self.now) n) }
+    {
+        match node_at(self.nodes.as_slice(), n) {
+            Some(node) => node.depth,
+            None => 0,
+        }
+    }
+
+    /// A node's place among its parent's attributes, or else kids; 0 for the root.
+    pub fn place(&self, n: NodeId) -> u32
+        requires { IsSound self.now }
+        ensures { IsPlace (table_of self.now) n result }
+    {
+        match node_at(self.nodes.as_slice(), n) {
+            Some(node) => node.place,
+            None => 0,
+        }
+    }
+}

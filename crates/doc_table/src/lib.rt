@@ -1,0 +1,23 @@
+//! The bare table of a tree: numbered nodes with their links and names, and the calls that make it grow.
+//!
+//! A bare table promises nothing by itself. Each call that changes it asks that it is a tree's, and leaves it so.
+#![tactic(auto)]
+
+mod append;
+mod bare;
+mod cell;
+mod declare;
+mod ids;
+mod kind;
+mod laws;
+mod limits;
+mod new_node;
+mod node;
+
+pub use bare::Bare;
+pub use cell::Cell;
+pub use ids::{NodeId, NodeList};
+pub use kind::Kind;
+pub use limits::{MAX_DEPTH, MAX_LIVE_NODES, MAX_LIVE_TEXT_BYTES, MAX_NODE_NUMBERS};
+pub use new_node::{AppendError, NewNode};
+pub use node::{Decl, Label};

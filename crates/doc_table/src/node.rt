@@ -1,0 +1,167 @@
+//! A node as a tree keeps it.
+
+ghost use Rattle.std.specs.Prelude.{◌≡◌, ◌<◌, ℕ, List, IfSome, Some};
+ghost use Rattle.std.specs.Option.{option_map};
+ghost use Rattle.doc_table.specs.Table.{kind_in, name_in, value_in, decls_in, numbered, Name};
+ghost use Rattle.doc_table.specs.Walks.{characters_in};
+ghost use Rattle.doc_table.specs.inner.Views.{content_seen};
+ghost use Rattle.doc_table.specs.inner.Kept.{NameIsBelow};
+ghost use Rattle.doc_table.specs.inner.Labels.{label_is_element, label_is_attribute};
+
+use crate::ids::{NodeId, NodeList};
+use crate::kind::Kind;
+use doc_names::NameId;
+use sch_base::{ItemList, Text};
+use std::marker::Model;
+
+/// A namespace declaration, seen by contracts as the pair of its prefix and its namespace.
+#[derive(Debug, Drop)]
+pub struct Decl {
+    pub(crate) prefix: Text,
+    pub(crate) uri: Text,
+}
+
+impl Model for Decl {
+    ghost use Rattle.std.specs.Prelude.{List, ℕ};
+
+    ghost Value = { List ℕ × List ℕ };
+
+    ghost view = { λ d. (d.prefix, d.uri) };
+}
+
+impl Decl {
+    /// The prefix, empty for the default namespace.
+    pub fn prefix(&self) -> &str
+        ensures { result.now ≡ self.now.0 }
+    {
+        self.prefix.as_str()
+    }
+
+    /// The namespace.
+    pub fn uri(&self) -> &str
+        ensures { result.now ≡ self.now.1 }
+    {
+        self.uri.as_str()
+    }
+}
+
+/// What a node holds by its kind.
+#[derive(Debug, Drop)]
+pub(crate) enum NodeContent {
+    Root,
+    Element(NameId, ItemList<Decl>),
+    Attribute(NameId, Text),
+    Text(Text),
+    Comment(Text),
+    Pi(NameId, Text),
+}
+
+/// The kind of a node to be made, and its name where it has one.
+#[derive(Clone, Copy, Debug)]
+pub enum Label {
+    Element(NameId),
+    Attribute(NameId),
+    Text,
+    Comment,
+    Pi(NameId),
+}
+
+/// A node: its parent, how many ancestors it has, its place among its parent's attributes or else kids, its own kids
+/// and attributes, and what it holds.
+#[derive(Debug, Drop)]
+pub(crate) struct Node {
+    pub(crate) parent: Option<NodeId>,
+    pub(crate) depth: u32,
+    pub(crate) place: u32,
+    pub(crate) kids: NodeList,
+    pub(crate) attributes: NodeList,
+    pub(crate) content: NodeContent,
+}
+
+impl NodeContent {
+    /// The kind of a node that holds this.
+    pub(crate) fn kind(&self) -> Kind
+        ensures { (names : List Name) → kind_in (content_seen names self.now) ≡ result }
+    {
+        match self {
+            NodeContent::Root => Kind::Root,
+            NodeContent::Element(_, _) => Kind::Element,
+            NodeContent::Attribute(_, _) => Kind::Attribute,
+            NodeContent::Text(_) => Kind::Text,
+            NodeContent::Comment(_) => Kind::Comment,
+            NodeContent::Pi(_, _) => Kind::Pi,
+        }
+    }
+
+    /// The name, where it has one.
+    pub(crate) fn name(&self) -> Option<NameId>
+        ensures name { (names : List Name) → option_map (numbered names) result ≡ name_in (content_seen names self.now) }
+        ensures known { (count : ℕ) → NameIsBelow count self.now → IfSome result (λ id. id < count) }
+    {
+        match self {
+            NodeContent::Element(name, _)
+            | NodeContent::Attribute(name, _)
+            | NodeContent::Pi(name, _) => Some(*name),
+            NodeContent::Root | NodeContent::Text(_) | NodeContent::Comment(_) => None,
+        }
+    }
+
+    /// The value, the characters or the data; empty for the root and elements.
+    pub(crate) fn value(&self) -> &str
+        ensures { (names : List Name) → value_in (content_seen names self.now) ≡ result.now }
+    {
+        match self {
+            NodeContent::Root | NodeContent::Element(_, _) => "",
+            NodeContent::Attribute(_, value) => value.as_str(),
+            NodeContent::Text(text) | NodeContent::Comment(text) => text.as_str(),
+            NodeContent::Pi(_, text) => text.as_str(),
+        }
+    }
+
+    /// The characters of a text node; empty for every other kind.
+    pub(crate) fn characters(&self) -> &str
+        ensures { (names : List Name) → characters_in (Some (content_seen names self.now)) ≡ result.now }
+    {
+        match self {
+            NodeContent::Text(text) => text.as_str(),
+            NodeContent::Root | NodeContent::Element(_, _) | NodeContent::Attribute(_, _) => "",
+            NodeContent::Comment(_) | NodeContent::Pi(_, _) => "",
+        }
+    }
+
+    /// The declarations; none where it is no element's content.
+    pub(crate) fn decls(&self) -> &[Decl]
+        ensures { (names : List Name) → decls_in (content_seen names self.now) ≡ result.now }
+    {
+        match self {
+            NodeContent::Element(_, decls) => decls.as_slice(),
+            NodeContent::Root
+            | NodeContent::Attribute(_, _)
+            | NodeContent::Text(_)
+            | NodeContent::Comment(_)
+            | NodeContent::Pi(_, _) => &[],
+        }
+    }
+}
+
+impl Label {
+    /// Whether it is an element's.
+    pub(crate) fn is_element(&self) -> bool
+        ensures { result ≡ label_is_element self.now }
+    {
+        match self {
+            Label::Element(_) => true,
+            Label::Attribute(_) | Label::Text | Label::Comment | Label::Pi(_) => false,
+        }
+    }
+
+    /// Whether it is an attribute's.
+    pub(crate) fn is_attribute(&self) -> bool
+        ensures { result ≡ label_is_attribute self.now }
+    {
+        match self {
+            Label::Attribute(_) => true,
+            Label::Element(_) | Label::Text | Label::Comment | Label::Pi(_) => false,
+        }
+    }
+}
