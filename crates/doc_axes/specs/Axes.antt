@@ -1,7 +1,7 @@
 -- Axes (XPath 1.0 section 2.2): which nodes stand on an axis from a node, by ways up and places in document order.
 use Rattle.std.specs.Prelude.{◌≡◌, ℕ, ◌==◌, Bool, true, false, not, ◌&&◌, ◌||◌, List, [], ◌∷◌, ◌++◌, Option, None, Some, filter, count_by, if◌then◌else◌}
-use Rattle.doc_tree.specs.declared.kinds.Kind.{Kind}
-use Rattle.doc_tree.specs.declared.kinds.Kind.TheVariants as kinds
+use Rattle.doc_tree.specs.kind.Kind.{Kind}
+use Rattle.doc_tree.specs.kind.Kind.TheVariants as kinds
 use Rattle.doc_tree.specs.declared.axes.Axis.{Axis}
 use Rattle.doc_tree.specs.declared.axes.Axis.TheVariants.{Ancestor, AncestorOrSelf, Attribute, Child, Descendant, DescendantOrSelf, Following, FollowingSibling, Parent, Preceding, PrecedingSibling, SelfNode}
 use Rattle.doc_tree.specs.Lists.{mem}

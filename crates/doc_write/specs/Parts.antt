@@ -2,8 +2,8 @@
 use Rattle.std.specs.Prelude.{ℕ, Bool, true, false, List, [], Option, None, Some}
 use Rattle.std.specs.List.{flat_map}
 use Rattle.pyx_core.specs.Written.{attr_line}
-use Rattle.doc_tree.specs.declared.kinds.Kind.{Kind}
-use Rattle.doc_tree.specs.declared.kinds.Kind.TheVariants.{Root, Element, Attribute, Text, Comment, Pi}
+use Rattle.doc_tree.specs.kind.Kind.{Kind}
+use Rattle.doc_tree.specs.kind.Kind.TheVariants.{Root, Element, Attribute, Text, Comment, Pi}
 use Rattle.doc_tree.specs.Lines.{lines_below, opens, closes}
 use Rattle.doc_tree.specs.Scope.{Decl}
 use Rattle.doc_tree.specs.Table.{Name, Table}

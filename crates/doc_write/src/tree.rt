@@ -3,7 +3,7 @@
 ghost use Rattle.std.specs.Prelude.{◌≡◌, ℕ, ◌<◌, ◌++◌, true, codes, length, Some};
 ghost use Rattle.std.specs.List.{flat_map};
 ghost use Rattle.sch_io.specs.Wrote.{Wrote};
-ghost use Rattle.doc_tree.specs.declared.kinds.Kind.TheVariants.{Attribute, Element, Pi};
+ghost use Rattle.doc_tree.specs.kind.Kind.TheVariants.{Attribute, Element, Pi};
 ghost use Rattle.doc_tree.specs.Lists.{mem};
 ghost use Rattle.doc_tree.specs.Table.{attrs_of, decls_of, is_live, kind_of, name_of, numbered};
 ghost use Rattle.doc_write.specs.TreeText.{tree_text};

@@ -3,7 +3,7 @@ use Rattle.std.proofs.Common.{◌≡◌, ◌≢◌, ℕ, ◌+◌, ◌≤◌, suc
 use Rattle.std.specs.List.{flat_map}
 use Rattle.pyx_core.specs.declared.event.Attr.{Attr}
 use Rattle.pyx_core.specs.Nesting.{is_name}
-use Rattle.doc_tree.specs.declared.kinds.Kind.TheVariants.{Element}
+use Rattle.doc_tree.specs.kind.Kind.TheVariants.{Element}
 use Rattle.doc_tree.specs.Table.{Table, Content, element, kind_at, decls_at, kind_of, decls_of, content_of, is_live}
 use Rattle.doc_tree.specs.Walks.{above, ancestors, order, text_bytes}
 use Rattle.doc_tree.specs.Lines.{Line, starts, declares}

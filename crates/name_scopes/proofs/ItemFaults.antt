@@ -13,7 +13,7 @@ use Rattle.pyx_core.specs.declared.event.Event.{Event}
 use Rattle.pyx_core.specs.declared.event.Event.TheVariants as event
 use Rattle.pyx_core.specs.declared.event.Located.{Located}
 use Rattle.pyx_core.specs.Nesting.{bare}
-use Rattle.doc_tree.specs.declared.limits.TheConstants.{MAX_DEPTH, MAX_LIVE_NODES}
+use Rattle.doc_tree.specs.limits.TheConstants.{MAX_DEPTH, MAX_LIVE_NODES}
 use Rattle.doc_tree.specs.Scope.{Decl, namespace_in}
 use Rattle.doc_tree.specs.Table.{Name, expanded}
 use Rattle.doc_tree.specs.QNames.{qname_of}

@@ -1,8 +1,8 @@
 -- The items of a tree in scope may stand where they do.
 use Rattle.std.proofs.Common.{◌≡◌, ◌≢◌, ℕ, zero, suc, ◌+◌, ◌≤◌, ◌==◌, Bool, true, false, ◌&&◌, ◌||◌, List, [], ◌∷◌, ◌++◌, length, Option, None, Some, refl, ap, ◌∙◌, subst, arith}
 use Rattle.std.specs.Prelude.{if◌then◌else◌}
-use Rattle.doc_tree.specs.declared.kinds.Kind.TheVariants.{Attribute}
-use Rattle.doc_tree.specs.declared.limits.TheConstants.{MAX_DEPTH}
+use Rattle.doc_tree.specs.kind.Kind.TheVariants.{Attribute}
+use Rattle.doc_tree.specs.limits.TheConstants.{MAX_DEPTH}
 use Rattle.doc_tree.specs.Kinds.{can_be_kid, is_text}
 use Rattle.doc_tree.specs.Laws.{TextsApart}
 use Rattle.doc_tree.specs.Lists.{mem, occurs, Distinct}

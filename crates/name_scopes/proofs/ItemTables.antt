@@ -5,7 +5,7 @@ use Rattle.std.specs.List.{flat_map}
 use Rattle.std.proofs.lemmas.Bool.{eq-eqb}
 use Rattle.std.proofs.lemmas.List.{map-append}
 use Rattle.std.proofs.lemmas.List.Sums.{sum_by-cons}
-use Rattle.doc_tree.specs.declared.kinds.Kind.TheVariants.{Element, Attribute}
+use Rattle.doc_tree.specs.kind.Kind.TheVariants.{Element, Attribute}
 use Rattle.doc_tree.specs.Kinds.{can_be_kid, holds_kids, is_element, is_text}
 use Rattle.doc_tree.specs.Laws.{HasWaysUp, Ordered, Walks, WellFormed}
 use Rattle.doc_tree.specs.Lines.{Line, starts, declares, ends, has_text, has_comment, has_instruction, first_lines, last_lines, lines_at, opens, closes}

@@ -4,7 +4,7 @@ use Rattle.pyx_core.specs.declared.event.Attr.{Attr}
 use Rattle.pyx_core.specs.declared.event.Event.{Event}
 use Rattle.pyx_core.specs.declared.event.Event.TheVariants as event
 use Rattle.pyx_core.specs.Nesting.{of_chars}
-use Rattle.doc_tree.specs.declared.limits.TheConstants.{MAX_DEPTH}
+use Rattle.doc_tree.specs.limits.TheConstants.{MAX_DEPTH}
 use Rattle.doc_tree.specs.Lines.{Line, starts, declares, has_attribute, ends, has_text, has_comment, has_instruction}
 use Rattle.doc_tree.specs.Scope.{Decl}
 use Rattle.doc_tree.specs.Table.{Name, expanded}

@@ -9,7 +9,7 @@ use Rattle.pyx_core.specs.declared.event.Event.TheVariants as event
 use Rattle.pyx_core.specs.declared.mode.Mode.TheVariants.{Document}
 use Rattle.pyx_core.specs.Before.{is_nil, outer}
 use Rattle.pyx_core.specs.Nesting.{Place, Fits, CharsFit, PiFits, CommentFits, after}
-use Rattle.doc_tree.specs.declared.limits.TheConstants.{MAX_LIVE_NODES}
+use Rattle.doc_tree.specs.limits.TheConstants.{MAX_LIVE_NODES}
 use Rattle.doc_tree.specs.Table.{Table, Contents, Name, Content, element, text, comment, instruction, kind_at, kind_in, decls_at, decls_in, value_in, kind_of, kids_of, decls_of, parent_of, is_live}
 use Rattle.doc_tree.specs.Walks.{order}
 use Rattle.doc_tree.specs.Lines.{Line, ends, first_lines, last_lines}

@@ -1,7 +1,7 @@
 -- Numbers of nodes: live ones, new ones, and their places in lists.
 use Rattle.std.proofs.Common.{◌≡◌, ◌≢◌, ℕ, zero, suc, slice_get, ◌≤◌, Bool, true, false, ◌||◌, eqb, List, [], ◌∷◌, ◌++◌, length, Option, None, Some, is_some, ◌⊎◌, inl, inr, refl, sym, ap, ◌∙◌, true≢false, arith, eq-eqb, eqb-true}
 use Rattle.std.proofs.lemmas.List.{get_or_past}
-use Rattle.doc_tree.specs.declared.kinds.Kind.{Kind}
+use Rattle.doc_tree.specs.kind.Kind.{Kind}
 use Rattle.doc_tree.specs.Kinds.{holds_kids}
 use Rattle.doc_tree.specs.Lists.{mem, last_or}
 use Rattle.doc_tree.specs.Table.{Table, Facts, Name, Content, entry_at, content_at, content_of, kind_at, kind_of, is_live, numbered}

@@ -9,8 +9,8 @@ use Rattle.pyx_core.specs.declared.mode.Mode.TheVariants.{Document}
 use Rattle.pyx_core.specs.Nesting.{bare, start, Nest}
 use Rattle.pyx_core.specs.Reading.{events_of, events_before_fault, events_unless}
 use Rattle.pyx_core.specs.Written.{Gives, WrittenIsReadBack, text_of}
-use Rattle.doc_tree.specs.declared.kinds.Kind.TheVariants.{Root, Element}
-use Rattle.doc_tree.specs.declared.limits.TheConstants.{MAX_LIVE_NODES}
+use Rattle.doc_tree.specs.kind.Kind.TheVariants.{Root, Element}
+use Rattle.doc_tree.specs.limits.TheConstants.{MAX_LIVE_NODES}
 use Rattle.doc_tree.specs.Kinds.{is_document, is_element, is_text}
 use Rattle.doc_tree.specs.Laws.{WellFormed}
 use Rattle.doc_tree.specs.Lines.{Line, lines, lines_at, lines_below, opens, first_lines, last_lines}

@@ -10,7 +10,7 @@ use Rattle.std.proofs.lemmas.List.Elements.{filter-append}
 use Rattle.std.proofs.lemmas.List.Sums.{sum_by-append, sum_by-cons}
 use Rattle.pyx_core.specs.declared.event.Attr.{Attr}
 use Rattle.pyx_core.specs.Nesting.{is_attr}
-use Rattle.doc_tree.specs.declared.kinds.Kind.TheVariants.{Root, Element}
+use Rattle.doc_tree.specs.kind.Kind.TheVariants.{Root, Element}
 use Rattle.doc_tree.specs.Lists.{mem}
 use Rattle.doc_tree.specs.Table.{Table, Name, Content, element, attribute, kind_at, name_at, decls_at, expanded, expanded_in, expanded_of, kind_of, kids_of, attrs_of, decls_of, content_of, is_live}
 use Rattle.doc_tree.specs.Walks.{above, ancestors, order, text_bytes}

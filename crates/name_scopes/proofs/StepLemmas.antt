@@ -14,7 +14,7 @@ use Rattle.pyx_core.specs.declared.event.Event.TheVariants as event
 use Rattle.pyx_core.specs.declared.mode.Mode.TheVariants.{Document}
 use Rattle.pyx_core.specs.Before.{is_nil, outer}
 use Rattle.pyx_core.specs.Nesting.{Place, Fits, StartFits, CharsFit, PiFits, CommentFits, HasRoom, after}
-use Rattle.doc_tree.specs.declared.limits.TheConstants.{MAX_DEPTH, MAX_LIVE_NODES}
+use Rattle.doc_tree.specs.limits.TheConstants.{MAX_DEPTH, MAX_LIVE_NODES}
 use Rattle.doc_tree.specs.Table.{Table, Name, Content, root, element, text, comment, instruction, kind_at, kind_in, decls_at, value_in, kind_of, kids_of, decls_of, parent_of, is_live}
 use Rattle.doc_tree.specs.Walks.{above, order, text_bytes}
 use Rattle.doc_tree.specs.Lines.{Line, starts, declares, ends, first_lines, last_lines}

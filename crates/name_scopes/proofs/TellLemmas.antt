@@ -1,7 +1,7 @@
 -- What a tree under way tells, as it grows.
 use Rattle.std.proofs.Common.{◌≡◌, ◌≢◌, ℕ, ◌+◌, ◌≤◌, suc, Bool, true, false, List, [], ◌∷◌, ◌++◌, length, Option, None, Some, refl, sym, ap, ap₂, ◌∙◌, subst, arith, append_assoc}
 use Rattle.std.specs.List.{flat_map}
-use Rattle.doc_tree.specs.declared.kinds.Kind.TheVariants.{Element}
+use Rattle.doc_tree.specs.kind.Kind.TheVariants.{Element}
 use Rattle.doc_tree.specs.Lists.{mem}
 use Rattle.doc_tree.specs.Table.{Table, Name, Content, element, kind_at, value_in, kind_of, kids_of, attrs_of, parent_of, is_live}
 use Rattle.doc_tree.specs.Walks.{above, ancestors, order, text_bytes}

@@ -11,7 +11,7 @@ use Rattle.pyx_core.specs.declared.fault.PyxFault.{PyxFault}
 use Rattle.pyx_core.specs.declared.mode.Mode.TheVariants.{Document}
 use Rattle.pyx_core.specs.Nesting.{Place, Nest, Fits, after, bare, place_after, start, EventsNest, IsEnd}
 use Rattle.pyx_core.specs.Reading.{completed, events_of, events_unless, events_before_fault, fault_of}
-use Rattle.doc_tree.specs.declared.limits.TheConstants.{MAX_TEXT_BYTES}
+use Rattle.doc_tree.specs.limits.TheConstants.{MAX_LIVE_TEXT_BYTES}
 use Rattle.doc_tree.specs.Table.{Table, Contents, kind_of, kids_of}
 use Rattle.doc_tree.specs.Walks.{above}
 use Rattle.doc_tree.specs.Lines.{Line, lines, closing, closes, last_lines, lines_at}
@@ -36,9 +36,9 @@ pub record Going (events front back : List Located) (loader : Loader) : Type 0 w
   pub so_far : first_fault begin events ≡ first_fault standing back
   pub nest : Nest Document place (bare back)
   pub place_is : place_after Document place (bare back) ≡ place_after Document start (bare events)
-  pub all : sum_by event_text (bare front) + sum_by event_text (bare back) ≤ MAX_TEXT_BYTES
+  pub all : sum_by event_text (bare front) + sum_by event_text (bare back) ≤ MAX_LIVE_TEXT_BYTES
 
-pub going-first : (events : List Located) (loader : Loader) → Nest Document start (bare events) → sum_by event_text (bare events) ≤ MAX_TEXT_BYTES → Loads [] start begin loader → Going events [] events loader
+pub going-first : (events : List Located) (loader : Loader) → Nest Document start (bare events) → sum_by event_text (bare events) ≤ MAX_LIVE_TEXT_BYTES → Loads [] start begin loader → Going events [] events loader
 going-first events loader nest little loads = record {
   place = start;
   standing = begin;

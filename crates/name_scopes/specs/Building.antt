@@ -6,7 +6,7 @@ use Rattle.pyx_core.specs.declared.event.Event.{Event}
 use Rattle.pyx_core.specs.declared.event.Event.TheVariants as event
 use Rattle.pyx_core.specs.declared.mode.Mode.TheVariants.{Document}
 use Rattle.pyx_core.specs.Nesting.{Place, Fits, after}
-use Rattle.doc_tree.specs.declared.limits.TheConstants.{MAX_DEPTH, MAX_LIVE_NODES, MAX_TEXT_BYTES}
+use Rattle.doc_tree.specs.limits.TheConstants.{MAX_DEPTH, MAX_LIVE_NODES, MAX_LIVE_TEXT_BYTES}
 use Rattle.doc_tree.specs.Table.{Table, Name, Content, root, element, text, comment, instruction, AllLive, content_of, kids_of, attrs_of, kind_of, parent_of, decls_of}
 use Rattle.doc_tree.specs.Walks.{above, ancestors, is_open, order, text_bytes}
 use Rattle.doc_tree.specs.Lines.{Line, starts, declares, has_attribute, lines, closing}
@@ -174,7 +174,7 @@ pub record Loads (taken : List Event) (place : Place) (standing : Standing) (loa
 -- the event may come
 pub record Comes (taken : List Event) (place : Place) (event : Event) : Type 0 where
   pub fits : Fits Document place event
-  pub little : sum_by event_text taken + event_text event ≤ MAX_TEXT_BYTES
+  pub little : sum_by event_text taken + event_text event ≤ MAX_LIVE_TEXT_BYTES
 
 abbrev pub IsReady : Loader → Event → Type 0
 IsReady loader event = (taken : List Event) × ((place : Place) × ((standing : Standing) × (Loads taken place standing loader × Comes taken place event)))

@@ -11,7 +11,7 @@ use Rattle.pyx_core.specs.declared.event.Located.{Located}
 use Rattle.pyx_core.specs.declared.fault.PyxFault.{PyxFault}
 use Rattle.pyx_core.specs.declared.mode.Mode.TheVariants.{Document}
 use Rattle.pyx_core.specs.Reading.{events_before_fault, fault_of}
-use Rattle.doc_tree.specs.declared.limits.TheConstants.{MAX_DEPTH, MAX_LIVE_NODES}
+use Rattle.doc_tree.specs.limits.TheConstants.{MAX_DEPTH, MAX_LIVE_NODES}
 use Rattle.doc_tree.specs.Table.{Name}
 use Rattle.doc_tree.specs.Scope.{Decl, namespace_in}
 use Rattle.name_scopes.specs.declared.fault.DocFault.{DocFault}

@@ -7,7 +7,7 @@ ghost use Rattle.pyx_core.specs.declared.event.Event.{Event};
 ghost use Rattle.pyx_core.specs.declared.event.Event.TheVariants as event_kind;
 ghost use Rattle.pyx_core.specs.declared.mode.Mode.TheVariants.{Document};
 ghost use Rattle.pyx_core.specs.Nesting.{Place, after, is_attr, is_name, start};
-ghost use Rattle.doc_tree.specs.declared.kinds.Kind.TheVariants.{Element};
+ghost use Rattle.doc_tree.specs.kind.Kind.TheVariants.{Element};
 ghost use Rattle.doc_tree.specs.Table.{element, attribute, value_in, kind_of, kids_of, attrs_of, decls_of};
 ghost use Rattle.doc_tree.specs.Walks.{above, order, text_bytes};
 ghost use Rattle.doc_tree.specs.Growth.{AttributeFits, FitsUnder, Grew, has_too_many};
@@ -23,7 +23,7 @@ use crate::fault::{DocKind, EventError};
 use crate::qname::split;
 use crate::scope::Scope;
 use crate::tag::{attribute_namespace, check_tag};
-use doc_tree::{AppendError, MAX_DEPTH, MAX_LIVE_NODES, MAX_TEXT_BYTES, NewNode, NodeId, Tree};
+use doc_tree::{AppendError, MAX_DEPTH, MAX_LIVE_NODES, MAX_LIVE_TEXT_BYTES, NewNode, NodeId, Tree};
 use pyx_core::{Attr, Event};
 use std::alloc::{AllocError, Global};
 
@@ -162,7 +162,7 @@ fn declare_one(scope: &mut Scope, attr: &Attr) -> Result<(), AllocError>
 fn append_leaf(tree: &mut Tree, parent: NodeId, event: &Event) -> Result<NodeId, EventError>
     requires receives { Receives tree.old.nodes parent }
     requires fits { FitsUnder tree.old.nodes parent (leaf_of event.now) }
-    requires little { text_bytes tree.old.nodes + length (value_in (leaf_of event.now)) ≤ MAX_TEXT_BYTES }
+    requires little { text_bytes tree.old.nodes + length (value_in (leaf_of event.now)) ≤ MAX_LIVE_TEXT_BYTES }
     ensures grew { IfOk result (λ n. Grew tree.old.nodes tree.new.nodes parent n (leaf_of event.now)) }
     ensures room { OnOk result (has_too_many tree.old.nodes ≡ false) }
     ensures full { IfErr result (IsFull tree.old.nodes) }
@@ -198,7 +198,7 @@ fn begin(
     requires all_named { list_all is_attr attrs.now ≡ true }
     requires good { tag_fault scope.now name.now attrs.now ≡ None }
     requires room { length (order tree.old.nodes) + tag_nodes attrs.now ≤ MAX_LIVE_NODES }
-    requires little { text_bytes tree.old.nodes + sum_by value_bytes attrs.now ≤ MAX_TEXT_BYTES }
+    requires little { text_bytes tree.old.nodes + sum_by value_bytes attrs.now ≤ MAX_LIVE_TEXT_BYTES }
     requires scope_is { scope.now ≡ declarations attrs.now ++ scope_at tree.old.nodes parent }
     requires scoped { InScope tree.old.nodes }
     ensures begins { IfOk result (λ n. Begins tree.old.nodes tree.new.nodes parent n scope.now name.now attrs.now) }
@@ -276,7 +276,7 @@ fn append_attributes(
     requires known { list_any (lacks_prefix scope.now) (plain_attrs attrs.now) ≡ false }
     requires differ { has_pair (same_expanded scope.now) (plain_attrs attrs.now) ≡ false }
     requires room { length (order tree.old.nodes) + length (plain_attrs attrs.now) ≤ MAX_LIVE_NODES }
-    requires little { text_bytes tree.old.nodes + sum_by value_bytes attrs.now ≤ MAX_TEXT_BYTES }
+    requires little { text_bytes tree.old.nodes + sum_by value_bytes attrs.now ≤ MAX_LIVE_TEXT_BYTES }
     requires scope_is { scope_at tree.old.nodes element ≡ scope.now }
     requires scoped { InScope tree.old.nodes }
     ensures { OnOk result (AttributesAll tree.old.nodes tree.new.nodes element scope.now attrs.now) }
@@ -302,7 +302,7 @@ fn append_attribute(
     requires fits { AttributeFits tree.old.nodes element (attribute_name scope.now attr.now.name) }
     requires known { lacks_prefix scope.now attr.now ≡ false }
     requires room { has_too_many tree.old.nodes ≡ false }
-    requires little { text_bytes tree.old.nodes + length attr.now.value ≤ MAX_TEXT_BYTES }
+    requires little { text_bytes tree.old.nodes + length attr.now.value ≤ MAX_LIVE_TEXT_BYTES }
     ensures { IfOk result (λ n. Grew tree.old.nodes tree.new.nodes element n (attribute (attribute_name scope.now attr.now.name) attr.now.value)) }
 {
     let parts = split(attr.name.as_str());

@@ -12,7 +12,7 @@ ghost use Rattle.name_scopes.specs.Loaded.{IsBuilt, TakesFound};
 
 use crate::build::Loader;
 use crate::fault::{DocFault, DocKind, EventError, LoadError};
-use doc_tree::{MAX_TEXT_BYTES, Tree};
+use doc_tree::{MAX_LIVE_TEXT_BYTES, Tree};
 use pyx_core::{Located, Mode, events_nest, read_front};
 use std::alloc::Global;
 
@@ -21,7 +21,7 @@ use std::alloc::Global;
 ///
 /// Costs time linear in the bytes.
 pub fn load_tree(alloc: Global, bytes: &[u8]) -> Result<Tree, LoadError>
-    requires { length bytes.now ≤ MAX_TEXT_BYTES }
+    requires { length bytes.now ≤ MAX_LIVE_TEXT_BYTES }
     ensures good { OnOk result (doc_fault bytes.now ≡ None) }
     ensures loaded { IfOk result (λ tree. Scoped (bare (events_of Document bytes.now)) tree.nodes) }
     ensures refused { IfErr result (Refuses (doc_fault bytes.now)) }
@@ -44,7 +44,7 @@ pub fn load_tree(alloc: Global, bytes: &[u8]) -> Result<Tree, LoadError>
 /// The tree of events, or the first fault of one.
 fn build(alloc: Global, events: &[Located]) -> Result<Tree, LoadError>
     requires nest { Nest Document start (bare events.now) }
-    requires little { sum_by event_text (bare events.now) ≤ MAX_TEXT_BYTES }
+    requires little { sum_by event_text (bare events.now) ≤ MAX_LIVE_TEXT_BYTES }
     ensures { IsBuilt events.now result }
 {
     let mut loader = Loader::new(alloc)?;

@@ -1,8 +1,8 @@
 -- Locations: for each node the XPath expression that finds it (ISO/IEC 19757-3, annex on SVRL; XPath 1.0 section 2).
 use Rattle.std.specs.Prelude.{◌≡◌, ℕ, ◌+◌, ◌<◌, ◌⊎◌, ◌==◌, Bool, true, false, length, List, [], ◌∷◌, ◌++◌, Option, None, Some, codes, slice_index_or, if◌then◌else◌}
 use Rattle.std.specs.Fmt.{decimal}
-use Rattle.doc_tree.specs.declared.kinds.Kind.{Kind}
-use Rattle.doc_tree.specs.declared.kinds.Kind.TheVariants.{Root, Element, Attribute, Text, Comment, Pi}
+use Rattle.doc_tree.specs.kind.Kind.{Kind}
+use Rattle.doc_tree.specs.kind.Kind.TheVariants.{Root, Element, Attribute, Text, Comment, Pi}
 use Rattle.doc_tree.specs.Lists.{mem}
 use Rattle.doc_tree.specs.Table.{Table, kind_of, parent_of, kids_of, is_live}
 use Rattle.doc_tree.specs.Walks.{above}

@@ -6,7 +6,7 @@ use Rattle.std.specs.Str.{str_eq_ignore_ascii_case}
 use Rattle.std.proofs.lemmas.Slice.Eq.{bytes_eq-Decides}
 use Rattle.std.proofs.lemmas.Bool.Decides.{leb_tells}
 use Rattle.std.proofs.lemmas.List.{take_all, drop_all}
-use Rattle.doc_tree.specs.declared.cell.Cell.TheVariants.{Attrs}
+use Rattle.doc_tree.specs.cell.Cell.TheVariants.{Attrs}
 use Rattle.doc_tree.specs.Kinds.{is_element}
 use Rattle.doc_tree.specs.Laws.{HasWaysUp}
 use Rattle.doc_tree.specs.Table.{Table, attrs_of, kind_of, parent_of}

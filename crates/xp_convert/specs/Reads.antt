@@ -1,9 +1,9 @@
 -- What evaluation reads of nodes: the cells that a step looks at, and the string-values that conversions take.
 use Rattle.std.specs.Prelude.{ℕ, Bool, true, false, List, [], ◌∷◌, map, length, Option, None, Some, if◌then◌else◌}
-use Rattle.doc_tree.specs.declared.kinds.Kind.{Kind}
-use Rattle.doc_tree.specs.declared.kinds.Kind.TheVariants as kinds
-use Rattle.doc_tree.specs.declared.cell.Cell.{Cell}
-use Rattle.doc_tree.specs.declared.cell.Cell.TheVariants.{Kids, Shape, Attrs, Value, Text}
+use Rattle.doc_tree.specs.kind.Kind.{Kind}
+use Rattle.doc_tree.specs.kind.Kind.TheVariants as kinds
+use Rattle.doc_tree.specs.cell.Cell.{Cell}
+use Rattle.doc_tree.specs.cell.Cell.TheVariants.{Kids, Shape, Attrs, Value, Text}
 use Rattle.doc_tree.specs.declared.axes.Axis.{Axis}
 use Rattle.doc_tree.specs.declared.axes.Axis.TheVariants.{Ancestor, AncestorOrSelf, Attribute, Child, Descendant, DescendantOrSelf, Following, FollowingSibling, Parent, Preceding, PrecedingSibling, SelfNode}
 use Rattle.doc_tree.specs.Table.{Table, kind_of, parent_of}

@@ -1,7 +1,7 @@
 -- The language of a node (XPath 1.0 section 4.3, `lang`; XML 1.0 section 2.12).
 use Rattle.std.specs.Prelude.{ℕ, ◌==◌, Bool, true, false, ◌&&◌, bytes_eq, List, [], ◌∷◌, length, take, drop, find, codes, Option, None, Some, if◌then◌else◌}
 use Rattle.std.specs.Str.{str_eq_ignore_ascii_case}
-use Rattle.doc_tree.specs.declared.cell.Cell.TheVariants.{Attrs, Value}
+use Rattle.doc_tree.specs.cell.Cell.TheVariants.{Attrs, Value}
 use Rattle.doc_tree.specs.Table.{Table, attrs_of, kind_of, name_of, value_of}
 use Rattle.doc_tree.specs.Kinds.{is_element}
 use Rattle.doc_tree.specs.Scope.{xml_namespace}

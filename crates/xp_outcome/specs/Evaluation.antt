@@ -1,7 +1,7 @@
 -- What an evaluation gives: its answer or its first fault, what it reads, and its visits. They are the three parts of
 -- one definition.
 use Rattle.std.specs.Prelude.{ℕ, ◌+◌, List, [], ◌∷◌, ◌++◌, Result, Ok, Err}
-use Rattle.doc_tree.specs.declared.cell.Cell.{Cell}
+use Rattle.doc_tree.specs.cell.Cell.{Cell}
 
 -- what is read: a cell of a node, or the let in a slot
 pub data Read : Type 0 where

@@ -5,8 +5,8 @@ use Rattle.std.specs.Ordering.{nat_cmp, on, then_cmp}
 use Rattle.std.specs.FinSet.{FinSet, empty, insert, contains}
 use Rattle.std.specs.FinSet as set
 use Rattle.std.specs.Coded.{Coded, code_by, coded×, coded_ℕ}
-use Rattle.doc_tree.specs.declared.cell.Cell.{Cell}
-use Rattle.doc_tree.specs.declared.cell.Cell.TheVariants.{Kids, Shape, Attrs, Value, Text}
+use Rattle.doc_tree.specs.cell.Cell.{Cell}
+use Rattle.doc_tree.specs.cell.Cell.TheVariants.{Kids, Shape, Attrs, Value, Text}
 use Rattle.xp_outcome.specs.Evaluation.{Read, cell, variable}
 
 -- the kind of a cell, as a number

@@ -3,8 +3,8 @@ use Rattle.std.proofs.Common.{◌≡◌, ℕ, ◌≤◌, zero, suc, Bool, true, 
 use Rattle.std.proofs.Math.Bool.{or_comm}
 use Rattle.std.specs.Prelude.{filter}
 use Rattle.std.specs.List.{list_any, filter_map}
-use Rattle.doc_tree.specs.declared.kinds.Kind.{Kind}
-use Rattle.doc_tree.specs.declared.kinds.Kind.TheVariants as kinds
+use Rattle.doc_tree.specs.kind.Kind.{Kind}
+use Rattle.doc_tree.specs.kind.Kind.TheVariants as kinds
 use Rattle.doc_tree.specs.declared.axes.Axis.{Axis}
 use Rattle.doc_tree.specs.declared.axes.Axis.TheVariants as axes
 use Rattle.doc_tree.specs.Kinds.{holds_kids, can_be_kid}

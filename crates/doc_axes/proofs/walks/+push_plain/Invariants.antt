@@ -1,5 +1,5 @@
 use Rattle.std.proofs.Common.{◌≡◌, ◌++◌, ◌-◌, ◌+◌, take, length}
-use Rattle.doc_tree.specs.declared.limits.TheConstants.{MAX_DEPTH}
+use Rattle.doc_tree.specs.limits.TheConstants.{MAX_DEPTH}
 use Rattle.doc_tree.specs.Walks.{ancestors}
 use Rattle.doc_axes.specs.Plain.{plain_below}
 use Rattle.doc_axes.proofs.walks.+push_plain.Given as goal

@@ -3,7 +3,7 @@ use Rattle.std.proofs.Common.{◌-◌, ◌+◌, length, take, Ok}
 use Rattle.std.specs.List.{flat_map}
 use Rattle.sch_io.specs.Wrote.{Wrote}
 use Rattle.sch_io.specs.declared.error.Failed.{Failed}
-use Rattle.doc_tree.specs.declared.limits.TheConstants.{MAX_DEPTH}
+use Rattle.doc_tree.specs.limits.TheConstants.{MAX_DEPTH}
 use Rattle.doc_tree.specs.Walks.{ancestors}
 use Rattle.doc_write.specs.Parts.{text_below}
 use Rattle.doc_write.proofs.tree.+write_below.Given as goal

@@ -2,7 +2,7 @@
 use Rattle.std.proofs.Common.{◌≡◌, true, length, sym, ◌∙◌, arith}
 use Rattle.std.proofs.lemmas.Bool.{lt-leb}
 use Rattle.pyx_core.specs.declared.event.Attr.{Attr}
-use Rattle.doc_tree.specs.declared.limits.TheConstants.{MAX_LIVE_NODES}
+use Rattle.doc_tree.specs.limits.TheConstants.{MAX_LIVE_NODES}
 use Rattle.doc_tree.specs.Walks.{order}
 use Rattle.name_scopes.specs.Declarations.{is_plain}
 use Rattle.name_scopes.specs.DocFaults.{lacks_prefix}

@@ -1,7 +1,7 @@
 -- Each event that is no tag has its node.
 use Rattle.std.proofs.Common.{◌≡◌, ℕ, List, [], Some, slice_get, sym, ap, ap₂, ◌∙◌, subst}
 use Rattle.std.specs.Prelude.{Result, Ok, Err, IfOk}
-use Rattle.doc_tree.specs.declared.kinds.AppendError.{AppendError}
+use Rattle.doc_tree.specs.new_node.AppendError.{AppendError}
 use Rattle.doc_tree.specs.Table.{Table, Name, Content, text, comment, instruction, numbered}
 use Rattle.doc_tree.specs.Growth.{Grew}
 use Rattle.name_scopes.specs.QNames.{unprefixed}

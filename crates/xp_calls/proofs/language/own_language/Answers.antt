@@ -1,5 +1,5 @@
 use Rattle.std.proofs.Common.{◌∙◌, ap, sym, refl, Some, None}
-use Rattle.doc_tree.specs.declared.cell.Cell.TheVariants.{Attrs, Value}
+use Rattle.doc_tree.specs.cell.Cell.TheVariants.{Attrs, Value}
 use Rattle.xp_outcome.specs.Evaluation.{cell}
 use Rattle.xp_outcome.specs.Recorded.{note}
 use Rattle.xp_outcome.proofs.Runs.{ran_alike, ran_done, ran_late, ran_moved, ran_reading}
