@@ -1,8 +1,6 @@
--- Prefixes in scope: each has the namespace of its nearest declaration (Namespaces in XML 1.0 sections 3 and 6).
-use Rattle.std.specs.Prelude.{◌≡◌, ℕ, true, List, [], ◌∷◌, ◌++◌, Option, None, Some, codes, if◌then◌else◌, slice_index_or}
+-- The declarations in scope at a node: those of the node and of all above it (Namespaces in XML 1.0, section 6).
+use Rattle.std.specs.Prelude.{◌≡◌, ℕ, true, List, ◌++◌, None, Some}
 use Rattle.std.specs.List.{flat_map}
-use Rattle.std.specs.Option.{option_or}
-use Rattle.std.specs.Str.{bytes_eq}
 use Rattle.doc_table.specs.Lists.{mem}
 use Rattle.doc_table.specs.Table.{Table, decls_of, parent_of, is_live}
 use Rattle.doc_table.specs.Walks.{above}
@@ -11,44 +9,9 @@ use Rattle.doc_table.specs.Walks.{above}
 abbrev pub Decl : Type 0
 Decl = List ℕ × List ℕ
 
--- the namespace that the first declaration of a prefix gives it
-abbrev pub first_declared : List Decl → List ℕ → Option (List ℕ)
-first_declared [] prefix = None
-first_declared (decl ∷ decls) prefix = if bytes_eq decl.0 prefix then Some decl.1 else first_declared decls prefix
-
 -- the declarations at a node and above it, nearest first
 abbrev pub scope_at : Table → ℕ → List Decl
 scope_at T n = flat_map (decls_of T) (above T n)
-
--- the prefix `xmlns`, which is in no scope, and the prefix `xml` with its namespace, which is in each (section 3)
-unfoldable pub xmlns_prefix : List ℕ
-xmlns_prefix = codes "xmlns"
-
-unfoldable pub xml_prefix : List ℕ
-xml_prefix = codes "xml"
-
-unfoldable pub xml_namespace : List ℕ
-xml_namespace = codes "http://www.w3.org/XML/1998/namespace"
-
--- without a declaration there is no default namespace, and another prefix is not in scope (section 6.2)
-abbrev pub undeclared : List ℕ → Option (List ℕ)
-undeclared [] = Some []
-undeclared (b ∷ prefix) = None
-
--- the namespace of a prefix where these declarations are in scope, nearest first; None where the prefix is not in scope
-abbrev pub namespace_in : List Decl → List ℕ → Option (List ℕ)
-namespace_in scope prefix =
-    if bytes_eq prefix xmlns_prefix then None
-    else if bytes_eq prefix xml_prefix then Some xml_namespace
-    else option_or (first_declared scope prefix) (undeclared prefix)
-
--- the namespace of a prefix in scope at a node
-abbrev pub namespace_at : Table → ℕ → List ℕ → Option (List ℕ)
-namespace_at T n prefix = namespace_in (scope_at T n) prefix
-
--- the declaration at a place of a list, empty past the end
-abbrev pub decl_at : List Decl → ℕ → Decl
-decl_at decls i = slice_index_or decls i ([], [])
 
 -- scopes along the ways up
 pub record HasScopes (T : Table) : Type 0 where

@@ -2,7 +2,7 @@
 use Rattle.std.proofs.Common.{◌≡◌, Bool, true, false, ℕ, List, [], ◌∷◌, ◌++◌, Option, None, Some, refl}
 use Rattle.std.specs.Prelude.{if◌then◌else◌}
 use Rattle.std.specs.Str.{bytes_eq}
-use Rattle.doc_table.specs.Scope.{Decl, first_declared}
+use Rattle.doc_tree.specs.Scope.{Decl, first_declared}
 
 found-cases : (b : Bool) (one : List ℕ) (more all : Option (List ℕ)) (uri : List ℕ) → (more ≡ Some uri → all ≡ Some uri) →
     (if b then Some one else more) ≡ Some uri → (if b then Some one else all) ≡ Some uri

@@ -8,7 +8,7 @@ pub use Rattle.doc_table.specs.Order
 pub use Rattle.doc_table.specs.Lines
 pub use Rattle.doc_table.specs.Growth
 pub use Rattle.doc_table.specs.Laws
-pub use Rattle.doc_table.specs.Scope
+pub mod Scope
 pub use Rattle.doc_table.specs.Declaring
 pub use Rattle.doc_table.specs.declared.kind
 pub use Rattle.doc_table.specs.declared.new_node

@@ -5,7 +5,7 @@ ghost use Rattle.std.specs.Option.{option_copied};
 ghost use Rattle.std.specs.Str.{bytes_eq};
 ghost use Rattle.doc_table.specs.declared.kind.Kind.TheVariants.{Element};
 ghost use Rattle.doc_table.specs.Table.{kind_of, decls_of};
-ghost use Rattle.doc_table.specs.Scope.{HasScopes, decl_at, first_declared, namespace_at, scope_at, undeclared, xml_namespace, xml_prefix, xmlns_prefix};
+ghost use Rattle.doc_tree.specs.Scope.{HasScopes, decl_at, first_declared, namespace_at, scope_at, undeclared, xml_namespace, xml_prefix, xmlns_prefix};
 ghost use Rattle.doc_table.specs.Declaring.{Declared};
 
 use crate::tree::Tree;
@@ -130,7 +130,7 @@ pub fn undeclared_namespace(prefix: &str) -> Option<&'static str>
 }
 
 /// Whether a prefix is `xmlns`, which is never in scope.
-#[tactic(auto, unfolding(doc_table::specs::Scope::xmlns_prefix))]
+#[tactic(auto, unfolding(crate::specs::Scope::xmlns_prefix))]
 pub fn is_xmlns(prefix: &str) -> bool
     ensures { result ≡ bytes_eq prefix.now xmlns_prefix }
 {
@@ -138,7 +138,7 @@ pub fn is_xmlns(prefix: &str) -> bool
 }
 
 /// Whether a prefix is `xml`, which is always in scope.
-#[tactic(auto, unfolding(doc_table::specs::Scope::xml_prefix))]
+#[tactic(auto, unfolding(crate::specs::Scope::xml_prefix))]
 pub fn is_xml(prefix: &str) -> bool
     ensures { result ≡ bytes_eq prefix.now xml_prefix }
 {
@@ -146,7 +146,7 @@ pub fn is_xml(prefix: &str) -> bool
 }
 
 /// The namespace of the prefix `xml`.
-#[tactic(auto, unfolding(doc_table::specs::Scope::xml_namespace))]
+#[tactic(auto, unfolding(crate::specs::Scope::xml_namespace))]
 pub fn xml_namespace() -> &'static str
     ensures { result.now ≡ xml_namespace }
 {

@@ -1,5 +1,5 @@
 use Rattle.std.proofs.Common.{◌≡◌, drop}
-use Rattle.doc_table.specs.Scope.{first_declared}
+use Rattle.doc_tree.specs.Scope.{first_declared}
 use Rattle.doc_tree.proofs.declarations.declared.Given as goal
 
 -- no declaration so far is of the prefix

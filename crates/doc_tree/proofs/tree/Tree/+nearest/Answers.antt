@@ -4,7 +4,7 @@ use Rattle.std.specs.List.{flat_map}
 use Rattle.std.specs.Option.{option_copied}
 use Rattle.doc_table.specs.Table.{decls_of}
 use Rattle.doc_table.specs.Walks.{ancestors}
-use Rattle.doc_table.specs.Scope.{first_declared, scope_at}
+use Rattle.doc_tree.specs.Scope.{first_declared, scope_at}
 use Rattle.doc_tree.proofs.ScopeLemmas.{first-in, first-behind}
 use Rattle.doc_tree.proofs.tree.Tree.+nearest.Goals as goal
 
