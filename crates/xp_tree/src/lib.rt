@@ -4,9 +4,11 @@
 
 mod build;
 mod expr;
+mod operators;
 mod pattern;
 mod terms;
 
 pub use expr::{Chain, Expr, Operand, Start, Step};
+pub use operators::{ArithOp, Comparison};
 pub use pattern::{Join, PathPattern, Pattern, PatternStart, PatternStep};
 pub use terms::{AxisName, Level, Operator, StepTest};

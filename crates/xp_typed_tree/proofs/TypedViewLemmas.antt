@@ -2,7 +2,7 @@
 use Rattle.std.proofs.Common.{◌≡◌, ℕ, ℤ, List, sym, ◌∙◌, ap}
 use Rattle.std.specs.Prelude.{Box, Vec}
 use Rattle.std.specs.declared.alloc.Global.{Global}
-use Rattle.xp_typed_tree.specs.declared.operators.ValueType.{ValueType}
+use Rattle.xp_typed_tree.specs.declared.value_type.ValueType.{ValueType}
 use Rattle.xp_typed_tree.specs.declared.function.Function.{Function}
 use Rattle.xp_typed_tree.specs.declared.expr.TypedExpr.{TypedExpr}
 use Rattle.xp_typed_tree.specs.declared.expr.Compared.{Compared, out-Compared}

@@ -3,9 +3,9 @@ use Rattle.std.specs.Prelude.{ℕ, ℤ, List, Bool}
 use Rattle.doc_tree.specs.declared.axes.Axis.{Axis}
 use Rattle.doc_tree.specs.declared.axes.NodeTest.{NodeTest}
 use Rattle.xp_tree.specs.declared.pattern.Join.{Join}
-use Rattle.xp_typed_tree.specs.declared.operators.ValueType.{ValueType}
-use Rattle.xp_typed_tree.specs.declared.operators.Comparison.{Comparison}
-use Rattle.xp_typed_tree.specs.declared.operators.ArithOp.{ArithOp}
+use Rattle.xp_typed_tree.specs.declared.value_type.ValueType.{ValueType}
+use Rattle.xp_tree.specs.declared.operators.Comparison.{Comparison}
+use Rattle.xp_tree.specs.declared.operators.ArithOp.{ArithOp}
 use Rattle.xp_typed_tree.specs.declared.function.Function.{Function}
 
 mutual

@@ -1,7 +1,7 @@
 -- What well typed means: XPath 1.0, sections 3 and 4.
 use Rattle.std.specs.Prelude.{◌≡◌, ℕ, suc, pos, ◌≤ℤ◌, Bool, true, false, ◌&&◌, not, nat_le, Option, Some, None, List, [], ◌∷◌}
-use Rattle.xp_typed_tree.specs.declared.operators.ValueType.{ValueType}
-use Rattle.xp_typed_tree.specs.declared.operators.ValueType.TheVariants as types
+use Rattle.xp_typed_tree.specs.declared.value_type.ValueType.{ValueType}
+use Rattle.xp_typed_tree.specs.declared.value_type.ValueType.TheVariants as types
 use Rattle.xp_typed_tree.specs.declared.function.Function.{Function}
 use Rattle.xp_typed_tree.specs.declared.function.Function.TheVariants.{Last, Position, Current, Count, Sum, LocalName, NamespaceUri, Name, String, Number, Boolean, Not, True, False, Concat, StartsWith, Contains, SubstringBefore, SubstringAfter, Substring, StringLength, NormalizeSpace, Translate, Lang, Floor, Ceiling, Round}
 use Rattle.doc_tree.specs.declared.axes.Axis.{Axis}

@@ -7,9 +7,10 @@ ghost use Rattle.xp_typed_tree.specs.WellTyped.{type_of};
 
 use crate::expr::{Combined, Compared, TypedExpr, TypedStart, TypedStep};
 use crate::function::Function;
-use crate::operators::{ArithOp, Comparison, ValueType};
+use crate::value_type::ValueType;
 use doc_tree::{Axis, NodeTest};
 use sch_base::Text;
+use xp_tree::{ArithOp, Comparison};
 
 impl Compared {
     /// A later operand with the comparison before it.

@@ -1,9 +1,10 @@
 //! Typed expressions.
 
 use crate::function::Function;
-use crate::operators::{ArithOp, Comparison, ValueType};
+use crate::value_type::ValueType;
 use doc_tree::{Axis, NodeTest};
 use sch_base::Text;
+use xp_tree::{ArithOp, Comparison};
 
 /// An expression (XPath 1.0, section 3) whose names are resolved.
 ///

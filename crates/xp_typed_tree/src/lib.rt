@@ -5,14 +5,14 @@
 mod build;
 mod expr;
 mod function;
-mod operators;
 mod pattern;
 mod typed;
+mod value_type;
 
 pub use doc_tree::{Axis, NodeTest};
 pub use expr::{Combined, Compared, TypedExpr, TypedStart, TypedStep};
 pub use function::Function;
-pub use operators::{ArithOp, Comparison, ValueType};
 pub use pattern::{TypedPath, TypedPatternStep};
 pub use typed::{Typed, TypedPattern};
-pub use xp_tree::Join;
+pub use value_type::ValueType;
+pub use xp_tree::{ArithOp, Comparison, Join};

@@ -5,8 +5,8 @@ ghost use Rattle.xp_typed_tree.specs.TypedView.{typed_tree_of, paths_seen};
 ghost use Rattle.xp_typed_tree.specs.WellTyped.{WellTyped, PathsTyped, type_of};
 
 use crate::expr::TypedExpr;
-use crate::operators::ValueType;
 use crate::pattern::TypedPath;
+use crate::value_type::ValueType;
 use std::marker::Model;
 
 /// A well typed expression, seen by contracts as its tree.

@@ -16,8 +16,8 @@ use Rattle.xp_typed_tree.specs.declared.expr.Combined.{Combined, out-Combined}
 use Rattle.xp_typed_tree.specs.declared.expr.TypedStep.{TypedStep, out-TypedStep}
 use Rattle.xp_typed_tree.specs.TypedTree.{TypedTree, TypedTrees, TypedSteps, Comparands, Combinands, typed, no_typed, typed_step, no_more_steps, comparand, no_comparands, combinand, no_combinands, comparison, arithmetic}
 use Rattle.xp_typed_tree.specs.TypedView.{typed_tree_of, typed_seen, compared_list_seen, compared_of, combined_list_seen, combined_of, typed_steps_seen, typed_step_of}
-use Rattle.xp_typed_tree.specs.declared.operators.Comparison.{Comparison}
-use Rattle.xp_typed_tree.specs.declared.operators.ArithOp.{ArithOp}
+use Rattle.xp_tree.specs.declared.operators.Comparison.{Comparison}
+use Rattle.xp_tree.specs.declared.operators.ArithOp.{ArithOp}
 use Rattle.doc_tree.specs.declared.axes.Axis.{Axis}
 use Rattle.doc_tree.specs.declared.axes.NodeTest.{NodeTest}
 use Rattle.xp_typed_tree.proofs.TypedViewLemmas.{of-compared, of-combined, of-step as of-typed-step}

@@ -8,8 +8,8 @@ use Rattle.std.proofs.lemmas.Bool.Decides.{nat_tests}
 use Rattle.xp_tree.specs.declared.terms.Level.TheVariants as levels
 use Rattle.xp_tree.specs.Tree.{Tree, PathStart, Steps, Operands, Trees, chain, negated, path, filtered, variable, literal, number, call, root, here, from, no_steps, step, no_operands, operand, no_trees, tree, offset_of}
 use Rattle.xp_tree.specs.PatternTree.{PathTree, StepTree}
-use Rattle.xp_typed_tree.specs.declared.operators.ValueType.{ValueType}
-use Rattle.xp_typed_tree.specs.declared.operators.ValueType.TheVariants as types
+use Rattle.xp_typed_tree.specs.declared.value_type.ValueType.{ValueType}
+use Rattle.xp_typed_tree.specs.declared.value_type.ValueType.TheVariants as types
 use Rattle.xp_typed_tree.specs.declared.function.Function.{Function}
 use Rattle.xp_typed_tree.specs.TypedTree.{TypedTree, TypedPlace, TypedSteps, Comparands, Combinands, TypedTrees, TypedPatternStepTree, TypedPathTree, slot, whole, no_typed}
 use Rattle.xp_typed_tree.specs.WellTyped.{type_of, takes, wants_nodes, may_call, count_of, is_pattern_axis, IsWanted, WellTyped, PlaceTyped, StepsTyped, ComparandsTyped, CombinandsTyped, AllTyped, PatternStepsTyped, PathsTyped}

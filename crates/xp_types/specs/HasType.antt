@@ -5,7 +5,7 @@ use Rattle.doc_tree.specs.declared.axes.Axis.{Axis}
 use Rattle.doc_tree.specs.declared.axes.NodeTest.{NodeTest}
 use Rattle.xp_tree.specs.declared.terms.Level.TheVariants as levels
 use Rattle.xp_tree.specs.Tree.{Tree, PathStart, Steps, Operands, Trees, chain, negated, path, filtered, variable, literal, number, call, root, here, from, no_steps, step, no_operands, operand, no_trees, tree}
-use Rattle.xp_typed_tree.specs.declared.operators.ArithOp.{ArithOp}
+use Rattle.xp_tree.specs.declared.operators.ArithOp.{ArithOp}
 use Rattle.xp_typed_tree.specs.declared.function.Function.{Function}
 use Rattle.xp_typed_tree.specs.TypedTree.{TypedTree, TypedPlace, TypedSteps, Comparands, Combinands, TypedTrees, disjunction, conjunction, comparison, arithmetic, negation, union, location, selection, text, application, at_root, at_context, at_nodes, no_more_steps, typed_step, no_comparands, comparand, no_combinands, combinand, no_typed, typed}
 use Rattle.xp_typed_tree.specs.WellTyped.{wants_nodes, IsWanted}

@@ -17,12 +17,12 @@ use Rattle.xp_tree.specs.declared.pattern.PatternStart.{PatternStart}
 use Rattle.xp_tree.specs.declared.pattern.PatternStart.TheVariants as starts
 use Rattle.xp_tree.specs.Tree.{Tree, PathStart, Steps, Operands, Trees, chain, negated, path, filtered, variable, literal, number, call, root, here, from, no_steps, step, no_operands, operand, no_trees, tree, offset_of}
 use Rattle.xp_tree.specs.PatternTree.{PathTree, StepTree}
-use Rattle.xp_typed_tree.specs.declared.operators.ValueType.{ValueType}
-use Rattle.xp_typed_tree.specs.declared.operators.ValueType.TheVariants as types
-use Rattle.xp_typed_tree.specs.declared.operators.Comparison.{Comparison}
-use Rattle.xp_typed_tree.specs.declared.operators.Comparison.TheVariants as comparisons
-use Rattle.xp_typed_tree.specs.declared.operators.ArithOp.{ArithOp}
-use Rattle.xp_typed_tree.specs.declared.operators.ArithOp.TheVariants as ariths
+use Rattle.xp_typed_tree.specs.declared.value_type.ValueType.{ValueType}
+use Rattle.xp_typed_tree.specs.declared.value_type.ValueType.TheVariants as types
+use Rattle.xp_tree.specs.declared.operators.Comparison.{Comparison}
+use Rattle.xp_tree.specs.declared.operators.Comparison.TheVariants as comparisons
+use Rattle.xp_tree.specs.declared.operators.ArithOp.{ArithOp}
+use Rattle.xp_tree.specs.declared.operators.ArithOp.TheVariants as ariths
 use Rattle.xp_typed_tree.specs.declared.function.Function.{Function}
 use Rattle.xp_typed_tree.specs.TypedTree.{TypedTree, TypedPlace, TypedSteps, Comparands, Combinands, TypedTrees, TypedPatternStepTree, TypedPathTree, disjunction, conjunction, comparison, arithmetic, negation, union, location, selection, slot, text, whole, application, at_root, at_context, at_nodes, no_more_steps, typed_step, no_comparands, comparand, no_combinands, combinand, no_typed, typed}
 use Rattle.xp_typed_tree.specs.WellTyped.{type_of, takes, wants_nodes, may_call}
@@ -55,20 +55,20 @@ wanted true offset t = node_set_at (type_of t) offset t
 wanted false offset t = Ok t
 
 abbrev pub comparison_of : Operator → Comparison
-comparison_of operators.NotEqual = comparisons.NotEqual
-comparison_of operators.Less = comparisons.Less
-comparison_of operators.AtMost = comparisons.AtMost
-comparison_of operators.Greater = comparisons.Greater
-comparison_of operators.AtLeast = comparisons.AtLeast
-comparison_of _ = comparisons.Equal
+comparison_of operators.NotEqual = comparisons.Ne
+comparison_of operators.Less = comparisons.Lt
+comparison_of operators.AtMost = comparisons.Le
+comparison_of operators.Greater = comparisons.Gt
+comparison_of operators.AtLeast = comparisons.Ge
+comparison_of _ = comparisons.Eq
 
 -- division is refused
 abbrev pub arith_of : Operator → ℕ → Checked ArithOp
 arith_of operators.Div offset = fault (kinds.Refused (codes "div")) offset
-arith_of operators.Minus offset = Ok ariths.Minus
-arith_of operators.Times offset = Ok ariths.Times
+arith_of operators.Minus offset = Ok ariths.Sub
+arith_of operators.Times offset = Ok ariths.Mul
 arith_of operators.Mod offset = Ok ariths.Mod
-arith_of _ offset = Ok ariths.Plus
+arith_of _ offset = Ok ariths.Add
 
 -- the namespace axis is refused
 abbrev pub axis_of : AxisName → ℕ → Checked Axis

@@ -15,8 +15,8 @@ use crate::faults::{CheckError, TypeFault, TypeKind};
 use crate::names::{function_named, is_left_out};
 use sch_base::Text;
 use std::alloc::Global;
-use xp_tree::{AxisName, Expr, Operator, StepTest};
-use xp_typed_tree::{ArithOp, Axis, Comparison, Function, NodeTest, TypedExpr, ValueType};
+use xp_tree::{ArithOp, AxisName, Comparison, Expr, Operator, StepTest};
+use xp_typed_tree::{Axis, Function, NodeTest, TypedExpr, ValueType};
 
 /// The largest whole number.
 const MAX_WHOLE: u64 = 9_007_199_254_740_991;
@@ -56,12 +56,12 @@ pub(crate) fn comparison_of(operator: Operator) -> Comparison
     ensures { result ≡ comparison_of operator }
 {
     match operator {
-        Operator::NotEqual => Comparison::NotEqual,
-        Operator::Less => Comparison::Less,
-        Operator::AtMost => Comparison::AtMost,
-        Operator::Greater => Comparison::Greater,
-        Operator::AtLeast => Comparison::AtLeast,
-        _ => Comparison::Equal,
+        Operator::NotEqual => Comparison::Ne,
+        Operator::Less => Comparison::Lt,
+        Operator::AtMost => Comparison::Le,
+        Operator::Greater => Comparison::Gt,
+        Operator::AtLeast => Comparison::Ge,
+        _ => Comparison::Eq,
     }
 }
 
@@ -75,10 +75,10 @@ pub(crate) fn arith_of(
 {
     match operator {
         Operator::Div => Err(refusal(alloc, "div", offset)),
-        Operator::Minus => Ok(ArithOp::Minus),
-        Operator::Times => Ok(ArithOp::Times),
+        Operator::Minus => Ok(ArithOp::Sub),
+        Operator::Times => Ok(ArithOp::Mul),
         Operator::Mod => Ok(ArithOp::Mod),
-        _ => Ok(ArithOp::Plus),
+        _ => Ok(ArithOp::Add),
     }
 }
 

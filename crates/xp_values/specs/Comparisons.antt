@@ -4,8 +4,8 @@ use Rattle.std.specs.List.{list_any}
 use Rattle.std.specs.Ordering.{int_eq}
 use Rattle.doc_tree.specs.Table.{Table}
 use Rattle.doc_tree.specs.Walks.{string_value_of}
-use Rattle.xp_values.specs.declared.comparing.Comparison.{Comparison}
-use Rattle.xp_values.specs.declared.comparing.Comparison.TheVariants.{Eq, Ne, Lt, Le, Gt, Ge}
+use Rattle.xp_tree.specs.declared.operators.Comparison.{Comparison}
+use Rattle.xp_tree.specs.declared.operators.Comparison.TheVariants.{Eq, Ne, Lt, Le, Gt, Ge}
 use Rattle.xp_values.specs.declared.numbers.Num.{Num}
 use Rattle.xp_values.specs.declared.numbers.Num.TheVariants.{NaN, Whole}
 use Rattle.xp_values.specs.declared.values.EvalFault.{EvalFault}

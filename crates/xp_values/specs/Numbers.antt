@@ -3,8 +3,8 @@ use Rattle.std.specs.Prelude.{ℕ, ℤ, pos, ◌+ℤ◌, ◌-ℤ◌, ◌*ℤ◌,
 use Rattle.std.specs.Ordering.{int_eq}
 use Rattle.xp_values.specs.declared.numbers.Num.{Num}
 use Rattle.xp_values.specs.declared.numbers.Num.TheVariants.{NaN, Whole}
-use Rattle.xp_values.specs.declared.numbers.ArithOp.{ArithOp}
-use Rattle.xp_values.specs.declared.numbers.ArithOp.TheVariants.{Add, Sub, Mul, Mod}
+use Rattle.xp_tree.specs.declared.operators.ArithOp.{ArithOp}
+use Rattle.xp_tree.specs.declared.operators.ArithOp.TheVariants.{Add, Sub, Mul, Mod}
 use Rattle.xp_values.specs.declared.numbers.TheConstants.{MAX_WHOLE}
 use Rattle.xp_values.specs.declared.values.EvalFault.{EvalFault}
 use Rattle.xp_values.specs.declared.values.EvalFault.TheVariants.{NumberRange}

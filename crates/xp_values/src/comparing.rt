@@ -14,17 +14,7 @@ use super::values::{EvalError, Value};
 use doc_tree::{NodeId, NodeList, Tree};
 use sch_base::{ItemList, Text};
 use std::alloc::{AllocError, Global};
-
-/// The operators `=`, `!=`, `<`, `<=`, `>` and `>=`.
-#[derive(Clone, Copy, Debug, PartialEq, Eq)]
-pub enum Comparison {
-    Eq,
-    Ne,
-    Lt,
-    Le,
-    Gt,
-    Ge,
-}
+use xp_tree::Comparison;
 
 /// Compares two values (XPath 1.0, section 3.4). A node-set stands for each of its nodes: the comparison holds where some
 /// pair passes.

@@ -11,9 +11,9 @@ mod spaces;
 mod texts;
 mod values;
 
-pub use comparing::{Comparison, compare};
+pub use comparing::compare;
 pub use convert::{to_number, to_text, to_truth};
-pub use numbers::{ArithOp, MAX_WHOLE, Num, arith};
+pub use numbers::{MAX_WHOLE, Num, arith};
 pub use numerals::text_to_number;
 pub use replacing::translate;
 pub use spaces::normalize_space;
@@ -21,3 +21,4 @@ pub use texts::{
     concat, contains, starts_with, string_length, substring, substring_after, substring_before,
 };
 pub use values::{EvalError, EvalFault, Value};
+pub use xp_tree::{ArithOp, Comparison};

@@ -5,6 +5,7 @@ ghost use Rattle.std.specs.Int.{w64};
 ghost use Rattle.xp_values.specs.Numbers.{InRange, arith, combined, remainder, whole_number};
 
 use super::values::EvalFault;
+use xp_tree::ArithOp;
 
 /// The greatest whole number in size, 2^53 - 1.
 pub const MAX_WHOLE: u64 = 9_007_199_254_740_991;
@@ -16,15 +17,6 @@ pub const MAX_WHOLE: u64 = 9_007_199_254_740_991;
 pub enum Num {
     NaN,
     Whole(i64),
-}
-
-/// The operators of arithmetic but for `div` (XPath 1.0, section 3.5).
-#[derive(Clone, Copy, Debug, PartialEq, Eq)]
-pub enum ArithOp {
-    Add,
-    Sub,
-    Mul,
-    Mod,
 }
 
 /// Combines two numbers (XPath 1.0, section 3.5): NaN with a NaN operand or modulo 0; `Mod` has the dividend's sign.
