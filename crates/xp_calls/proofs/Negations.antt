@@ -2,7 +2,7 @@
 use Rattle.std.proofs.Common.{◌≡◌, ℕ, zero, suc, pos, ◌-◌, ◌<◌, Ok, Err, refl, sym, ◌∙◌, ap, arith}
 use Rattle.xp_values.specs.declared.numbers.Num.{Num}
 use Rattle.xp_values.specs.declared.numbers.Num.TheVariants.{Whole}
-use Rattle.xp_values.specs.declared.numbers.ArithOp.TheVariants as operations
+use Rattle.xp_tree.specs.declared.operators.ArithOp.TheVariants as operations
 use Rattle.xp_values.specs.declared.values.EvalFault.{EvalFault}
 use Rattle.xp_values.specs.Numbers as numbers
 use Rattle.xp_values.specs.Outcomes.{then_of}

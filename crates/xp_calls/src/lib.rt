@@ -10,4 +10,4 @@ mod operators;
 
 pub use applying::applied;
 pub use arguments::wanted;
-pub use operators::{comparison_of, negated, operation_of};
+pub use operators::negated;

@@ -4,7 +4,7 @@ use Rattle.doc_tree.specs.Table.{Table}
 use Rattle.doc_tree.specs.Walks.{string_value_of}
 use Rattle.xp_values.specs.declared.values.EvalFault.{EvalFault}
 use Rattle.xp_values.specs.declared.numbers.Num.{Num}
-use Rattle.xp_values.specs.declared.numbers.ArithOp.TheVariants as ops
+use Rattle.xp_tree.specs.declared.operators.ArithOp.TheVariants as ops
 use Rattle.xp_values.specs.Numbers.{arith}
 use Rattle.xp_values.specs.Numerals.{text_to_number}
 use Rattle.xp_values.specs.Outcomes.{then_of}

@@ -11,8 +11,8 @@ use Rattle.xp_values.specs.declared.values.Value.TheVariants.{NodeSet, Truth, Nu
 use Rattle.xp_values.specs.declared.values.EvalFault.{EvalFault}
 use Rattle.xp_values.specs.declared.numbers.Num.{Num}
 use Rattle.xp_values.specs.declared.numbers.Num.TheVariants.{Whole}
-use Rattle.xp_values.specs.declared.numbers.ArithOp.TheVariants as ops
-use Rattle.xp_values.specs.declared.comparing.Comparison.{Comparison}
+use Rattle.xp_tree.specs.declared.operators.ArithOp.TheVariants as ops
+use Rattle.xp_tree.specs.declared.operators.Comparison.{Comparison}
 use Rattle.xp_values.specs.Numbers.{arith}
 use Rattle.xp_values.specs.Numerals.{text_to_number}
 use Rattle.xp_values.specs.Conversions.{to_text, to_number}

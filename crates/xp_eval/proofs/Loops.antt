@@ -17,7 +17,6 @@ use Rattle.xp_values.specs.Numbers.{arith}
 use Rattle.xp_values.specs.Conversions.{to_truth}
 use Rattle.xp_convert.specs.Conversions.{number_in, compare_in}
 use Rattle.xp_meaning.specs.declared.context.Context.{Context}
-use Rattle.xp_meaning.specs.Operators.{comparison_of, operation_of}
 use Rattle.xp_meaning.specs.Paths.{kept, filtered, step_from, path}
 use Rattle.xp_meaning.specs.Evaluation.{Lets, meaning, meanings, some_true, all_true, compared, combined, comparands_meant, combinands_meant, steps_meant}
 use Rattle.xp_eval.specs.Steps.{step_meant}
@@ -49,7 +48,7 @@ module _ (T : Table) (L : Lets) (xs : List TypedExpr) (i : ℕ) where
 module _ (T : Table) (L : Lets) (xs : List Compared) (i : ℕ) (c : Context) (v : Value) where
   pub compared-next : (x : Compared) → i < length xs → x ≡ get_or xs i x →
       compared T (comparands_meant T L (compared_list_seen (drop i xs))) v c
-      ≡ bind (meaning T L (typed_tree_of (out-Compared x).expr) c) (λ w. bind (compare_in T (comparison_of (out-Compared x).operator) v w) (λ truth.
+      ≡ bind (meaning T L (typed_tree_of (out-Compared x).expr) c) (λ w. bind (compare_in T (out-Compared x).operator v w) (λ truth.
       compared T (comparands_meant T L (compared_list_seen (drop (i + 1) xs))) (Truth truth) c))
   compared-next x below is =
       ap (λ ys. compared T (comparands_meant T L (compared_list_seen ys)) v c) (next_item xs i x below is)
@@ -62,12 +61,12 @@ module _ (T : Table) (L : Lets) (xs : List Combined) (i : ℕ) (c : Context) (n 
   pub combined-next : (x : Combined) → i < length xs → x ≡ get_or xs i x →
       combined T (combinands_meant T L (combined_list_seen (drop i xs))) n c
       ≡ bind (bind (meaning T L (typed_tree_of (out-Combined x).expr) c) (number_in T)) (λ m.
-      bind (given (arith (operation_of (out-Combined x).operator) n m)) (λ k. combined T (combinands_meant T L (combined_list_seen (drop (i + 1) xs))) k c))
+      bind (given (arith (out-Combined x).operator n m)) (λ k. combined T (combinands_meant T L (combined_list_seen (drop (i + 1) xs))) k c))
   combined-next x below is =
       ap (λ ys. combined T (combinands_meant T L (combined_list_seen ys)) n c) (next_item xs i x below is)
       ∙ ap (λ r. combined T (combinands_meant T L r) n c) (of-combined x (combined_list_seen (drop (i + 1) xs)))
       ∙ sym (bind_assoc (meaning T L (typed_tree_of (out-Combined x).expr) c) (number_in T) (λ m.
-      bind (given (arith (operation_of (out-Combined x).operator) n m)) (λ k. combined T (combinands_meant T L (combined_list_seen (drop (i + 1) xs))) k c)))
+      bind (given (arith (out-Combined x).operator n m)) (λ k. combined T (combinands_meant T L (combined_list_seen (drop (i + 1) xs))) k c)))
 
   pub combined-end : length xs ≤ i → combined T (combinands_meant T L (combined_list_seen (drop i xs))) n c ≡ done n
   combined-end past = ap (λ ys. combined T (combinands_meant T L (combined_list_seen ys)) n c) (no_item xs i past)

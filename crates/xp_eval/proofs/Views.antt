@@ -4,7 +4,7 @@ use Rattle.std.specs.Prelude.{Box, Vec, Some, None, flat_map}
 use Rattle.std.specs.declared.alloc.Global.{Global}
 use Rattle.doc_tree.specs.Table.{Table}
 use Rattle.doc_axes.specs.Sets.{in_order}
-use Rattle.xp_typed_tree.specs.declared.operators.ValueType.{ValueType}
+use Rattle.xp_typed_tree.specs.declared.value_type.ValueType.{ValueType}
 use Rattle.xp_typed_tree.specs.declared.function.Function.{Function}
 use Rattle.xp_typed_tree.specs.declared.expr.TypedExpr.{TypedExpr}
 use Rattle.xp_typed_tree.specs.declared.expr.Compared.{Compared}

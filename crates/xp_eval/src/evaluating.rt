@@ -24,7 +24,7 @@ use doc_tree::{NodeId, NodeList, Tree};
 use sch_base::{ItemList, Text};
 use std::alloc::{AllocError, Global};
 use std::sync::ledger::Ledger;
-use xp_calls::{applied, comparison_of, negated, operation_of};
+use xp_calls::{applied, negated};
 use xp_convert::{as_wanted, compare_in, number_in};
 use xp_meaning::{Context, Lets};
 use xp_outcome::{Recorder, Steps};
@@ -148,8 +148,7 @@ fn compared<L: Ledger>(
     let mut value = value;
     for operand in rest {
         let right = evaluated(alloc, tree, lets, &operand.expr, at, reads, steps)?;
-        let operator = comparison_of(operand.operator);
-        let truth = compare_in(alloc, tree, operator, &value, &right, reads, steps)?;
+        let truth = compare_in(alloc, tree, operand.operator, &value, &right, reads, steps)?;
         value = Value::Truth(truth);
     }
     Ok(value)
@@ -173,7 +172,7 @@ fn combined<L: Ledger>(
     let mut number = number;
     for operand in rest {
         let right = operand_number(alloc, tree, lets, &operand.expr, at, reads, steps)?;
-        number = arith(operation_of(operand.operator), number, right)?;
+        number = arith(operand.operator, number, right)?;
     }
     Ok(number)
 }

@@ -9,7 +9,7 @@ use Rattle.doc_tree.proofs.ListLemmas.{mem-In}
 use Rattle.doc_axes.specs.Sets.{in_order, IsNodeSet}
 use Rattle.doc_axes.proofs.SubLists as subs
 use Rattle.doc_axes.proofs.SubLists.{Sub, sub-none, sub-one, filter-sub}
-use Rattle.xp_typed_tree.specs.declared.operators.Comparison.{Comparison}
+use Rattle.xp_tree.specs.declared.operators.Comparison.{Comparison}
 use Rattle.xp_typed_tree.specs.declared.function.Function.{Function}
 use Rattle.xp_typed_tree.specs.declared.function.Function.TheVariants as functions
 use Rattle.xp_typed_tree.specs.TypedTree.{TypedTree, TypedPlace, disjunction, conjunction, comparison, arithmetic, negation, union, location, selection, slot, text, whole, application, at_root, at_context, at_nodes}
@@ -23,7 +23,7 @@ use Rattle.xp_values.specs.Texts.{limited, string_length, normalize_space, trans
 use Rattle.xp_convert.specs.declared.want.Want.TheVariants.{AsItIs}
 use Rattle.xp_convert.specs.Conversions.{nodes_of, number_in, compare_in, sum_in}
 use Rattle.xp_meaning.specs.declared.context.Context.{Context}
-use Rattle.xp_meaning.specs.Operators.{comparison_of, negated}
+use Rattle.xp_meaning.specs.Operators.{negated}
 use Rattle.xp_meaning.specs.Paths.{Step, filtered, path, step_at, step_from}
 use Rattle.xp_meaning.specs.Functions.{applied, as_chars, nodes_at, text_at, text_of, text_or_own, number_or_own, wanted}
 use Rattle.xp_meaning.specs.Language.{in_language}
@@ -99,8 +99,8 @@ module _ (T : Table) (ord : Ordered T) where
   compared_proper : (ms : List (Operand Comparison)) (w : Value) (c : Context) (v : Value) → IsProper T w → (compared T ms w c).answer ≡ Ok v → IsProper T v
   compared_proper [] w c v h is = done_proper w v h is
   compared_proper (m ∷ ms) w c v h is =
-      let one = came_before (m.meaning c) (λ x. bind (compare_in T (comparison_of m.operator) w x) (λ b. compared T ms (Truth b) c)) v is in
-      let two = came_before (compare_in T (comparison_of m.operator) w one.first) (λ b. compared T ms (Truth b) c) v one.then in
+      let one = came_before (m.meaning c) (λ x. bind (compare_in T m.operator w x) (λ b. compared T ms (Truth b) c)) v is in
+      let two = came_before (compare_in T m.operator w one.first) (λ b. compared T ms (Truth b) c) v one.then in
       compared_proper ms (Truth two.first) c v tt two.then
 
   path_proper : (ss : List Step) (current : ℕ) (ns ms : List ℕ) → IsNodeSet T ns → (path T ss current ns).answer ≡ Ok ms → IsNodeSet T ms

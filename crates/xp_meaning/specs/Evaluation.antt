@@ -3,8 +3,8 @@
 use Rattle.std.specs.Prelude.{ℕ, Bool, true, false, List, [], ◌∷◌, Option, None, Some, Result, Ok, Err, flat_map, if◌then◌else◌}
 use Rattle.doc_tree.specs.Table.{Table}
 use Rattle.doc_axes.specs.Sets.{in_order}
-use Rattle.xp_typed_tree.specs.declared.operators.Comparison.{Comparison}
-use Rattle.xp_typed_tree.specs.declared.operators.ArithOp.{ArithOp}
+use Rattle.xp_tree.specs.declared.operators.Comparison.{Comparison}
+use Rattle.xp_tree.specs.declared.operators.ArithOp.{ArithOp}
 use Rattle.xp_typed_tree.specs.TypedTree.{TypedTree, TypedPlace, TypedSteps, Comparands, Combinands, TypedTrees, disjunction, conjunction, comparison, arithmetic, negation, union, location, selection, slot, text, whole, application, at_root, at_context, at_nodes, no_more_steps, typed_step, no_comparands, comparand, no_combinands, combinand, no_typed, typed}
 use Rattle.xp_outcome.specs.Evaluation.{Evaluation, done, fault, given, bind, visit, reading, gather, variable}
 use Rattle.xp_outcome.specs.Slots.{in_slot}
@@ -19,7 +19,7 @@ use Rattle.xp_convert.specs.declared.want.Want.{Want}
 use Rattle.xp_convert.specs.declared.want.Want.TheVariants.{AsItIs}
 use Rattle.xp_convert.specs.Conversions.{nodes_of, number_in, compare_in, as_wanted}
 use Rattle.xp_meaning.specs.declared.context.Context.{Context}
-use Rattle.xp_meaning.specs.Operators.{comparison_of, operation_of, negated}
+use Rattle.xp_meaning.specs.Operators.{negated}
 use Rattle.xp_meaning.specs.Paths.{Meaning, Step, filtered, path}
 use Rattle.xp_meaning.specs.Functions.{wanted, applied}
 
@@ -46,13 +46,13 @@ all_true (m ∷ ms) c = bind (m c) (λ v. if to_truth v then all_true ms c else 
 abbrev pub compared : Table → List (Operand Comparison) → Value → Context → Evaluation EvalFault Value
 compared T [] v c = done v
 compared T (m ∷ ms) v c =
-    bind (m.meaning c) (λ w. bind (compare_in T (comparison_of m.operator) v w) (λ truth. compared T ms (Truth truth) c))
+    bind (m.meaning c) (λ w. bind (compare_in T m.operator v w) (λ truth. compared T ms (Truth truth) c))
 
 -- arithmetic from left to right: each operand is converted and combined before the next one is evaluated
 abbrev pub combined : Table → List (Operand ArithOp) → Num → Context → Evaluation EvalFault Num
 combined T [] x c = done x
 combined T (m ∷ ms) x c =
-    bind (m.meaning c) (λ w. bind (number_in T w) (λ y. bind (given (arith (operation_of m.operator) x y)) (λ z. combined T ms z c)))
+    bind (m.meaning c) (λ w. bind (number_in T w) (λ y. bind (given (arith m.operator x y)) (λ z. combined T ms z c)))
 
 -- each expression in turn, its value converted before the next one is evaluated
 abbrev pub values : Table → (ℕ → Want) → List Meaning → Context → Evaluation EvalFault (List Value)

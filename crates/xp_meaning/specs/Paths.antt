@@ -10,7 +10,7 @@ use Rattle.xp_outcome.specs.Evaluation.{Evaluation, done, bind, visits, all_read
 use Rattle.xp_values.specs.declared.values.Value.{Value}
 use Rattle.xp_values.specs.declared.values.Value.TheVariants.{NodeSet, Truth, Number, Chars}
 use Rattle.xp_values.specs.declared.values.EvalFault.{EvalFault}
-use Rattle.xp_values.specs.declared.comparing.Comparison.TheVariants.{Eq}
+use Rattle.xp_tree.specs.declared.operators.Comparison.TheVariants.{Eq}
 use Rattle.xp_values.specs.declared.numbers.Num.TheVariants.{Whole}
 use Rattle.xp_values.specs.Comparisons.{number_test}
 use Rattle.xp_values.specs.Conversions.{to_truth}

@@ -3,8 +3,8 @@ use Rattle.std.proofs.Common.{◌≡◌, ℕ, ◌+◌, Bool, true, false, ◌||�
 use Rattle.std.specs.Prelude.{flat_map, if◌then◌else◌}
 use Rattle.doc_tree.specs.Table.{Table}
 use Rattle.doc_axes.specs.Sets.{in_order}
-use Rattle.xp_typed_tree.specs.declared.operators.Comparison.{Comparison}
-use Rattle.xp_typed_tree.specs.declared.operators.ArithOp.{ArithOp}
+use Rattle.xp_tree.specs.declared.operators.Comparison.{Comparison}
+use Rattle.xp_tree.specs.declared.operators.ArithOp.{ArithOp}
 use Rattle.xp_typed_tree.specs.declared.function.Function.{Function}
 use Rattle.xp_typed_tree.specs.declared.function.Function.TheVariants as functions
 use Rattle.xp_typed_tree.specs.TypedTree.{TypedTree, TypedPlace, Comparands, Combinands, TypedTrees, disjunction, conjunction, comparison, arithmetic, negation, union, location, selection, slot, text, whole, application, at_root, at_context, at_nodes, no_comparands, comparand, no_combinands, combinand, no_typed, typed}
@@ -21,7 +21,7 @@ use Rattle.xp_convert.specs.declared.want.Want.{Want}
 use Rattle.xp_convert.specs.declared.want.Want.TheVariants.{AsItIs}
 use Rattle.xp_convert.specs.Conversions.{nodes_of, number_in, compare_in, as_wanted}
 use Rattle.xp_meaning.specs.declared.context.Context.{Context}
-use Rattle.xp_meaning.specs.Operators.{comparison_of, operation_of, negated}
+use Rattle.xp_meaning.specs.Operators.{negated}
 use Rattle.xp_meaning.specs.Names.{name_at, local_in, uri_in, written_in}
 use Rattle.xp_meaning.specs.Paths.{Meaning, filtered, path, placed}
 use Rattle.xp_meaning.specs.Functions.{applied, wanted, named_node, text_or_own, number_or_own, as_text, as_number}
@@ -67,16 +67,16 @@ module _ (T : Table) (L : Lets) (current node size position others place : ℕ) 
   compared_same : (ms : List (Operand Comparison)) (v : Value) → SameOperands ms → compared T ms v here ≡ compared T ms v there
   compared_same [] v h = refl
   compared_same (m ∷ ms) v h =
-      binds (m.meaning here) (m.meaning there) (λ w. bind (compare_in T (comparison_of m.operator) v w) (λ truth. compared T ms (Truth truth) here))
-      (λ w. bind (compare_in T (comparison_of m.operator) v w) (λ truth. compared T ms (Truth truth) there)) h.0
-      (λ w. bind_alike (compare_in T (comparison_of m.operator) v w) _ _ (λ truth. compared_same ms (Truth truth) h.1))
+      binds (m.meaning here) (m.meaning there) (λ w. bind (compare_in T m.operator v w) (λ truth. compared T ms (Truth truth) here))
+      (λ w. bind (compare_in T m.operator v w) (λ truth. compared T ms (Truth truth) there)) h.0
+      (λ w. bind_alike (compare_in T m.operator v w) _ _ (λ truth. compared_same ms (Truth truth) h.1))
 
   combined_same : (ms : List (Operand ArithOp)) (x : Num) → SameOperands ms → combined T ms x here ≡ combined T ms x there
   combined_same [] x h = refl
   combined_same (m ∷ ms) x h =
-      binds (m.meaning here) (m.meaning there) (λ w. bind (number_in T w) (λ y. bind (given (arith (operation_of m.operator) x y)) (λ z. combined T ms z here)))
-      (λ w. bind (number_in T w) (λ y. bind (given (arith (operation_of m.operator) x y)) (λ z. combined T ms z there))) h.0
-      (λ w. bind_alike (number_in T w) _ _ (λ y. bind_alike (given (arith (operation_of m.operator) x y)) _ _ (λ z. combined_same ms z h.1)))
+      binds (m.meaning here) (m.meaning there) (λ w. bind (number_in T w) (λ y. bind (given (arith m.operator x y)) (λ z. combined T ms z here)))
+      (λ w. bind (number_in T w) (λ y. bind (given (arith m.operator x y)) (λ z. combined T ms z there))) h.0
+      (λ w. bind_alike (number_in T w) _ _ (λ y. bind_alike (given (arith m.operator x y)) _ _ (λ z. combined_same ms z h.1)))
 
   abbrev act : (ℕ → Want) → Context → ℕ → Meaning → Evaluation EvalFault Value
   act want c i m = bind (m c) (λ v. as_wanted T (want i) v)

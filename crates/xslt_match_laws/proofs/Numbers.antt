@@ -3,8 +3,8 @@ use Rattle.std.proofs.Common.{◌≡◌, ℕ, Bool, false, List, [], ◌∷◌, 
 use Rattle.std.specs.Prelude.{flat_map}
 use Rattle.doc_tree.specs.Table.{Table}
 use Rattle.doc_axes.specs.Sets.{in_order}
-use Rattle.xp_typed_tree.specs.declared.operators.Comparison.{Comparison}
-use Rattle.xp_typed_tree.specs.declared.operators.ValueType.{ValueType}
+use Rattle.xp_tree.specs.declared.operators.Comparison.{Comparison}
+use Rattle.xp_typed_tree.specs.declared.value_type.ValueType.{ValueType}
 use Rattle.xp_typed_tree.specs.declared.function.Function.{Function}
 use Rattle.xp_typed_tree.specs.declared.function.Function.TheVariants as functions
 use Rattle.xp_typed_tree.specs.TypedTree.{TypedTree, Comparands, disjunction, conjunction, comparison, arithmetic, negation, union, location, selection, slot, text, whole, application, no_comparands, comparand}
@@ -19,7 +19,6 @@ use Rattle.xp_values.specs.Texts.{limited, normalize_space, translate}
 use Rattle.xp_convert.specs.declared.want.Want.TheVariants.{AsItIs}
 use Rattle.xp_convert.specs.Conversions.{nodes_of, compare_in}
 use Rattle.xp_meaning.specs.declared.context.Context.{Context}
-use Rattle.xp_meaning.specs.Operators.{comparison_of}
 use Rattle.xp_meaning.specs.Paths.{filtered, path, holds_at}
 use Rattle.xp_meaning.specs.Functions.{applied, as_chars, text_at, text_of, text_or_own, wanted}
 use Rattle.xp_meaning.specs.Language.{in_language}
@@ -99,16 +98,16 @@ module _ (T : Table) where
   compared_plain : (ms : List (Operand Comparison)) (b : Bool) (c : Context) (v : Value) → (compared T ms (Truth b) c).answer ≡ Ok v → Plain v
   compared_plain [] b c v is = done_plain (Truth b) v tt is
   compared_plain (m ∷ ms) b c v is =
-      let one = came_before (m.meaning c) (λ x. bind (compare_in T (comparison_of m.operator) (Truth b) x) (λ t. compared T ms (Truth t) c)) v is in
-      let two = came_before (compare_in T (comparison_of m.operator) (Truth b) one.first) (λ t. compared T ms (Truth t) c) v one.then in
+      let one = came_before (m.meaning c) (λ x. bind (compare_in T m.operator (Truth b) x) (λ t. compared T ms (Truth t) c)) v is in
+      let two = came_before (compare_in T m.operator (Truth b) one.first) (λ t. compared T ms (Truth t) c) v one.then in
       compared_plain ms two.first c v two.then
 
   module _ (L : Lets) where
     comparison_plain : (rest : Comparands) (w : Value) (c : Context) (v : Value) → Compares rest → (compared T (comparands_meant T L rest) w c).answer ≡ Ok v → Plain v
     comparison_plain no_comparands w c v h is = absurd h
     comparison_plain (comparand operator operand rest) w c v h is =
-        let one = came_before (meaning T L operand c) (λ x. bind (compare_in T (comparison_of operator) w x) (λ t. compared T (comparands_meant T L rest) (Truth t) c)) v is in
-        let two = came_before (compare_in T (comparison_of operator) w one.first) (λ t. compared T (comparands_meant T L rest) (Truth t) c) v one.then in
+        let one = came_before (meaning T L operand c) (λ x. bind (compare_in T operator w x) (λ t. compared T (comparands_meant T L rest) (Truth t) c)) v is in
+        let two = came_before (compare_in T operator w one.first) (λ t. compared T (comparands_meant T L rest) (Truth t) c) v one.then in
         compared_plain (comparands_meant T L rest) two.first c v two.then
 
     -- a value of an expression whose type isn't that of numbers

@@ -1,8 +1,8 @@
 -- What a pattern's predicates keep to beyond being well typed (XPath 1.0, sections 2.4, 3.1 and 3.4): else a predicate
 -- could have a number as its value though its type is another.
 use Rattle.std.specs.Prelude.{◌≡◌, List, [], ◌∷◌, Option, None, Some, Result, Ok, Err}
-use Rattle.xp_typed_tree.specs.declared.operators.ValueType.{ValueType}
-use Rattle.xp_typed_tree.specs.declared.operators.ValueType.TheVariants as types
+use Rattle.xp_typed_tree.specs.declared.value_type.ValueType.{ValueType}
+use Rattle.xp_typed_tree.specs.declared.value_type.ValueType.TheVariants as types
 use Rattle.xp_typed_tree.specs.TypedTree.{TypedTree, Comparands, TypedTrees, TypedPatternStepTree, TypedPathTree, disjunction, conjunction, comparison, arithmetic, negation, union, location, selection, slot, text, whole, application, no_comparands, comparand, no_typed, typed}
 use Rattle.xp_outcome.specs.Slots.{in_slot}
 use Rattle.xp_values.specs.declared.values.Value.{Value}

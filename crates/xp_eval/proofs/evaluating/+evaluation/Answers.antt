@@ -6,8 +6,7 @@ use Rattle.xp_outcome.specs.Evaluation.{done, bind}
 use Rattle.xp_outcome.proofs.Runs.{next_item, no_item, ran_alike, ran_bind, ran_stop, ran_done, ran_late, onto_alike, onto_bind, onto_stop, onto_done, onto_late, onto_end}
 use Rattle.xp_values.specs.declared.values.Value.{Value}
 use Rattle.xp_values.specs.declared.values.Value.TheVariants.{NodeSet}
-use Rattle.xp_values.specs.Numbers as numbers
-use Rattle.xp_convert.specs.Conversions.{nodes_of, as_wanted, compare_in}
+use Rattle.xp_convert.specs.Conversions.{nodes_of, as_wanted}
 use Rattle.xp_convert.proofs.Exits.{exit_same, exit_memory, exit_fault, ran_ticked, ran_done_at}
 use Rattle.xp_meaning.specs.Paths.{Meaning, chosen, placed, kept, filtered, step_at, step_from}
 use Rattle.xp_meaning.specs.Functions.{applied}
@@ -57,11 +56,11 @@ compared-returns-in_err-right g t c =
 
 pub compared-returns-in_err-truth : goal.compared-returns-in_err-truth
 compared-returns-in_err-truth g t c =
-    exit_same _ _ c.from_residual-in_err-truth.ensures.1 (onto_stop _ _ (onto_goes _ _ (compared-next c.args.tree.now.nodes c.args.lets.now c.args.rest.now c.loop-operand.operand-index c.args.at.now c.loop-operand.value c.operand-item.result c.loop-operand-test.true c.operand-item.is) c.loop-operand.invariant c.in_ok-right.ensures) (ran_alike (ap (λ o. compare_in c.args.tree.now.nodes o c.loop-operand.value c.in_ok-right.right) (sym c.comparison_of-operator.ensures)) c.in_err-truth.ensures))
+    exit_same _ _ c.from_residual-in_err-truth.ensures.1 (onto_stop _ _ (onto_goes _ _ (compared-next c.args.tree.now.nodes c.args.lets.now c.args.rest.now c.loop-operand.operand-index c.args.at.now c.loop-operand.value c.operand-item.result c.loop-operand-test.true c.operand-item.is) c.loop-operand.invariant c.in_ok-right.ensures) c.in_err-truth.ensures)
 
 pub compared-loop-operand-preserved : goal.compared-loop-operand-preserved
 compared-loop-operand-preserved g t c =
-    onto_bind _ (onto_goes _ _ (compared-next c.args.tree.now.nodes c.args.lets.now c.args.rest.now c.loop-operand.operand-index c.args.at.now c.loop-operand.value c.operand-item.result c.loop-operand-test.true c.operand-item.is) c.loop-operand.invariant c.in_ok-right.ensures) (ran_alike (ap (λ o. compare_in c.args.tree.now.nodes o c.loop-operand.value c.in_ok-right.right) (sym c.comparison_of-operator.ensures)) c.in_ok-truth.ensures)
+    onto_bind _ (onto_goes _ _ (compared-next c.args.tree.now.nodes c.args.lets.now c.args.rest.now c.loop-operand.operand-index c.args.at.now c.loop-operand.value c.operand-item.result c.loop-operand-test.true c.operand-item.is) c.loop-operand.invariant c.in_ok-right.ensures) c.in_ok-truth.ensures
 
 pub compared-returns : goal.compared-returns
 compared-returns g t c =
@@ -73,11 +72,11 @@ combined-returns-in_err-right g t c =
 
 pub combined-returns-in_err-number : goal.combined-returns-in_err-number
 combined-returns-in_err-number g t c =
-    exit_fault _ _ c.from_residual-in_err-number.ensures.1 (onto_stop _ _ (onto_goes _ _ (combined-next c.args.tree.now.nodes c.args.lets.now c.args.rest.now c.loop-operand.operand-index c.args.at.now c.loop-operand.number c.operand-item.result c.loop-operand-test.true c.operand-item.is) c.loop-operand.invariant c.in_ok-right.ensures) (ran_given_fault _ _ _ _ (ap (λ o. numbers.arith o c.loop-operand.number c.in_ok-right.right) (sym c.operation_of.ensures) ∙ sym c.in_err-number.ensures.value)))
+    exit_fault _ _ c.from_residual-in_err-number.ensures.1 (onto_stop _ _ (onto_goes _ _ (combined-next c.args.tree.now.nodes c.args.lets.now c.args.rest.now c.loop-operand.operand-index c.args.at.now c.loop-operand.number c.operand-item.result c.loop-operand-test.true c.operand-item.is) c.loop-operand.invariant c.in_ok-right.ensures) (ran_given_fault _ _ _ _ (sym c.in_err-number.ensures.value)))
 
 pub combined-loop-operand-preserved : goal.combined-loop-operand-preserved
 combined-loop-operand-preserved g t c =
-    onto_bind _ (onto_goes _ _ (combined-next c.args.tree.now.nodes c.args.lets.now c.args.rest.now c.loop-operand.operand-index c.args.at.now c.loop-operand.number c.operand-item.result c.loop-operand-test.true c.operand-item.is) c.loop-operand.invariant c.in_ok-right.ensures) (ran_given_ok _ _ _ _ (ap (λ o. numbers.arith o c.loop-operand.number c.in_ok-right.right) (sym c.operation_of.ensures) ∙ sym c.in_ok-number.ensures.value))
+    onto_bind _ (onto_goes _ _ (combined-next c.args.tree.now.nodes c.args.lets.now c.args.rest.now c.loop-operand.operand-index c.args.at.now c.loop-operand.number c.operand-item.result c.loop-operand-test.true c.operand-item.is) c.loop-operand.invariant c.in_ok-right.ensures) (ran_given_ok _ _ _ _ (sym c.in_ok-number.ensures.value))
 
 pub combined-returns : goal.combined-returns
 combined-returns g t c =
