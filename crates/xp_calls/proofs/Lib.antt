@@ -1,3 +1,6 @@
+pub mod Takings
+pub mod Comparing
+pub mod Summing
 pub mod Negations
 pub mod JoinedTexts
 pub mod Languages

@@ -3,18 +3,19 @@
 ghost use Rattle.std.specs.Prelude.{◌≡◌, ℕ, List, [], ◌∷◌, length, Result, IfOk};
 ghost use Rattle.xp_outcome.specs.Evaluation.{bind, done};
 ghost use Rattle.xp_outcome.specs.Running.{Ran};
-ghost use Rattle.xp_convert.specs.Results.{shown};
+ghost use Rattle.xp_meaning.specs.Results.{shown};
 ghost use Rattle.xp_values.specs.Outcomes.{Gives};
 ghost use Rattle.xp_values.specs.declared.values.Value.TheVariants as values;
 ghost use Rattle.xp_values.specs.declared.values.EvalFault.{EvalFault};
 ghost use Rattle.xp_values.specs.Texts.{normalize_space, string_length};
-ghost use Rattle.xp_convert.specs.Conversions.{sum_in};
+ghost use Rattle.xp_meaning.specs.Conversions.{sum_in};
 ghost use Rattle.xp_meaning.specs.Functions.{applied, as_chars, as_number, as_text, as_truth, counted, nodes_at, number_or_own, text_or_own};
 ghost use Rattle.xp_meaning.specs.Language.{in_language};
 
 use crate::arguments::{
     length_in, named_node, nodes_at, number_at, number_of, text_at, text_of, truth_at,
 };
+use crate::converting::{number_in, sum_in, text_in};
 use crate::joining::joined;
 use crate::language::in_language;
 use crate::names::{local_name, namespace_uri, written_name};
@@ -23,7 +24,6 @@ use doc_tree::{NodeId, Tree};
 use sch_base::Text;
 use std::alloc::{AllocError, Global};
 use std::sync::ledger::Ledger;
-use xp_convert::{number_in, sum_in, text_in};
 use xp_meaning::Context;
 use xp_outcome::{Recorder, Steps};
 use xp_typed_tree::Function;

@@ -5,9 +5,9 @@ ghost use Rattle.std.specs.Option.{option_copied};
 ghost use Rattle.xp_meaning.specs.Functions.{wanted, text_then_numbers, text_of, number_of, argument, nodes_at, text_at, number_at, length_in, named_node};
 ghost use Rattle.xp_values.specs.Conversions.{to_truth};
 
+use crate::converting::nodes_of;
 use doc_tree::NodeId;
-use xp_convert::{Want, nodes_of};
-use xp_meaning::Context;
+use xp_meaning::{Context, Want};
 use xp_typed_tree::Function;
 use xp_values::{Num, Value, to_truth};
 

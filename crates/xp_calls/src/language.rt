@@ -1,13 +1,12 @@
 //! The language of a node (XPath 1.0, section 4.3, `lang`).
 
 ghost use Rattle.std.specs.Prelude.{◌≡◌, ℕ};
-ghost use Rattle.doc_tree.specs.Kinds.{is_element};
-ghost use Rattle.doc_tree.specs.Table.{kind_of};
 ghost use Rattle.xp_outcome.specs.Running.{Ran};
-ghost use Rattle.xp_convert.specs.Results.{shown_alloc};
+ghost use Rattle.xp_meaning.specs.Results.{shown_alloc};
 ghost use Rattle.xp_meaning.specs.Language.{ends_or_goes_on, is_language, is_lang, lang_among, own_language, in_language};
 
-use doc_tree::{Cell, Kind, NodeId, Tree, xml_namespace};
+use crate::reading::is_element;
+use doc_tree::{Cell, NodeId, Tree, xml_namespace};
 use std::alloc::AllocError;
 use xp_outcome::Recorder;
 
@@ -52,17 +51,6 @@ fn own_language(
             Ok(Some(is_language(tree.value(attribute), wanted)))
         }
         None => Ok(None),
-    }
-}
-
-/// Whether the node is an element.
-fn is_element(tree: &Tree, n: NodeId) -> bool
-    ensures { result ≡ is_element (kind_of tree.now.nodes n) }
-{
-    if tree.contains(n) {
-        matches!(tree.kind(n), Kind::Element)
-    } else {
-        false
     }
 }
 

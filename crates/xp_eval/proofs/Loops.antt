@@ -15,7 +15,7 @@ use Rattle.xp_values.specs.declared.values.Value.TheVariants.{Truth}
 use Rattle.xp_values.specs.declared.numbers.Num.{Num}
 use Rattle.xp_values.specs.Numbers.{arith}
 use Rattle.xp_values.specs.Conversions.{to_truth}
-use Rattle.xp_convert.specs.Conversions.{number_in, compare_in}
+use Rattle.xp_meaning.specs.Conversions.{number_in, compare_in}
 use Rattle.xp_meaning.specs.declared.context.Context.{Context}
 use Rattle.xp_meaning.specs.Paths.{kept, filtered, step_from, path}
 use Rattle.xp_meaning.specs.Evaluation.{Lets, meaning, meanings, some_true, all_true, compared, combined, comparands_meant, combinands_meant, steps_meant}

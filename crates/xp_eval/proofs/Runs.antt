@@ -6,8 +6,8 @@ use Rattle.xp_outcome.specs.Recorded.{Recorded}
 use Rattle.xp_outcome.specs.Running.{Stop, faulted, Ran, Onto}
 use Rattle.xp_outcome.proofs.Outcomes.{bind-right, gathering, gathering_start}
 use Rattle.xp_values.specs.declared.values.EvalFault.{EvalFault}
-use Rattle.xp_convert.specs.Results.{shown_alloc}
-use Rattle.xp_convert.proofs.Exits.{ran_done_at}
+use Rattle.xp_meaning.specs.Results.{shown_alloc}
+use Rattle.xp_meaning.proofs.Exits.{ran_done_at}
 use Rattle.xp_meaning.specs.Paths.{placed}
 use Rattle.xp_outcome.proofs.Runs.{ran_alike, ran_done, ran_fault, ran_late, onto_start, onto_alike, onto_bind, onto_stop, gather_more, gather_stop, gather_end}
 

@@ -22,7 +22,7 @@ use Rattle.xp_values.specs.declared.values.Value.{Value}
 use Rattle.xp_values.specs.declared.values.Value.TheVariants.{NodeSet, Truth, Number, Chars}
 use Rattle.xp_values.specs.declared.values.EvalFault.{EvalFault}
 use Rattle.xp_values.specs.declared.numbers.Num.TheVariants.{Whole}
-use Rattle.xp_convert.specs.Conversions.{nodes_of, number_in}
+use Rattle.xp_meaning.specs.Conversions.{nodes_of, number_in}
 use Rattle.xp_meaning.specs.declared.context.Context.{Context}
 use Rattle.xp_meaning.specs.Operators.{negated}
 use Rattle.xp_meaning.specs.Paths.{filtered, path}

@@ -1,7 +1,7 @@
 //! The calls that evaluate an expression, and a step of one.
 
 ghost use Rattle.xp_outcome.specs.Running.{Ran};
-ghost use Rattle.xp_convert.specs.Results.{shown};
+ghost use Rattle.xp_meaning.specs.Results.{shown};
 ghost use Rattle.xp_typed_tree.specs.TypedView.{typed_seen};
 ghost use Rattle.xp_meaning.specs.Evaluation.{meaning, meanings, all_true};
 ghost use Rattle.xp_meaning.specs.Paths.{step_at};

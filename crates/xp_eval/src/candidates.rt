@@ -6,7 +6,7 @@ ghost use Rattle.doc_tree.specs.Table.{is_live};
 ghost use Rattle.doc_axes.specs.Axes.{axis_nodes};
 ghost use Rattle.doc_axes.specs.NodeTests.{passes};
 ghost use Rattle.xp_outcome.specs.Running.{Ran};
-ghost use Rattle.xp_convert.specs.Results.{shown_alloc};
+ghost use Rattle.xp_meaning.specs.Results.{shown_alloc};
 ghost use Rattle.xp_meaning.specs.Paths.{candidates};
 
 use doc_axes::{axis_nodes, passes};
@@ -14,7 +14,7 @@ use doc_tree::{Axis, NodeId, NodeList, NodeTest, Tree};
 use sch_base::ItemList;
 use std::alloc::{AllocError, Global};
 use std::sync::ledger::Ledger;
-use xp_convert::read_axis;
+use xp_calls::read_axis;
 use xp_outcome::{Recorder, Steps};
 
 /// The nodes on the axis from a node that pass the test, in the axis's own order. Records what the axis looks at, and

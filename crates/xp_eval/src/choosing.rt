@@ -2,7 +2,7 @@
 
 ghost use Rattle.std.specs.Prelude.{◌≡◌, ◌++◌, length, flat_map, IfOk, OnOk};
 ghost use Rattle.doc_axes.specs.Sets.{in_order};
-ghost use Rattle.xp_convert.specs.Conversions.{nodes_of};
+ghost use Rattle.xp_meaning.specs.Conversions.{nodes_of};
 ghost use Rattle.xp_eval.specs.Wants.{wanted_by};
 ghost use Rattle.xp_meaning.specs.Paths.{chosen, holds_at};
 
@@ -10,8 +10,8 @@ use doc_axes::{in_document_order, push_all};
 use doc_tree::{NodeId, NodeList, Tree};
 use sch_base::ItemList;
 use std::alloc::{AllocError, Global};
-use xp_calls::wanted;
-use xp_convert::{Want, nodes_of};
+use xp_calls::{nodes_of, wanted};
+use xp_meaning::Want;
 use xp_typed_tree::Function;
 use xp_values::{Num, Value, to_truth};
 

@@ -5,7 +5,7 @@ ghost use Rattle.xp_values.specs.Outcomes.{Gives};
 ghost use Rattle.xp_outcome.specs.Evaluation.{reading, variable};
 ghost use Rattle.xp_outcome.specs.Running.{Ran};
 ghost use Rattle.xp_outcome.specs.Slots.{in_slot};
-ghost use Rattle.xp_convert.specs.Results.{shown};
+ghost use Rattle.xp_meaning.specs.Results.{shown};
 ghost use Rattle.xp_meaning.specs.Evaluation.{slot_value};
 
 use doc_axes::copied_nodes;

@@ -1,3 +1,4 @@
+pub mod Exits
 pub mod Answers
 pub mod Places
 pub mod Unions

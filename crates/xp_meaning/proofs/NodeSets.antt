@@ -20,8 +20,8 @@ use Rattle.xp_values.specs.declared.values.Value.TheVariants.{NodeSet, Truth, Nu
 use Rattle.xp_values.specs.declared.values.EvalFault.{EvalFault}
 use Rattle.xp_values.specs.declared.numbers.Num.TheVariants.{Whole}
 use Rattle.xp_values.specs.Texts.{limited, string_length, normalize_space, translate}
-use Rattle.xp_convert.specs.declared.want.Want.TheVariants.{AsItIs}
-use Rattle.xp_convert.specs.Conversions.{nodes_of, number_in, compare_in, sum_in}
+use Rattle.xp_meaning.specs.declared.want.Want.TheVariants.{AsItIs}
+use Rattle.xp_meaning.specs.Conversions.{nodes_of, number_in, compare_in, sum_in}
 use Rattle.xp_meaning.specs.declared.context.Context.{Context}
 use Rattle.xp_meaning.specs.Operators.{negated}
 use Rattle.xp_meaning.specs.Paths.{Step, filtered, path, step_at, step_from}

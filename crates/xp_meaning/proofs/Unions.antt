@@ -12,9 +12,9 @@ use Rattle.xp_typed_tree.specs.TypedTree.{TypedTree, union, application, typed, 
 use Rattle.xp_values.specs.declared.values.Value.{Value}
 use Rattle.xp_values.specs.declared.values.Value.TheVariants.{NodeSet}
 use Rattle.xp_values.specs.declared.values.EvalFault.{EvalFault}
-use Rattle.xp_convert.specs.declared.want.Want.{Want}
-use Rattle.xp_convert.specs.declared.want.Want.TheVariants.{AsItIs}
-use Rattle.xp_convert.specs.Conversions.{as_wanted, nodes_of}
+use Rattle.xp_meaning.specs.declared.want.Want.{Want}
+use Rattle.xp_meaning.specs.declared.want.Want.TheVariants.{AsItIs}
+use Rattle.xp_meaning.specs.Conversions.{as_wanted, nodes_of}
 use Rattle.xp_meaning.specs.declared.context.Context.{Context}
 use Rattle.xp_meaning.specs.Paths.{Meaning}
 use Rattle.xp_meaning.specs.Functions.{wanted, applied, counted}

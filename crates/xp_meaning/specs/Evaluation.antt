@@ -15,9 +15,9 @@ use Rattle.xp_values.specs.declared.numbers.Num.{Num}
 use Rattle.xp_values.specs.declared.numbers.Num.TheVariants.{Whole}
 use Rattle.xp_values.specs.Numbers.{arith}
 use Rattle.xp_values.specs.Conversions.{to_truth}
-use Rattle.xp_convert.specs.declared.want.Want.{Want}
-use Rattle.xp_convert.specs.declared.want.Want.TheVariants.{AsItIs}
-use Rattle.xp_convert.specs.Conversions.{nodes_of, number_in, compare_in, as_wanted}
+use Rattle.xp_meaning.specs.declared.want.Want.{Want}
+use Rattle.xp_meaning.specs.declared.want.Want.TheVariants.{AsItIs}
+use Rattle.xp_meaning.specs.Conversions.{nodes_of, number_in, compare_in, as_wanted}
 use Rattle.xp_meaning.specs.declared.context.Context.{Context}
 use Rattle.xp_meaning.specs.Operators.{negated}
 use Rattle.xp_meaning.specs.Paths.{Meaning, Step, filtered, path}

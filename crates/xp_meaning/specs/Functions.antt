@@ -12,9 +12,9 @@ use Rattle.xp_values.specs.declared.numbers.Num.TheVariants.{NaN, Whole}
 use Rattle.xp_values.specs.Conversions.{to_truth}
 use Rattle.xp_values.specs.Texts.{limited, begins_with, contains, substring, substring_before, substring_after, string_length, normalize_space, translate}
 use Rattle.xp_values.specs.Outcomes.{then_of}
-use Rattle.xp_convert.specs.declared.want.Want.{Want}
-use Rattle.xp_convert.specs.declared.want.Want.TheVariants.{AsItIs, AsText, AsNumber}
-use Rattle.xp_convert.specs.Conversions.{nodes_of, text_in, number_in, sum_in}
+use Rattle.xp_meaning.specs.declared.want.Want.{Want}
+use Rattle.xp_meaning.specs.declared.want.Want.TheVariants.{AsItIs, AsText, AsNumber}
+use Rattle.xp_meaning.specs.Conversions.{nodes_of, text_in, number_in, sum_in}
 use Rattle.xp_meaning.specs.declared.context.Context.{Context}
 use Rattle.xp_meaning.specs.Names.{name_at, local_in, uri_in, written_in}
 use Rattle.xp_meaning.specs.Language.{in_language}

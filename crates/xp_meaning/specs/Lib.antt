@@ -1,3 +1,6 @@
+pub mod Reads
+pub mod Conversions
+pub mod Results
 pub mod Operators
 pub mod Paths
 pub mod Names

@@ -14,7 +14,7 @@ use Rattle.xp_tree.specs.declared.operators.Comparison.TheVariants.{Eq}
 use Rattle.xp_values.specs.declared.numbers.Num.TheVariants.{Whole}
 use Rattle.xp_values.specs.Comparisons.{number_test}
 use Rattle.xp_values.specs.Conversions.{to_truth}
-use Rattle.xp_convert.specs.Reads.{axis_reads}
+use Rattle.xp_meaning.specs.Reads.{axis_reads}
 use Rattle.xp_meaning.specs.declared.context.Context.{Context}
 
 -- what an expression gives in a context

@@ -18,7 +18,7 @@ use Rattle.xp_outcome.specs.Evaluation.{done, bind}
 use Rattle.xp_outcome.proofs.Outcomes.{bind-done, bind_assoc, bind_alike}
 use Rattle.xp_outcome.proofs.Runs.{next_item, no_item, ran_alike}
 use Rattle.xp_values.specs.declared.values.EvalFault.{EvalFault}
-use Rattle.xp_convert.proofs.Exits.{ran_ticked}
+use Rattle.xp_meaning.proofs.Exits.{ran_ticked}
 use Rattle.xp_meaning.specs.Evaluation.{Lets}
 use Rattle.xslt_match.specs.Ends.{ends_elsewhere}
 use Rattle.xslt_match.specs.Matching.{leads, reaches, led_to, standing, survivors, chains, path_matches, some_path, matching}

@@ -3,7 +3,7 @@
 ghost use Rattle.std.specs.Prelude.{◌≡◌, true, false, map};
 ghost use Rattle.doc_tree.specs.Table.{is_live};
 ghost use Rattle.xp_outcome.specs.Running.{Ran};
-ghost use Rattle.xp_convert.specs.Results.{shown};
+ghost use Rattle.xp_meaning.specs.Results.{shown};
 ghost use Rattle.xp_typed_tree.specs.TypedView.{path_seen, pattern_step_seen};
 ghost use Rattle.xp_typed_tree.specs.WellTyped.{PatternStepsTyped};
 ghost use Rattle.xslt_match.specs.Ends.{ends_elsewhere};

@@ -3,7 +3,7 @@
 ghost use Rattle.std.specs.Prelude.{◌≡◌, true};
 ghost use Rattle.doc_tree.specs.Table.{is_live};
 ghost use Rattle.xp_outcome.specs.Running.{Ran};
-ghost use Rattle.xp_convert.specs.Results.{shown};
+ghost use Rattle.xp_meaning.specs.Results.{shown};
 ghost use Rattle.xp_typed_tree.specs.TypedView.{paths_seen};
 ghost use Rattle.xp_typed_tree.specs.WellTyped.{PathsTyped};
 ghost use Rattle.xslt_match.specs.Matching.{matching, some_path};

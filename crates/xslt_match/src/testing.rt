@@ -4,7 +4,7 @@ ghost use Rattle.std.specs.Prelude.{◌≡◌, [], ◌∷◌, ◌++◌, if◌the
 ghost use Rattle.doc_tree.specs.Lists.{mem};
 ghost use Rattle.doc_tree.specs.Table.{parent_of};
 ghost use Rattle.xp_outcome.specs.Running.{Ran};
-ghost use Rattle.xp_convert.specs.Results.{shown};
+ghost use Rattle.xp_meaning.specs.Results.{shown};
 ghost use Rattle.xp_typed_tree.specs.TypedView.{pattern_step_seen};
 ghost use Rattle.xslt_match.specs.Matching.{is_left, step_of, survives, survivors};
 

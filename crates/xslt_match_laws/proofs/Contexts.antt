@@ -17,9 +17,9 @@ use Rattle.xp_values.specs.declared.numbers.Num.{Num}
 use Rattle.xp_values.specs.Numbers.{arith}
 use Rattle.xp_values.specs.Texts.{string_length, normalize_space}
 use Rattle.xp_values.specs.Conversions.{to_truth}
-use Rattle.xp_convert.specs.declared.want.Want.{Want}
-use Rattle.xp_convert.specs.declared.want.Want.TheVariants.{AsItIs}
-use Rattle.xp_convert.specs.Conversions.{nodes_of, number_in, compare_in, as_wanted}
+use Rattle.xp_meaning.specs.declared.want.Want.{Want}
+use Rattle.xp_meaning.specs.declared.want.Want.TheVariants.{AsItIs}
+use Rattle.xp_meaning.specs.Conversions.{nodes_of, number_in, compare_in, as_wanted}
 use Rattle.xp_meaning.specs.declared.context.Context.{Context}
 use Rattle.xp_meaning.specs.Operators.{negated}
 use Rattle.xp_meaning.specs.Names.{name_at, local_in, uri_in, written_in}

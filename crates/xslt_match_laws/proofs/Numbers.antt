@@ -16,8 +16,8 @@ use Rattle.xp_values.specs.declared.values.Value.TheVariants.{NodeSet, Truth, Nu
 use Rattle.xp_values.specs.declared.values.EvalFault.{EvalFault}
 use Rattle.xp_values.specs.Conversions.{to_truth}
 use Rattle.xp_values.specs.Texts.{limited, normalize_space, translate}
-use Rattle.xp_convert.specs.declared.want.Want.TheVariants.{AsItIs}
-use Rattle.xp_convert.specs.Conversions.{nodes_of, compare_in}
+use Rattle.xp_meaning.specs.declared.want.Want.TheVariants.{AsItIs}
+use Rattle.xp_meaning.specs.Conversions.{nodes_of, compare_in}
 use Rattle.xp_meaning.specs.declared.context.Context.{Context}
 use Rattle.xp_meaning.specs.Paths.{filtered, path, holds_at}
 use Rattle.xp_meaning.specs.Functions.{applied, as_chars, text_at, text_of, text_or_own, wanted}

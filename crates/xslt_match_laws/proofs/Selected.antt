@@ -17,8 +17,8 @@ use Rattle.xp_outcome.specs.Evaluation.{Evaluation, done, bind, gather}
 use Rattle.xp_values.specs.declared.values.Value.{Value}
 use Rattle.xp_values.specs.declared.values.Value.TheVariants.{NodeSet}
 use Rattle.xp_values.specs.declared.values.EvalFault.{EvalFault}
-use Rattle.xp_convert.specs.declared.want.Want.TheVariants.{AsItIs}
-use Rattle.xp_convert.specs.Conversions.{nodes_of, as_wanted}
+use Rattle.xp_meaning.specs.declared.want.Want.TheVariants.{AsItIs}
+use Rattle.xp_meaning.specs.Conversions.{nodes_of, as_wanted}
 use Rattle.xp_meaning.specs.Paths.{Meaning, path, placed}
 use Rattle.xp_meaning.specs.Evaluation.{Lets, meaning, meanings, values, start_nodes, steps_meant}
 use Rattle.xp_meaning.proofs.Answers.{answer_visit}

@@ -1,7 +1,7 @@
 use Rattle.std.proofs.Common.{◌∙◌, ap, ap₂, sym, not, length}
 use Rattle.xp_outcome.specs.Evaluation.{done, given}
 use Rattle.xp_outcome.proofs.Runs.{ran_alike, ran_done}
-use Rattle.xp_convert.proofs.Exits.{ran_done_at, ran_given}
+use Rattle.xp_meaning.proofs.Exits.{ran_done_at, ran_given}
 use Rattle.xp_values.specs.declared.values.Value.TheVariants.{Truth, Number, Chars}
 use Rattle.xp_values.specs.declared.values.EvalFault.{EvalFault}
 use Rattle.xp_values.specs.Texts.{begins_with, contains, substring_before, substring_after, substring, translate}

@@ -1,5 +1,5 @@
 use Rattle.xp_outcome.proofs.Runs.{ran_bind, ran_done, ran_stop}
-use Rattle.xp_convert.proofs.Exits.{exit_memory}
+use Rattle.xp_meaning.proofs.Exits.{exit_memory}
 use Rattle.xp_calls.proofs.applying.is_in_language.Goals as goal
 
 pub returns-in_err-truth : goal.returns-in_err-truth

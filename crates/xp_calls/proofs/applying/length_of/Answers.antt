@@ -1,6 +1,6 @@
 use Rattle.std.proofs.Common.{◌∙◌, ap}
 use Rattle.xp_outcome.proofs.Runs.{ran_bind, ran_stop}
-use Rattle.xp_convert.proofs.Exits.{exit_same, ran_done_at}
+use Rattle.xp_meaning.proofs.Exits.{exit_same, ran_done_at}
 use Rattle.xp_values.specs.Texts.{string_length}
 use Rattle.xp_values.specs.declared.values.Value.TheVariants as values
 use Rattle.xp_calls.proofs.applying.length_of.Goals as goal

@@ -1,6 +1,6 @@
 use Rattle.std.proofs.Common.{◌∙◌, ap}
 use Rattle.xp_outcome.proofs.Runs.{ran_bind, ran_stop, ran_late}
-use Rattle.xp_convert.proofs.Exits.{exit_same, exit_memory, ran_done_at}
+use Rattle.xp_meaning.proofs.Exits.{exit_same, exit_memory, ran_done_at}
 use Rattle.xp_values.specs.Texts.{normalize_space}
 use Rattle.xp_values.specs.declared.values.Value.TheVariants as values
 use Rattle.xp_calls.proofs.applying.normalized.Goals as goal

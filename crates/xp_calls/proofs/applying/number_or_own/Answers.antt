@@ -1,6 +1,6 @@
 use Rattle.std.proofs.Common.{◌∙◌, ap, sym, option_copied}
 use Rattle.xp_outcome.proofs.Runs.{ran_alike}
-use Rattle.xp_convert.proofs.Exits.{ran_done_at}
+use Rattle.xp_meaning.proofs.Exits.{ran_done_at}
 use Rattle.xp_calls.proofs.FirstArgument.{number_first}
 use Rattle.xp_calls.proofs.applying.number_or_own.Goals as goal
 

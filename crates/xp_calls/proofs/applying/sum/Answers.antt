@@ -1,7 +1,7 @@
 use Rattle.std.proofs.Common.{ap, sym}
 use Rattle.xp_outcome.proofs.Runs.{ran_alike, ran_bind, ran_done, ran_stop}
-use Rattle.xp_convert.proofs.Exits.{exit_same}
-use Rattle.xp_convert.specs.Conversions.{sum_in}
+use Rattle.xp_meaning.proofs.Exits.{exit_same}
+use Rattle.xp_meaning.specs.Conversions.{sum_in}
 use Rattle.xp_meaning.specs.Functions.{as_number}
 use Rattle.xp_calls.proofs.applying.sum.Goals as goal
 

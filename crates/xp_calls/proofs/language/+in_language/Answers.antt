@@ -2,7 +2,7 @@ use Rattle.std.proofs.Common.{◌∙◌, ap, sym, false}
 use Rattle.doc_tree.specs.Walks.{ancestors}
 use Rattle.xp_outcome.specs.Evaluation.{done}
 use Rattle.xp_outcome.proofs.Runs.{ran_alike, ran_bind, ran_done, ran_stop}
-use Rattle.xp_convert.proofs.Exits.{exit_alloc}
+use Rattle.xp_meaning.proofs.Exits.{exit_alloc}
 use Rattle.xp_meaning.specs.Language.{in_language, language_along, or_else}
 use Rattle.xp_calls.proofs.Languages.{language_first, language_at, language_alone}
 use Rattle.xp_calls.proofs.language.+in_language.Goals as goal

@@ -3,7 +3,7 @@ use Rattle.doc_tree.specs.cell.Cell.TheVariants.{Attrs, Value}
 use Rattle.xp_outcome.specs.Evaluation.{cell}
 use Rattle.xp_outcome.specs.Recorded.{note}
 use Rattle.xp_outcome.proofs.Runs.{ran_alike, ran_done, ran_late, ran_moved, ran_reading}
-use Rattle.xp_convert.proofs.Exits.{exit_alloc, ran_done_at}
+use Rattle.xp_meaning.proofs.Exits.{exit_alloc, ran_done_at}
 use Rattle.xp_meaning.specs.Language.{is_language, lang_among}
 use Rattle.xp_calls.proofs.Languages.{not_element, of_element}
 use Rattle.xp_calls.proofs.language.own_language.Goals as goal

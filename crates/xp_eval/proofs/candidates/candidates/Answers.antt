@@ -6,8 +6,8 @@ use Rattle.doc_axes.specs.NodeTests.{passes}
 use Rattle.xp_outcome.specs.Evaluation.{done}
 use Rattle.xp_outcome.proofs.Runs.{ran_all_reading, ran_visits, ran_late, ran_moved, ran_alike}
 use Rattle.xp_values.specs.declared.values.EvalFault.{EvalFault}
-use Rattle.xp_convert.proofs.Exits.{exit_alloc}
-use Rattle.xp_convert.specs.Reads.{axis_reads}
+use Rattle.xp_meaning.proofs.Exits.{exit_alloc}
+use Rattle.xp_meaning.specs.Reads.{axis_reads}
 use Rattle.xp_meaning.specs.Paths.{candidates}
 use Rattle.xp_eval.proofs.Runs.{ran_alloc}
 use Rattle.xp_eval.proofs.candidates.candidates.Goals as goal

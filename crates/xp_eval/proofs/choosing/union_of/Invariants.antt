@@ -1,5 +1,5 @@
 use Rattle.std.proofs.Common.{◌≡◌, flat_map, take}
-use Rattle.xp_convert.specs.Conversions.{nodes_of}
+use Rattle.xp_meaning.specs.Conversions.{nodes_of}
 use Rattle.xp_eval.proofs.choosing.union_of.Given as goal
 
 abbrev pub invariant-loop-value : goal.invariant-loop-value

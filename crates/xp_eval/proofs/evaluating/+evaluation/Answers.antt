@@ -6,8 +6,8 @@ use Rattle.xp_outcome.specs.Evaluation.{done, bind}
 use Rattle.xp_outcome.proofs.Runs.{next_item, no_item, ran_alike, ran_bind, ran_stop, ran_done, ran_late, onto_alike, onto_bind, onto_stop, onto_done, onto_late, onto_end}
 use Rattle.xp_values.specs.declared.values.Value.{Value}
 use Rattle.xp_values.specs.declared.values.Value.TheVariants.{NodeSet}
-use Rattle.xp_convert.specs.Conversions.{nodes_of, as_wanted}
-use Rattle.xp_convert.proofs.Exits.{exit_same, exit_memory, exit_fault, ran_ticked, ran_done_at}
+use Rattle.xp_meaning.specs.Conversions.{nodes_of, as_wanted}
+use Rattle.xp_meaning.proofs.Exits.{exit_same, exit_memory, exit_fault, ran_ticked, ran_done_at}
 use Rattle.xp_meaning.specs.Paths.{Meaning, chosen, placed, kept, filtered, step_at, step_from}
 use Rattle.xp_meaning.specs.Functions.{applied}
 use Rattle.xp_meaning.specs.Evaluation.{meaning, meanings}

@@ -4,7 +4,7 @@ use Rattle.xp_outcome.specs.Evaluation.{done, bind}
 use Rattle.xp_outcome.specs.Running.{Onto}
 use Rattle.xp_outcome.proofs.Outcomes.{gathering}
 use Rattle.doc_axes.specs.Sets.{in_order}
-use Rattle.xp_convert.specs.Conversions.{as_wanted}
+use Rattle.xp_meaning.specs.Conversions.{as_wanted}
 use Rattle.xp_meaning.specs.Paths.{chosen, placed, kept, filtered, step_at, step_from, path}
 use Rattle.xp_meaning.specs.Evaluation.{meaning, meanings, some_true, all_true, compared, combined, values, comparands_meant, combinands_meant, steps_meant}
 use Rattle.xp_eval.specs.Steps.{step_meant}

@@ -1,7 +1,7 @@
 use Rattle.std.proofs.Common.{◌∙◌, ap, refl, sym, option_copied}
 use Rattle.xp_outcome.specs.Evaluation.{reading, variable}
 use Rattle.xp_outcome.proofs.Runs.{ran_alike, ran_moved, ran_reading}
-use Rattle.xp_convert.proofs.Exits.{ran_done_at, ran_given}
+use Rattle.xp_meaning.proofs.Exits.{ran_done_at, ran_given}
 use Rattle.xp_values.specs.declared.values.Value.TheVariants.{NodeSet}
 use Rattle.xp_meaning.specs.Evaluation.{slot_value}
 use Rattle.xp_eval.proofs.Views.{slot_given}

@@ -2,7 +2,7 @@ use Rattle.std.proofs.Common.{ap, ap₂, sym, ◌∙◌, map, eqb-true}
 use Rattle.std.proofs.lemmas.List.{nil_from_length}
 use Rattle.doc_tree.specs.Lists.{mem}
 use Rattle.xp_outcome.proofs.Runs.{ran_late, onto_start, onto_alike, onto_done, onto_late}
-use Rattle.xp_convert.proofs.Exits.{exit_same, exit_memory, ran_is}
+use Rattle.xp_meaning.proofs.Exits.{exit_same, exit_memory, ran_is}
 use Rattle.xp_typed_tree.specs.TypedView.{pattern_step_seen}
 use Rattle.xp_eval.proofs.Runs.{onto_goes, onto_stops}
 use Rattle.xslt_match.specs.Matching.{chains}

@@ -1,6 +1,6 @@
 use Rattle.std.proofs.Common.{ap, ap₂, sym, ◌∙◌, map, subst}
 use Rattle.xp_outcome.proofs.Runs.{ran_alike, ran_done, ran_late}
-use Rattle.xp_convert.proofs.Exits.{exit_memory}
+use Rattle.xp_meaning.proofs.Exits.{exit_memory}
 use Rattle.xp_typed_tree.specs.TypedView.{pattern_step_seen}
 use Rattle.xp_typed_tree.specs.WellTyped.{PatternStepsTyped}
 use Rattle.xslt_match.specs.Ends.{ends_elsewhere}

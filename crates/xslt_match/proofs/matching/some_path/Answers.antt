@@ -1,7 +1,7 @@
 use Rattle.std.proofs.Common.{sym, subst}
 use Rattle.xp_outcome.proofs.Outcomes.{bind-right}
 use Rattle.xp_outcome.proofs.Runs.{next_item, onto_start, onto_alike, onto_done}
-use Rattle.xp_convert.proofs.Exits.{exit_same}
+use Rattle.xp_meaning.proofs.Exits.{exit_same}
 use Rattle.xp_typed_tree.specs.TypedView.{paths_seen}
 use Rattle.xp_typed_tree.specs.WellTyped.{PathsTyped}
 use Rattle.xp_eval.proofs.Runs.{onto_goes, onto_stops}

@@ -1,7 +1,7 @@
 use Rattle.std.proofs.Common.{◌∙◌, ap, refl, sym}
 use Rattle.doc_tree.specs.Lists.{mem}
 use Rattle.xp_outcome.proofs.Runs.{ran_alike, ran_bind, ran_stop}
-use Rattle.xp_convert.proofs.Exits.{exit_same, ran_done_at}
+use Rattle.xp_meaning.proofs.Exits.{exit_same, ran_done_at}
 use Rattle.xp_typed_tree.specs.TypedView.{pattern_step_seen}
 use Rattle.xslt_match.specs.Matching.{is_left, step_of}
 use Rattle.xslt_match.proofs.testing.is_left.Goals as goal

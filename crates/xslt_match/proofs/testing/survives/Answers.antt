@@ -1,6 +1,6 @@
 use Rattle.std.proofs.Common.{◌∙◌, ap, sym}
 use Rattle.xp_outcome.proofs.Runs.{ran_alike}
-use Rattle.xp_convert.proofs.Exits.{ran_ticked}
+use Rattle.xp_meaning.proofs.Exits.{ran_ticked}
 use Rattle.xp_typed_tree.specs.TypedView.{typed_seen}
 use Rattle.xp_meaning.specs.Evaluation.{meanings, all_true}
 use Rattle.xp_meaning.specs.Paths.{placed}

@@ -1,7 +1,7 @@
 use Rattle.std.proofs.Common.{◌+◌, [], ◌∷◌, drop, refl, if◌then◌else◌}
 use Rattle.xp_outcome.specs.Evaluation.{done}
 use Rattle.xp_outcome.proofs.Runs.{next_item, no_item, onto_done, onto_late}
-use Rattle.xp_convert.proofs.Exits.{exit_same, exit_memory}
+use Rattle.xp_meaning.proofs.Exits.{exit_same, exit_memory}
 use Rattle.xp_typed_tree.specs.TypedView.{pattern_step_seen}
 use Rattle.xp_eval.proofs.Runs.{gather_goes, gather_stops, gather_ends, gather_begins_alone}
 use Rattle.xslt_match.specs.Matching.{survives}

@@ -10,7 +10,7 @@ use Rattle.xp_values.specs.declared.values.EvalFault.{EvalFault}
 use Rattle.xp_values.specs.declared.values.EvalError.{EvalError}
 use Rattle.xp_values.specs.declared.values.EvalError.TheVariants.{Fault, Memory}
 use Rattle.xp_values.specs.Outcomes.{Gives}
-use Rattle.xp_convert.specs.Results.{stop_of, shown, shown_alloc}
+use Rattle.xp_meaning.specs.Results.{stop_of, shown, shown_alloc}
 
 module _ {A : Type 0} {m : Evaluation EvalFault A} {held now : Recorded} {before after : ℕ} where
   -- `?` hands on an error of evaluation

@@ -8,7 +8,7 @@ use Rattle.xp_tree.specs.declared.operators.ArithOp.TheVariants as ops
 use Rattle.xp_values.specs.Numbers.{arith}
 use Rattle.xp_values.specs.Numerals.{text_to_number}
 use Rattle.xp_values.specs.Outcomes.{then_of}
-use Rattle.xp_convert.specs.Conversions.{sum_from}
+use Rattle.xp_meaning.specs.Conversions.{sum_from}
 
 module _ (T : Table) (total : Num) (n : ℕ) (rest : List ℕ) where
   pub sum_unread : (f : EvalFault) → Err f ≡ text_to_number (string_value_of T n) → sum_from T total (n ∷ rest) ≡ Err f

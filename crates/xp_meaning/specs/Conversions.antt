@@ -4,8 +4,8 @@ use Rattle.std.specs.Prelude.{ℕ, Bool, List, [], ◌∷◌, ◌++◌, Result, 
 use Rattle.doc_tree.specs.Table.{Table}
 use Rattle.doc_tree.specs.Walks.{string_value_of}
 use Rattle.xp_outcome.specs.Evaluation.{Evaluation, done, given, bind}
-use Rattle.xp_convert.specs.declared.want.Want.{Want}
-use Rattle.xp_convert.specs.declared.want.Want.TheVariants.{AsItIs, AsText, AsNumber}
+use Rattle.xp_meaning.specs.declared.want.Want.{Want}
+use Rattle.xp_meaning.specs.declared.want.Want.TheVariants.{AsItIs, AsText, AsNumber}
 use Rattle.xp_values.specs.declared.values.Value.{Value}
 use Rattle.xp_values.specs.declared.values.Value.TheVariants.{NodeSet, Truth, Number, Chars}
 use Rattle.xp_values.specs.declared.values.EvalFault.{EvalFault}
@@ -18,7 +18,7 @@ use Rattle.xp_values.specs.Numerals.{text_to_number}
 use Rattle.xp_values.specs.Conversions.{to_text, to_number}
 use Rattle.xp_values.specs.Comparisons.{compare, is_truth}
 use Rattle.xp_values.specs.Outcomes.{then_of}
-use Rattle.xp_convert.specs.Reads.{taking}
+use Rattle.xp_meaning.specs.Reads.{taking}
 
 -- the nodes of a node-set
 abbrev pub nodes_of : Value → List ℕ

@@ -3,12 +3,12 @@ use Rattle.xp_outcome.specs.Evaluation.{done}
 use Rattle.xp_outcome.specs.Running.{no_memory}
 use Rattle.xp_outcome.proofs.Runs.{ran_alike, ran_done}
 use Rattle.xp_values.specs.declared.values.EvalFault.{EvalFault}
-use Rattle.xp_convert.specs.Conversions.{nodes_of}
-use Rattle.xp_convert.specs.Reads.{taking}
-use Rattle.xp_convert.proofs.Takings.{taking_none, taking-append, taken_err, taken_ok}
-use Rattle.xp_convert.proofs.Comparing.{left_truth, right_truth, no_truth}
-use Rattle.xp_convert.proofs.Exits.{exit_alloc}
-use Rattle.xp_convert.proofs.converting.take_compared.Goals as goal
+use Rattle.xp_meaning.specs.Conversions.{nodes_of}
+use Rattle.xp_meaning.specs.Reads.{taking}
+use Rattle.xp_calls.proofs.Takings.{taking_none, taking-append, taken_err, taken_ok}
+use Rattle.xp_calls.proofs.Comparing.{left_truth, right_truth, no_truth}
+use Rattle.xp_meaning.proofs.Exits.{exit_alloc}
+use Rattle.xp_calls.proofs.converting.take_compared.Goals as goal
 
 pub returns-then-is_truth : goal.returns-then-is_truth
 returns-then-is_truth g c =

@@ -6,7 +6,7 @@ use Rattle.xp_outcome.proofs.Outcomes.{behind-behind, behind-nothing, bind-all_r
 use Rattle.xp_outcome.specs.Recorded.{Recorded}
 use Rattle.xp_outcome.specs.Running.{Stop, Ran}
 use Rattle.xp_outcome.proofs.Runs.{ran_alike, ran_stop, ran_bind}
-use Rattle.xp_convert.specs.Reads.{text_read, taking}
+use Rattle.xp_meaning.specs.Reads.{text_read, taking}
 
 same_count : (k : ℕ) → 0 + suc k ≡ 0 + (1 + (0 + k))
 same_count k = omega arith

@@ -1,6 +1,6 @@
 use Rattle.xp_outcome.proofs.Runs.{ran_stop, ran_bind, ran_done}
-use Rattle.xp_convert.proofs.Exits.{exit_same}
-use Rattle.xp_convert.proofs.converting.as_wanted.Goals as goal
+use Rattle.xp_meaning.proofs.Exits.{exit_same}
+use Rattle.xp_calls.proofs.converting.as_wanted.Goals as goal
 
 pub returns-in_err-text_in-in-AsText : goal.returns-in_err-text_in-in-AsText
 returns-in_err-text_in-in-AsText g c =

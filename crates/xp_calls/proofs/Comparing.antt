@@ -2,7 +2,7 @@
 use Rattle.std.proofs.Common.{◌≡◌, ◌∙◌, ap, [], ◌++◌, true, false, if◌then◌else◌}
 use Rattle.xp_values.specs.declared.values.Value.{Value}
 use Rattle.xp_values.specs.Comparisons.{is_truth}
-use Rattle.xp_convert.specs.Conversions.{nodes_of, compared_nodes}
+use Rattle.xp_meaning.specs.Conversions.{nodes_of, compared_nodes}
 
 pub left_truth : (v w : Value) → is_truth v ≡ true → compared_nodes v w ≡ []
 left_truth v w is = ap (λ b. if b then [] else (if is_truth w then [] else nodes_of v ++ nodes_of w)) is

@@ -1,10 +1,10 @@
 use Rattle.std.proofs.Common.{◌+◌, ◌∙◌, ap, drop}
 use Rattle.xp_outcome.proofs.Runs.{next_item, no_item}
 use Rattle.xp_values.specs.Numerals.{text_to_number}
-use Rattle.xp_convert.specs.Conversions.{sum_from}
-use Rattle.xp_convert.proofs.Exits.{gives_memory, gives_fault}
-use Rattle.xp_convert.proofs.Summing.{sum_unread, sum_outside, sum_more}
-use Rattle.xp_convert.proofs.converting.summed.Goals as goal
+use Rattle.xp_meaning.specs.Conversions.{sum_from}
+use Rattle.xp_meaning.proofs.Exits.{gives_memory, gives_fault}
+use Rattle.xp_calls.proofs.Summing.{sum_unread, sum_outside, sum_more}
+use Rattle.xp_calls.proofs.converting.summed.Goals as goal
 
 pub returns-in_err-text : goal.returns-in_err-text
 returns-in_err-text c = gives_memory _ _ c.from_residual.ensures.1

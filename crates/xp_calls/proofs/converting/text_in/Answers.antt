@@ -1,9 +1,9 @@
 use Rattle.std.proofs.Common.{◌∙◌, ap}
 use Rattle.xp_outcome.proofs.Runs.{ran_late}
-use Rattle.xp_convert.specs.Conversions.{text_in, first_of}
-use Rattle.xp_convert.proofs.Takings.{taken_err, taken_ok}
-use Rattle.xp_convert.proofs.Exits.{exit_memory, ran_done_at}
-use Rattle.xp_convert.proofs.converting.text_in.Goals as goal
+use Rattle.xp_meaning.specs.Conversions.{text_in, first_of}
+use Rattle.xp_calls.proofs.Takings.{taken_err, taken_ok}
+use Rattle.xp_meaning.proofs.Exits.{exit_memory, ran_done_at}
+use Rattle.xp_calls.proofs.converting.text_in.Goals as goal
 
 pub returns-in_err-take_texts : goal.returns-in_err-take_texts
 unfolding text_in

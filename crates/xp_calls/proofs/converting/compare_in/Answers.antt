@@ -1,8 +1,8 @@
 use Rattle.std.proofs.Common.{refl}
-use Rattle.xp_convert.specs.Conversions.{compare_in}
-use Rattle.xp_convert.proofs.Takings.{taken_err, taken_ok}
-use Rattle.xp_convert.proofs.Exits.{exit_memory, ran_given}
-use Rattle.xp_convert.proofs.converting.compare_in.Goals as goal
+use Rattle.xp_meaning.specs.Conversions.{compare_in}
+use Rattle.xp_calls.proofs.Takings.{taken_err, taken_ok}
+use Rattle.xp_meaning.proofs.Exits.{exit_memory, ran_given}
+use Rattle.xp_calls.proofs.converting.compare_in.Goals as goal
 
 pub returns-in_err-take_compared : goal.returns-in_err-take_compared
 unfolding compare_in

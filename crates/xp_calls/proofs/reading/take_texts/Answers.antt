@@ -3,9 +3,9 @@ use Rattle.xp_outcome.specs.Evaluation.{done}
 use Rattle.xp_outcome.specs.Recorded.{note}
 use Rattle.xp_values.specs.declared.values.EvalFault.{EvalFault}
 use Rattle.xp_outcome.proofs.Runs.{next_item, no_item, onto_alike, onto_moved, onto_visit, onto_reading, onto_done}
-use Rattle.xp_convert.specs.Reads.{taking, text_read}
-use Rattle.xp_convert.proofs.Takings.{taking_none, taking_more}
-use Rattle.xp_convert.proofs.reading.take_texts.Goals as goal
+use Rattle.xp_meaning.specs.Reads.{taking, text_read}
+use Rattle.xp_calls.proofs.Takings.{taking_none, taking_more}
+use Rattle.xp_calls.proofs.reading.take_texts.Goals as goal
 
 pub loop-n-preserved : goal.loop-n-preserved
 loop-n-preserved g c =

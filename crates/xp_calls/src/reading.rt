@@ -7,8 +7,8 @@ ghost use Rattle.doc_tree.specs.Kinds.{holds_kids, is_element};
 ghost use Rattle.xp_outcome.specs.Evaluation.{cell, done};
 ghost use Rattle.xp_outcome.specs.Recorded.{note_all};
 ghost use Rattle.xp_outcome.specs.Running.{Ran};
-ghost use Rattle.xp_convert.specs.Reads.{axis_reads, sibling_reads, text_read, taking};
-ghost use Rattle.xp_convert.specs.Results.{shown_alloc};
+ghost use Rattle.xp_meaning.specs.Reads.{axis_reads, sibling_reads, text_read, taking};
+ghost use Rattle.xp_meaning.specs.Results.{shown_alloc};
 
 use doc_tree::{Axis, Cell, Kind, NodeId, Tree};
 use std::alloc::AllocError;
@@ -34,7 +34,7 @@ fn holds_kids(tree: &Tree, n: NodeId) -> bool
 }
 
 /// Whether the node is an element.
-pub fn is_element(tree: &Tree, n: NodeId) -> bool
+pub(crate) fn is_element(tree: &Tree, n: NodeId) -> bool
     ensures { result ≡ is_element (kind_of tree.now.nodes n) }
 {
     matches!(kind_of(tree, n), Some(Kind::Element))
@@ -89,7 +89,7 @@ fn text_cell(tree: &Tree, n: NodeId) -> Cell
 }
 
 /// Records that the string-values of some nodes are taken, with one step each.
-pub fn take_texts<L: Ledger>(
+pub(crate) fn take_texts<L: Ledger>(
     tree: &Tree,
     nodes: &[NodeId],
     reads: &mut Recorder,

@@ -2,20 +2,20 @@
 
 ghost use Rattle.std.specs.Prelude.{◌≡◌, pos};
 ghost use Rattle.xp_outcome.specs.Running.{Ran};
-ghost use Rattle.xp_convert.specs.Conversions.{as_wanted, compare_in, compared_nodes, first_of, nodes_of, number_in, sum_from, sum_in, text_in};
+ghost use Rattle.xp_meaning.specs.Conversions.{as_wanted, compare_in, compared_nodes, first_of, nodes_of, number_in, sum_from, sum_in, text_in};
 ghost use Rattle.xp_values.specs.Outcomes.{Gives};
 ghost use Rattle.xp_values.specs.declared.numbers.Num.TheVariants.{Whole};
 ghost use Rattle.xp_values.specs.Comparisons.{is_truth};
-ghost use Rattle.xp_convert.specs.Results.{shown, shown_alloc};
-ghost use Rattle.xp_convert.specs.Reads.{taking};
+ghost use Rattle.xp_meaning.specs.Results.{shown, shown_alloc};
+ghost use Rattle.xp_meaning.specs.Reads.{taking};
 ghost use Rattle.xp_outcome.specs.Evaluation.{done};
 
 use crate::reading::take_texts;
-use crate::want::Want;
 use doc_tree::{NodeId, Tree};
 use sch_base::Text;
 use std::alloc::{AllocError, Global};
 use std::sync::ledger::Ledger;
+use xp_meaning::Want;
 use xp_outcome::{Recorder, Steps};
 use xp_values::{ArithOp, Comparison, EvalError, Num, Value, arith, text_to_number};
 
@@ -37,7 +37,7 @@ fn first_of(nodes: &[NodeId]) -> &[NodeId]
 }
 
 /// The value as a text.
-pub fn text_in<L: Ledger>(
+pub(crate) fn text_in<L: Ledger>(
     alloc: Global,
     tree: &Tree,
     value: &Value,
@@ -109,7 +109,7 @@ pub fn compare_in<L: Ledger>(
 
 /// The sum of the numbers of some nodes (XPath 1.0, section 4.4): their string-values are all taken, and then each is
 /// converted and added in turn.
-pub fn sum_in<L: Ledger>(
+pub(crate) fn sum_in<L: Ledger>(
     alloc: Global,
     tree: &Tree,
     nodes: &[NodeId],

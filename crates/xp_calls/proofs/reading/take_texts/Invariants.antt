@@ -2,8 +2,8 @@ use Rattle.std.proofs.Common.{drop}
 use Rattle.xp_outcome.specs.Evaluation.{done}
 use Rattle.xp_outcome.specs.Running.{Onto}
 use Rattle.xp_values.specs.declared.values.EvalFault.{EvalFault}
-use Rattle.xp_convert.specs.Reads.{taking}
-use Rattle.xp_convert.proofs.reading.take_texts.Given as goal
+use Rattle.xp_meaning.specs.Reads.{taking}
+use Rattle.xp_calls.proofs.reading.take_texts.Given as goal
 
 abbrev pub invariant-loop-n : goal.invariant-loop-n
 invariant-loop-n g l =

@@ -1,4 +1,0 @@
-pub mod Takings
-pub mod Exits
-pub mod Comparing
-pub mod Summing
