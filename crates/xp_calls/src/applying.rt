@@ -15,12 +15,11 @@ ghost use Rattle.xp_meaning.specs.Language.{in_language};
 use crate::arguments::{
     length_in, named_node, nodes_at, number_at, number_of, text_at, text_of, truth_at,
 };
-use crate::converting::{number_in, sum_in, text_in};
-use crate::joining::joined;
+use crate::caller::Caller;
+use crate::joining::join;
 use crate::language::in_language;
-use crate::names::{local_name, namespace_uri, written_name};
 use doc_axes::one_node;
-use doc_tree::{NodeId, Tree};
+use doc_tree::NodeId;
 use sch_base::Text;
 use std::alloc::{AllocError, Global};
 use std::sync::ledger::Ledger;
@@ -32,56 +31,176 @@ use xp_values::{
     substring_after, substring_before, translate,
 };
 
-/// What the function gives for arguments that are evaluated and converted as it wants them.
-///
-/// The faults are TextLimit of `concat` and `translate`, and those of `sum` and of `number` without an argument.
-pub fn applied<L: Ledger>(
-    alloc: Global,
-    tree: &Tree,
-    function: Function,
-    at: &Context,
-    args: &[Value],
-    reads: &mut Recorder,
-    steps: &mut Steps<L>,
-) -> Result<Value, EvalError>
-    ensures { Ran (applied tree.now.nodes function at.now args.now) (shown result) reads.old reads.new steps.old steps.new }
-{
-    match function {
-        Function::Last => Ok(counted(at.size)),
-        Function::Position => Ok(counted(at.position)),
-        Function::Current => node_set_of(alloc, at.current),
-        Function::Count => Ok(count(nodes_at(args, 0))),
-        Function::Sum => sum(alloc, tree, args, reads, steps),
-        Function::LocalName => as_chars(local_name(alloc, tree, named_node(at, args))),
-        Function::NamespaceUri => as_chars(namespace_uri(alloc, tree, named_node(at, args))),
-        Function::Name => as_chars(written_name(alloc, tree, named_node(at, args))),
-        Function::String => string(alloc, tree, at, args, reads, steps),
-        Function::Number => number(alloc, tree, at, args, reads, steps),
-        Function::Boolean => Ok(Value::Truth(truth_at(args, 0))),
-        Function::Not => Ok(Value::Truth(!truth_at(args, 0))),
-        Function::True => Ok(Value::Truth(true)),
-        Function::False => Ok(Value::Truth(false)),
-        Function::Concat => as_value(joined(alloc, args)),
-        Function::StartsWith => Ok(Value::Truth(starts_with(text_at(args, 0), text_at(args, 1)))),
-        Function::Contains => Ok(Value::Truth(contains(text_at(args, 0), text_at(args, 1)))),
-        Function::SubstringBefore => {
-            as_chars(substring_before(alloc, text_at(args, 0), text_at(args, 1)))
+impl Caller<'_> {
+    /// What the function gives for arguments that are evaluated and converted as it wants them.
+    ///
+    /// The faults are TextLimit of `concat` and `translate`, and those of `sum` and of `number` without an argument.
+    pub fn apply<L: Ledger>(
+        &self,
+        function: Function,
+        at: &Context,
+        args: &[Value],
+        reads: &mut Recorder,
+        steps: &mut Steps<L>,
+    ) -> Result<Value, EvalError>
+        ensures { Ran (applied self.now.tree.now.nodes function at.now args.now) (shown result) reads.old reads.new steps.old steps.new }
+    {
+        let alloc = self.alloc;
+        match function {
+            Function::Last => Ok(counted(at.size)),
+            Function::Position => Ok(counted(at.position)),
+            Function::Current => node_set_of(alloc, at.current),
+            Function::Count => Ok(count(nodes_at(args, 0))),
+            Function::Sum => self.sum(args, reads, steps),
+            Function::LocalName => as_chars(self.local_name(named_node(at, args))),
+            Function::NamespaceUri => as_chars(self.namespace_uri(named_node(at, args))),
+            Function::Name => as_chars(self.written_name(named_node(at, args))),
+            Function::String => self.string(at, args, reads, steps),
+            Function::Number => self.number(at, args, reads, steps),
+            Function::Boolean => Ok(Value::Truth(truth_at(args, 0))),
+            Function::Not => Ok(Value::Truth(!truth_at(args, 0))),
+            Function::True => Ok(Value::Truth(true)),
+            Function::False => Ok(Value::Truth(false)),
+            Function::Concat => as_value(join(alloc, args)),
+            Function::StartsWith => Ok(Value::Truth(starts_with(
+                text_at(args, 0),
+                text_at(args, 1),
+            ))),
+            Function::Contains => Ok(Value::Truth(contains(text_at(args, 0), text_at(args, 1)))),
+            Function::SubstringBefore => {
+                as_chars(substring_before(alloc, text_at(args, 0), text_at(args, 1)))
+            }
+            Function::SubstringAfter => {
+                as_chars(substring_after(alloc, text_at(args, 0), text_at(args, 1)))
+            }
+            Function::Substring => {
+                as_chars(substring(alloc, text_at(args, 0), number_at(args, 1), length_in(args)))
+            }
+            Function::StringLength => self.length_of(at, args, reads, steps),
+            Function::NormalizeSpace => self.normalize(at, args, reads, steps),
+            Function::Translate => {
+                as_value(translate(alloc, text_at(args, 0), text_at(args, 1), text_at(args, 2)))
+            }
+            Function::Lang => self.is_in_language(at.node, text_at(args, 0), reads),
+            Function::Floor => Ok(Value::Number(number_at(args, 0))),
+            Function::Ceiling => Ok(Value::Number(number_at(args, 0))),
+            Function::Round => Ok(Value::Number(number_at(args, 0))),
         }
-        Function::SubstringAfter => {
-            as_chars(substring_after(alloc, text_at(args, 0), text_at(args, 1)))
+    }
+
+    /// `sum`: the sum of the numbers of the argument's nodes.
+    fn sum<L: Ledger>(
+        &self,
+        args: &[Value],
+        reads: &mut Recorder,
+        steps: &mut Steps<L>,
+    ) -> Result<Value, EvalError>
+        ensures { Ran (as_number (sum_in self.now.tree.now.nodes (nodes_at args.now 0))) (shown result) reads.old reads.new steps.old steps.new }
+    {
+        let number = self.sum_in(nodes_at(args, 0), reads, steps)?;
+        Ok(Value::Number(number))
+    }
+
+    /// The text of the argument, or the string-value of the context node without one.
+    fn text_or_own<L: Ledger>(
+        &self,
+        at: &Context,
+        args: &[Value],
+        reads: &mut Recorder,
+        steps: &mut Steps<L>,
+    ) -> Result<Text, EvalError>
+        ensures { Ran (text_or_own self.now.tree.now.nodes at.now args.now) (shown result) reads.old reads.new steps.old steps.new }
+    {
+        match args.first() {
+            Some(value) => Ok(Text::copy(self.alloc, text_of(value))?),
+            None => self.text_in(&node_set_of(self.alloc, at.node)?, reads, steps),
         }
-        Function::Substring => {
-            as_chars(substring(alloc, text_at(args, 0), number_at(args, 1), length_in(args)))
+    }
+
+    /// The number of the argument, or that of the context node without one.
+    fn number_or_own<L: Ledger>(
+        &self,
+        at: &Context,
+        args: &[Value],
+        reads: &mut Recorder,
+        steps: &mut Steps<L>,
+    ) -> Result<Num, EvalError>
+        ensures { Ran (number_or_own self.now.tree.now.nodes at.now args.now) (shown result) reads.old reads.new steps.old steps.new }
+    {
+        match args.first() {
+            Some(value) => Ok(number_of(value)),
+            None => self.number_in(&node_set_of(self.alloc, at.node)?, reads, steps),
         }
-        Function::StringLength => length_of(alloc, tree, at, args, reads, steps),
-        Function::NormalizeSpace => normalized(alloc, tree, at, args, reads, steps),
-        Function::Translate => {
-            as_value(translate(alloc, text_at(args, 0), text_at(args, 1), text_at(args, 2)))
-        }
-        Function::Lang => is_in_language(tree, at.node, text_at(args, 0), reads),
-        Function::Floor => Ok(Value::Number(number_at(args, 0))),
-        Function::Ceiling => Ok(Value::Number(number_at(args, 0))),
-        Function::Round => Ok(Value::Number(number_at(args, 0))),
+    }
+
+    /// `string`.
+    fn string<L: Ledger>(
+        &self,
+        at: &Context,
+        args: &[Value],
+        reads: &mut Recorder,
+        steps: &mut Steps<L>,
+    ) -> Result<Value, EvalError>
+        ensures { Ran (as_text (text_or_own self.now.tree.now.nodes at.now args.now)) (shown result) reads.old reads.new steps.old steps.new }
+    {
+        let text = self.text_or_own(at, args, reads, steps)?;
+        Ok(Value::Chars(text))
+    }
+
+    /// `number`.
+    fn number<L: Ledger>(
+        &self,
+        at: &Context,
+        args: &[Value],
+        reads: &mut Recorder,
+        steps: &mut Steps<L>,
+    ) -> Result<Value, EvalError>
+        ensures { Ran (as_number (number_or_own self.now.tree.now.nodes at.now args.now)) (shown result) reads.old reads.new steps.old steps.new }
+    {
+        let number = self.number_or_own(at, args, reads, steps)?;
+        Ok(Value::Number(number))
+    }
+
+    /// `string-length`.
+    fn length_of<L: Ledger>(
+        &self,
+        at: &Context,
+        args: &[Value],
+        reads: &mut Recorder,
+        steps: &mut Steps<L>,
+    ) -> Result<Value, EvalError>
+        ensures { Ran (bind (text_or_own self.now.tree.now.nodes at.now args.now) (λ text. done (values.Number (string_length text)))) (shown result) reads.old reads.new steps.old steps.new }
+    {
+        let text = self.text_or_own(at, args, reads, steps)?;
+        Ok(Value::Number(string_length(text.as_str())))
+    }
+
+    /// `normalize-space`.
+    fn normalize<L: Ledger>(
+        &self,
+        at: &Context,
+        args: &[Value],
+        reads: &mut Recorder,
+        steps: &mut Steps<L>,
+    ) -> Result<Value, EvalError>
+        ensures { Ran (bind (text_or_own self.now.tree.now.nodes at.now args.now) (λ text. done (values.Chars (normalize_space text)))) (shown result) reads.old reads.new steps.old steps.new }
+    {
+        let text = self.text_or_own(at, args, reads, steps)?;
+        let text = normalize_space(self.alloc, text.as_str())?;
+        Ok(Value::Chars(text))
+    }
+
+    /// `lang`.
+    fn is_in_language(
+        &self,
+        n: NodeId,
+        wanted: &str,
+        reads: &mut Recorder,
+    ) -> Result<Value, EvalError>
+        ensures { (count : ℕ) → Ran (as_truth (in_language self.now.tree.now.nodes n wanted.now)) (shown result) reads.old reads.new count count }
+    {
+        let truth = in_language(self.tree, n, wanted, reads)?;
+        Ok(Value::Truth(truth))
     }
 }
 
@@ -125,126 +244,4 @@ fn as_value(text: Result<Text, EvalError>) -> Result<Value, EvalError>
         Ok(text) => Ok(Value::Chars(text)),
         Err(error) => Err(error),
     }
-}
-
-/// `sum`: the sum of the numbers of the argument's nodes.
-fn sum<L: Ledger>(
-    alloc: Global,
-    tree: &Tree,
-    args: &[Value],
-    reads: &mut Recorder,
-    steps: &mut Steps<L>,
-) -> Result<Value, EvalError>
-    ensures { Ran (as_number (sum_in tree.now.nodes (nodes_at args.now 0))) (shown result) reads.old reads.new steps.old steps.new }
-{
-    let number = sum_in(alloc, tree, nodes_at(args, 0), reads, steps)?;
-    Ok(Value::Number(number))
-}
-
-/// The text of the argument, or the string-value of the context node without one.
-fn text_or_own<L: Ledger>(
-    alloc: Global,
-    tree: &Tree,
-    at: &Context,
-    args: &[Value],
-    reads: &mut Recorder,
-    steps: &mut Steps<L>,
-) -> Result<Text, EvalError>
-    ensures { Ran (text_or_own tree.now.nodes at.now args.now) (shown result) reads.old reads.new steps.old steps.new }
-{
-    match args.first() {
-        Some(value) => Ok(Text::copy(alloc, text_of(value))?),
-        None => text_in(alloc, tree, &node_set_of(alloc, at.node)?, reads, steps),
-    }
-}
-
-/// The number of the argument, or that of the context node without one.
-fn number_or_own<L: Ledger>(
-    alloc: Global,
-    tree: &Tree,
-    at: &Context,
-    args: &[Value],
-    reads: &mut Recorder,
-    steps: &mut Steps<L>,
-) -> Result<Num, EvalError>
-    ensures { Ran (number_or_own tree.now.nodes at.now args.now) (shown result) reads.old reads.new steps.old steps.new }
-{
-    match args.first() {
-        Some(value) => Ok(number_of(value)),
-        None => number_in(alloc, tree, &node_set_of(alloc, at.node)?, reads, steps),
-    }
-}
-
-/// `string`.
-fn string<L: Ledger>(
-    alloc: Global,
-    tree: &Tree,
-    at: &Context,
-    args: &[Value],
-    reads: &mut Recorder,
-    steps: &mut Steps<L>,
-) -> Result<Value, EvalError>
-    ensures { Ran (as_text (text_or_own tree.now.nodes at.now args.now)) (shown result) reads.old reads.new steps.old steps.new }
-{
-    let text = text_or_own(alloc, tree, at, args, reads, steps)?;
-    Ok(Value::Chars(text))
-}
-
-/// `number`.
-fn number<L: Ledger>(
-    alloc: Global,
-    tree: &Tree,
-    at: &Context,
-    args: &[Value],
-    reads: &mut Recorder,
-    steps: &mut Steps<L>,
-) -> Result<Value, EvalError>
-    ensures { Ran (as_number (number_or_own tree.now.nodes at.now args.now)) (shown result) reads.old reads.new steps.old steps.new }
-{
-    let number = number_or_own(alloc, tree, at, args, reads, steps)?;
-    Ok(Value::Number(number))
-}
-
-/// `string-length`.
-fn length_of<L: Ledger>(
-    alloc: Global,
-    tree: &Tree,
-    at: &Context,
-    args: &[Value],
-    reads: &mut Recorder,
-    steps: &mut Steps<L>,
-) -> Result<Value, EvalError>
-    ensures { Ran (bind (text_or_own tree.now.nodes at.now args.now) (λ text. done (values.Number (string_length text)))) (shown result) reads.old reads.new steps.old steps.new }
-{
-    let text = text_or_own(alloc, tree, at, args, reads, steps)?;
-    Ok(Value::Number(string_length(text.as_str())))
-}
-
-/// `normalize-space`.
-fn normalized<L: Ledger>(
-    alloc: Global,
-    tree: &Tree,
-    at: &Context,
-    args: &[Value],
-    reads: &mut Recorder,
-    steps: &mut Steps<L>,
-) -> Result<Value, EvalError>
-    ensures { Ran (bind (text_or_own tree.now.nodes at.now args.now) (λ text. done (values.Chars (normalize_space text)))) (shown result) reads.old reads.new steps.old steps.new }
-{
-    let text = text_or_own(alloc, tree, at, args, reads, steps)?;
-    let text = normalize_space(alloc, text.as_str())?;
-    Ok(Value::Chars(text))
-}
-
-/// `lang`.
-fn is_in_language(
-    tree: &Tree,
-    n: NodeId,
-    wanted: &str,
-    reads: &mut Recorder,
-) -> Result<Value, EvalError>
-    ensures { (count : ℕ) → Ran (as_truth (in_language tree.now.nodes n wanted.now)) (shown result) reads.old reads.new count count }
-{
-    let truth = in_language(tree, n, wanted, reads)?;
-    Ok(Value::Truth(truth))
 }

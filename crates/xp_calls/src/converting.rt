@@ -1,4 +1,4 @@
-//! Conversions and comparisons that record what they take.
+//! Conversions and comparisons that record what they take (XPath 1.0, sections 3.4, 3.5 and 4).
 
 ghost use Rattle.std.specs.Prelude.{◌≡◌, pos};
 ghost use Rattle.xp_outcome.specs.Running.{Ran};
@@ -10,6 +10,7 @@ ghost use Rattle.xp_meaning.specs.Results.{shown, shown_alloc};
 ghost use Rattle.xp_meaning.specs.Reads.{taking};
 ghost use Rattle.xp_outcome.specs.Evaluation.{done};
 
+use crate::caller::Caller;
 use crate::reading::take_texts;
 use doc_tree::{NodeId, Tree};
 use sch_base::Text;
@@ -34,34 +35,6 @@ fn first_of(nodes: &[NodeId]) -> &[NodeId]
     ensures { result.now ≡ first_of nodes.now }
 {
     if nodes.is_empty() { nodes } else { &nodes[..1] }
-}
-
-/// The value as a text.
-pub(crate) fn text_in<L: Ledger>(
-    alloc: Global,
-    tree: &Tree,
-    value: &Value,
-    reads: &mut Recorder,
-    steps: &mut Steps<L>,
-) -> Result<Text, EvalError>
-    ensures { Ran (text_in tree.now.nodes value.now) (shown result) reads.old reads.new steps.old steps.new }
-{
-    take_texts(tree, first_of(nodes_of(value)), reads, steps)?;
-    Ok(xp_values::to_text(alloc, tree, value)?)
-}
-
-/// The value as a number.
-pub fn number_in<L: Ledger>(
-    alloc: Global,
-    tree: &Tree,
-    value: &Value,
-    reads: &mut Recorder,
-    steps: &mut Steps<L>,
-) -> Result<Num, EvalError>
-    ensures { Ran (number_in tree.now.nodes value.now) (shown result) reads.old reads.new steps.old steps.new }
-{
-    take_texts(tree, first_of(nodes_of(value)), reads, steps)?;
-    xp_values::to_number(alloc, tree, value)
 }
 
 /// Whether the value is a boolean.
@@ -91,39 +64,8 @@ fn take_compared<L: Ledger>(
     take_texts(tree, nodes_of(right), reads, steps)
 }
 
-/// Compares two values.
-pub fn compare_in<L: Ledger>(
-    alloc: Global,
-    tree: &Tree,
-    operator: Comparison,
-    left: &Value,
-    right: &Value,
-    reads: &mut Recorder,
-    steps: &mut Steps<L>,
-) -> Result<bool, EvalError>
-    ensures { Ran (compare_in tree.now.nodes operator left.now right.now) (shown result) reads.old reads.new steps.old steps.new }
-{
-    take_compared(tree, left, right, reads, steps)?;
-    xp_values::compare(alloc, tree, operator, left, right)
-}
-
-/// The sum of the numbers of some nodes (XPath 1.0, section 4.4): their string-values are all taken, and then each is
-/// converted and added in turn.
-pub(crate) fn sum_in<L: Ledger>(
-    alloc: Global,
-    tree: &Tree,
-    nodes: &[NodeId],
-    reads: &mut Recorder,
-    steps: &mut Steps<L>,
-) -> Result<Num, EvalError>
-    ensures { Ran (sum_in tree.now.nodes nodes.now) (shown result) reads.old reads.new steps.old steps.new }
-{
-    take_texts(tree, nodes, reads, steps)?;
-    summed(alloc, tree, nodes)
-}
-
 /// The numbers of some nodes added in turn, each sum in range.
-fn summed(alloc: Global, tree: &Tree, nodes: &[NodeId]) -> Result<Num, EvalError>
+fn sum_of(alloc: Global, tree: &Tree, nodes: &[NodeId]) -> Result<Num, EvalError>
     ensures { Gives result (sum_from tree.now.nodes (Whole (pos 0)) nodes.now) }
 {
     let mut sum = Num::Whole(0);
@@ -135,20 +77,76 @@ fn summed(alloc: Global, tree: &Tree, nodes: &[NodeId]) -> Result<Num, EvalError
     Ok(sum)
 }
 
-/// The value as it is wanted.
-pub fn as_wanted<L: Ledger>(
-    alloc: Global,
-    tree: &Tree,
-    want: Want,
-    value: Value,
-    reads: &mut Recorder,
-    steps: &mut Steps<L>,
-) -> Result<Value, EvalError>
-    ensures { Ran (as_wanted tree.now.nodes want value) (shown result) reads.old reads.new steps.old steps.new }
-{
-    match want {
-        Want::AsItIs => Ok(value),
-        Want::AsText => Ok(Value::Chars(text_in(alloc, tree, &value, reads, steps)?)),
-        Want::AsNumber => Ok(Value::Number(number_in(alloc, tree, &value, reads, steps)?)),
+impl Caller<'_> {
+    /// The value as a text.
+    pub(crate) fn text_in<L: Ledger>(
+        &self,
+        value: &Value,
+        reads: &mut Recorder,
+        steps: &mut Steps<L>,
+    ) -> Result<Text, EvalError>
+        ensures { Ran (text_in self.now.tree.now.nodes value.now) (shown result) reads.old reads.new steps.old steps.new }
+    {
+        take_texts(self.tree, first_of(nodes_of(value)), reads, steps)?;
+        Ok(xp_values::to_text(self.alloc, self.tree, value)?)
+    }
+
+    /// The value as a number.
+    pub fn number_in<L: Ledger>(
+        &self,
+        value: &Value,
+        reads: &mut Recorder,
+        steps: &mut Steps<L>,
+    ) -> Result<Num, EvalError>
+        ensures { Ran (number_in self.now.tree.now.nodes value.now) (shown result) reads.old reads.new steps.old steps.new }
+    {
+        take_texts(self.tree, first_of(nodes_of(value)), reads, steps)?;
+        xp_values::to_number(self.alloc, self.tree, value)
+    }
+
+    /// Compares two values.
+    pub fn compare_in<L: Ledger>(
+        &self,
+        operator: Comparison,
+        left: &Value,
+        right: &Value,
+        reads: &mut Recorder,
+        steps: &mut Steps<L>,
+    ) -> Result<bool, EvalError>
+        ensures { Ran (compare_in self.now.tree.now.nodes operator left.now right.now) (shown result) reads.old reads.new steps.old steps.new }
+    {
+        take_compared(self.tree, left, right, reads, steps)?;
+        xp_values::compare(self.alloc, self.tree, operator, left, right)
+    }
+
+    /// The sum of the numbers of some nodes (XPath 1.0, section 4.4): their string-values are all taken, and then each is
+    /// converted and added in turn.
+    pub(crate) fn sum_in<L: Ledger>(
+        &self,
+        nodes: &[NodeId],
+        reads: &mut Recorder,
+        steps: &mut Steps<L>,
+    ) -> Result<Num, EvalError>
+        ensures { Ran (sum_in self.now.tree.now.nodes nodes.now) (shown result) reads.old reads.new steps.old steps.new }
+    {
+        take_texts(self.tree, nodes, reads, steps)?;
+        sum_of(self.alloc, self.tree, nodes)
+    }
+
+    /// The value as it is wanted.
+    pub fn as_wanted<L: Ledger>(
+        &self,
+        want: Want,
+        value: Value,
+        reads: &mut Recorder,
+        steps: &mut Steps<L>,
+    ) -> Result<Value, EvalError>
+        ensures { Ran (as_wanted self.now.tree.now.nodes want value) (shown result) reads.old reads.new steps.old steps.new }
+    {
+        match want {
+            Want::AsItIs => Ok(value),
+            Want::AsText => Ok(Value::Chars(self.text_in(&value, reads, steps)?)),
+            Want::AsNumber => Ok(Value::Number(self.number_in(&value, reads, steps)?)),
+        }
     }
 }

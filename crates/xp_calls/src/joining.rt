@@ -13,7 +13,7 @@ use xp_values::{EvalError, EvalFault, Value};
 /// The texts of the arguments joined.
 ///
 /// The fault is TextLimit, where the text would have more than `MAX_TEXT_BYTES` bytes.
-pub(crate) fn joined(alloc: Global, args: &[Value]) -> Result<Text, EvalError>
+pub(crate) fn join(alloc: Global, args: &[Value]) -> Result<Text, EvalError>
     ensures { Gives result (limited (flat_map text_of args.now)) }
 {
     let mut text = String::new(alloc);

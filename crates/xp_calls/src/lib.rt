@@ -5,6 +5,7 @@
 
 mod applying;
 mod arguments;
+mod caller;
 mod converting;
 mod joining;
 mod language;
@@ -12,8 +13,8 @@ mod names;
 mod operators;
 mod reading;
 
-pub use applying::applied;
 pub use arguments::wanted;
-pub use converting::{as_wanted, compare_in, nodes_of, number_in};
-pub use operators::negated;
+pub use caller::Caller;
+pub use converting::nodes_of;
+pub use operators::negate;
 pub use reading::read_axis;

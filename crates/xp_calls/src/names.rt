@@ -5,45 +5,44 @@ ghost use Rattle.doc_tree.specs.Table.{Name, name_of, numbered};
 ghost use Rattle.doc_tree.specs.QNames.{spelled_name};
 ghost use Rattle.xp_meaning.specs.Names.{local_in, uri_in, written_in, name_at};
 
+use crate::caller::Caller;
 use doc_tree::{NameId, NodeId, Tree};
 use sch_base::Text;
 use std::alloc::{AllocError, Global};
 
-/// The local part of the node's name, empty where there is none.
-pub(crate) fn local_name(alloc: Global, tree: &Tree, n: Option<NodeId>) -> Result<Text, AllocError>
-    ensures { IfOk result (λ text. text ≡ local_in (name_at tree.now.nodes n)) }
-{
-    match name_at(tree, n) {
-        Some(name) => Text::copy(alloc, tree.local_of(name)),
-        None => Text::copy(alloc, ""),
+impl Caller<'_> {
+    /// The local part of the node's name, empty where there is none.
+    pub(crate) fn local_name(&self, n: Option<NodeId>) -> Result<Text, AllocError>
+        ensures { IfOk result (λ text. text ≡ local_in (name_at self.now.tree.now.nodes n)) }
+    {
+        match name_at(self.tree, n) {
+            Some(name) => Text::copy(self.alloc, self.tree.local_of(name)),
+            None => Text::copy(self.alloc, ""),
+        }
     }
-}
 
-/// The namespace of the node's name, empty where there is none.
-pub(crate) fn namespace_uri(
-    alloc: Global,
-    tree: &Tree,
-    n: Option<NodeId>,
-) -> Result<Text, AllocError>
-    ensures { IfOk result (λ text. text ≡ uri_in (name_at tree.now.nodes n)) }
-{
-    match name_at(tree, n) {
-        Some(name) => Text::copy(alloc, tree.uri_of(name)),
-        None => Text::copy(alloc, ""),
+    /// The namespace of the node's name, empty where there is none.
+    pub(crate) fn namespace_uri(&self, n: Option<NodeId>) -> Result<Text, AllocError>
+        ensures { IfOk result (λ text. text ≡ uri_in (name_at self.now.tree.now.nodes n)) }
+    {
+        match name_at(self.tree, n) {
+            Some(name) => Text::copy(self.alloc, self.tree.uri_of(name)),
+            None => Text::copy(self.alloc, ""),
+        }
     }
-}
 
-/// The node's name as it is written, empty where there is none.
-pub(crate) fn written_name(
-    alloc: Global,
-    tree: &Tree,
-    n: Option<NodeId>,
-) -> Result<Text, AllocError>
-    ensures { IfOk result (λ text. text ≡ written_in (name_at tree.now.nodes n)) }
-{
-    match name_at(tree, n) {
-        Some(name) => spelled_name(alloc, tree.prefix_of(name), tree.local_of(name)),
-        None => Text::copy(alloc, ""),
+    /// The node's name as it is written, empty where there is none.
+    pub(crate) fn written_name(&self, n: Option<NodeId>) -> Result<Text, AllocError>
+        ensures { IfOk result (λ text. text ≡ written_in (name_at self.now.tree.now.nodes n)) }
+    {
+        match name_at(self.tree, n) {
+            Some(name) => spelled_name(
+                self.alloc,
+                self.tree.prefix_of(name),
+                self.tree.local_of(name),
+            ),
+            None => Text::copy(self.alloc, ""),
+        }
     }
 }
 

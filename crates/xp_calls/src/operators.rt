@@ -6,7 +6,7 @@ ghost use Rattle.xp_meaning.specs.Operators.{negated};
 use xp_values::{ArithOp, EvalFault, Num, arith};
 
 /// The number with so many minus signs before it. The fault is NumberRange, which no number in the range gives.
-pub fn negated(signs: u32, number: Num) -> Result<Num, EvalFault>
+pub fn negate(signs: u32, number: Num) -> Result<Num, EvalFault>
     ensures { result ≡ negated signs number }
 {
     let mut number = number;

@@ -2,18 +2,18 @@
 
 ghost use Rattle.xp_outcome.specs.Running.{Ran};
 ghost use Rattle.xp_meaning.specs.Results.{shown};
-ghost use Rattle.xp_typed_tree.specs.TypedView.{typed_seen};
-ghost use Rattle.xp_meaning.specs.Evaluation.{meaning, meanings, all_true};
+ghost use Rattle.xp_meaning.specs.Evaluation.{meaning};
 ghost use Rattle.xp_meaning.specs.Paths.{step_at};
 ghost use Rattle.xp_eval.specs.Steps.{step_meant};
 
-use crate::evaluating::{self, evaluated, step_nodes};
+use crate::evaluator::Evaluator;
 use doc_tree::{NodeId, NodeList, Tree};
 use std::alloc::Global;
 use std::sync::ledger::Ledger;
+use xp_calls::Caller;
 use xp_meaning::{Context, Lets};
 use xp_outcome::{Recorder, Steps};
-use xp_typed_tree::{Typed, TypedExpr, TypedStep};
+use xp_typed_tree::{Typed, TypedStep};
 use xp_values::{EvalError, Value};
 
 /// Evaluates an expression in a context (XPath 1.0, sections 2 to 4).
@@ -32,7 +32,8 @@ pub fn eval<L: Ledger>(
 ) -> Result<Value, EvalError>
     ensures { Ran (meaning tree.now.nodes lets.now expr.now at.now) (shown result) reads.old reads.new steps.old steps.new }
 {
-    evaluated(alloc, tree, lets, expr.tree(), at, reads, steps)
+    let caller = Caller { alloc, tree };
+    Evaluator { caller, lets }.evaluate(expr.tree(), at, reads, steps)
 }
 
 /// Evaluates a step at a node: the nodes that it selects there, in the axis's own order (XPath 1.0, section 2.1).
@@ -48,21 +49,6 @@ pub fn step_at<L: Ledger>(
 ) -> Result<NodeList, EvalError>
     ensures { Ran (step_at tree.now.nodes (step_meant tree.now.nodes lets.now step.now) current n) (shown result) reads.old reads.new steps.old steps.new }
 {
-    step_nodes(alloc, tree, lets, step, current, n, reads, steps)
-}
-
-/// Whether predicates are all true in a context; those behind a false one aren't evaluated (XPath 1.0, section 3.4).
-pub fn all_true<L: Ledger>(
-    alloc: Global,
-    tree: &Tree,
-    predicates: &[TypedExpr],
-    at: &Context,
-    lets: &Lets,
-    reads: &mut Recorder,
-    steps: &mut Steps<L>,
-) -> Result<bool, EvalError>
-    ensures { Ran (all_true (meanings tree.now.nodes lets.now (typed_seen predicates.now)) at.now)
-        (shown result) reads.old reads.new steps.old steps.new }
-{
-    evaluating::all_true(alloc, tree, lets, predicates, at, reads, steps)
+    let caller = Caller { alloc, tree };
+    Evaluator { caller, lets }.step_at(step, current, n, reads, steps)
 }

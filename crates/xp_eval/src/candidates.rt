@@ -9,32 +9,35 @@ ghost use Rattle.xp_outcome.specs.Running.{Ran};
 ghost use Rattle.xp_meaning.specs.Results.{shown_alloc};
 ghost use Rattle.xp_meaning.specs.Paths.{candidates};
 
+use crate::evaluator::Evaluator;
 use doc_axes::{axis_nodes, passes};
 use doc_tree::{Axis, NodeId, NodeList, NodeTest, Tree};
 use sch_base::ItemList;
 use std::alloc::{AllocError, Global};
 use std::sync::ledger::Ledger;
-use xp_calls::read_axis;
+use xp_calls::{Caller, read_axis};
 use xp_outcome::{Recorder, Steps};
 
-/// The nodes on the axis from a node that pass the test, in the axis's own order. Records what the axis looks at, and
-/// counts a step for the node and one for each node on its axis.
-pub(crate) fn candidates<L: Ledger>(
-    alloc: Global,
-    tree: &Tree,
-    axis: Axis,
-    test: &NodeTest,
-    n: NodeId,
-    reads: &mut Recorder,
-    steps: &mut Steps<L>,
-) -> Result<NodeList, AllocError>
-    ensures { Ran (candidates tree.now.nodes axis test.now n) (shown_alloc result) reads.old reads.new steps.old steps.new }
-{
-    read_axis(tree, axis, n, reads)?;
-    let nodes = nodes_on_axis(alloc, tree, axis, n)?;
-    steps.tick();
-    steps.tick_times(nodes.len());
-    passing(alloc, tree, axis, test, nodes.as_slice())
+impl Evaluator<'_> {
+    /// The nodes on the axis from a node that pass the test, in the axis's own order. Records what the axis looks at, and
+    /// counts a step for the node and one for each node on its axis.
+    pub(crate) fn candidates<L: Ledger>(
+        &self,
+        axis: Axis,
+        test: &NodeTest,
+        n: NodeId,
+        reads: &mut Recorder,
+        steps: &mut Steps<L>,
+    ) -> Result<NodeList, AllocError>
+        ensures { Ran (candidates self.now.caller.tree.now.nodes axis test.now n) (shown_alloc result) reads.old reads.new steps.old steps.new }
+    {
+        let Caller { alloc, tree } = self.caller;
+        read_axis(tree, axis, n, reads)?;
+        let nodes = nodes_on_axis(alloc, tree, axis, n)?;
+        steps.tick();
+        steps.tick_times(nodes.len());
+        passing(alloc, tree, axis, test, nodes.as_slice())
+    }
 }
 
 /// The nodes on the axis; none from a number at which no node lives.

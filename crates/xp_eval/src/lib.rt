@@ -4,9 +4,11 @@
 mod calling;
 mod candidates;
 mod choosing;
-mod evaluating;
+mod evaluator;
 mod variables;
 
-pub use calling::{all_true, eval, step_at};
+pub use calling::{eval, step_at};
+pub use evaluator::Evaluator;
+pub use xp_calls::Caller;
 pub use xp_meaning::{Context, Lets};
 pub use xp_outcome::{Recorder, Steps};

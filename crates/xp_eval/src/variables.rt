@@ -1,4 +1,4 @@
-//! The values of variables.
+//! The values of variables (XPath 1.0, section 3.1).
 
 ghost use Rattle.std.specs.Prelude.{◌≡◌, ℕ, IfOk};
 ghost use Rattle.xp_values.specs.Outcomes.{Gives};
@@ -8,26 +8,23 @@ ghost use Rattle.xp_outcome.specs.Slots.{in_slot};
 ghost use Rattle.xp_meaning.specs.Results.{shown};
 ghost use Rattle.xp_meaning.specs.Evaluation.{slot_value};
 
+use crate::evaluator::Evaluator;
 use doc_axes::copied_nodes;
 use sch_base::{ItemList, Text};
 use std::alloc::{AllocError, Global};
-use xp_meaning::Lets;
 use xp_outcome::Recorder;
 use xp_values::{EvalError, EvalFault, Value};
 
-/// The value or the fault that the slot of a variable holds; the slot is recorded.
-pub(crate) fn variable(
-    alloc: Global,
-    lets: &Lets,
-    slot: u32,
-    reads: &mut Recorder,
-) -> Result<Value, EvalError>
-    ensures { (count : ℕ) → Ran (reading (variable slot) (slot_value (in_slot lets.now slot))) (shown result) reads.old reads.new count count }
-{
-    reads.add_let(slot)?;
-    match lets.get(slot) {
-        Some(held) => held_in(alloc, held),
-        None => Ok(Value::NodeSet(ItemList::new(alloc))),
+impl Evaluator<'_> {
+    /// The value or the fault that the slot of a variable holds; the slot is recorded.
+    pub(crate) fn variable(&self, slot: u32, reads: &mut Recorder) -> Result<Value, EvalError>
+        ensures { (count : ℕ) → Ran (reading (variable slot) (slot_value (in_slot self.now.lets.now slot))) (shown result) reads.old reads.new count count }
+    {
+        reads.add_let(slot)?;
+        match self.lets.get(slot) {
+            Some(held) => held_in(self.caller.alloc, held),
+            None => Ok(Value::NodeSet(ItemList::new(self.caller.alloc))),
+        }
     }
 }
 
@@ -36,13 +33,13 @@ fn held_in(alloc: Global, held: &Result<Value, EvalFault>) -> Result<Value, Eval
     ensures { Gives result held.now }
 {
     match held {
-        Ok(value) => Ok(copied(alloc, value)?),
+        Ok(value) => Ok(copy_value(alloc, value)?),
         Err(fault) => Err(EvalError::Fault(*fault)),
     }
 }
 
 /// The same value once more.
-fn copied(alloc: Global, value: &Value) -> Result<Value, AllocError>
+fn copy_value(alloc: Global, value: &Value) -> Result<Value, AllocError>
     ensures { IfOk result (λ v. v ≡ value.now) }
 {
     match value {

@@ -9,49 +9,73 @@ ghost use Rattle.xp_typed_tree.specs.WellTyped.{PatternStepsTyped};
 ghost use Rattle.xslt_match.specs.Ends.{ends_elsewhere};
 ghost use Rattle.xslt_match.specs.Matching.{chains, path_matches, starts};
 
-use crate::leading::{led_to, standing, starts, way_to};
-use crate::testing::{is_among, survivors};
+use crate::leading::{led_to, starts, way_to};
+use crate::matching::Matcher;
+use crate::testing::is_among;
 use doc_axes::{copied_nodes, passes};
 use doc_tree::{NodeId, Tree};
-use std::alloc::Global;
 use std::sync::ledger::Ledger;
-use xp_meaning::Lets;
+use xp_eval::Caller;
 use xp_outcome::{Recorder, Steps};
 use xp_typed_tree::{TypedPath, TypedPatternStep};
 use xp_values::EvalError;
 
-/// Whether a live node matches a path pattern. Most paths end at another kind of node or another name: these are
-/// refused at once.
-pub(crate) fn path_matches<L: Ledger>(
-    alloc: Global,
-    tree: &Tree,
-    path: &TypedPath,
-    n: NodeId,
-    lets: &Lets,
-    reads: &mut Recorder,
-    steps: &mut Steps<L>,
-) -> Result<bool, EvalError>
-    requires lives { is_live tree.now.nodes n ≡ true }
-    requires typed { PatternStepsTyped (path_seen path.now).steps }
-    ensures { Ran (path_matches tree.now.nodes lets.now n (path_seen path.now))
-        (shown result) reads.old reads.new steps.old steps.new }
-{
-    if ends_elsewhere(tree, &path.steps, n) {
-        return Ok(false);
+impl Matcher<'_> {
+    /// Whether a live node matches a path pattern. Most paths end at another kind of node or another name: these are
+    /// refused at once.
+    pub(crate) fn path_matches<L: Ledger>(
+        &self,
+        path: &TypedPath,
+        reads: &mut Recorder,
+        steps: &mut Steps<L>,
+    ) -> Result<bool, EvalError>
+        requires lives { is_live self.now.evaluator.caller.tree.now.nodes self.now.node ≡ true }
+        requires typed { PatternStepsTyped (path_seen path.now).steps }
+        ensures { Ran (path_matches self.now.evaluator.caller.tree.now.nodes self.now.evaluator.lets.now self.now.node (path_seen path.now))
+            (shown result) reads.old reads.new steps.old steps.new }
+    {
+        let Caller { alloc, tree } = self.evaluator.caller;
+        if ends_elsewhere(tree, &path.steps, self.node) {
+            return Ok(false);
+        }
+        let way = way_to(alloc, tree, self.node)?;
+        let first = starts(tree, path.from_root, way.as_slice(), self.node);
+        self.chains(&path.steps, first, way.as_slice(), reads, steps)
     }
-    let way = way_to(alloc, tree, n)?;
-    let first = starts(tree, path.from_root, way.as_slice(), n);
-    chains(
-        alloc,
-        tree,
-        &path.steps,
-        first,
-        way.as_slice(),
-        n,
-        lets,
-        reads,
-        steps,
-    )
+
+    /// Whether all nodes of some chain to a live node survive their tests, step by step from the left. Where no node stands
+    /// at a step there is no chain, and no more node is tested.
+    ///
+    /// Beside the tests it costs, for each two steps, the square of the way's length at most.
+    fn chains<L: Ledger>(
+        &self,
+        path_steps: &[TypedPatternStep],
+        first: &[NodeId],
+        way: &[NodeId],
+        reads: &mut Recorder,
+        steps: &mut Steps<L>,
+    ) -> Result<bool, EvalError>
+        requires lives { is_live self.now.evaluator.caller.tree.now.nodes self.now.node ≡ true }
+        requires way { way.now ≡ starts self.now.evaluator.caller.tree.now.nodes false self.now.node }
+        requires typed { PatternStepsTyped (map pattern_step_seen path_steps.now) }
+        ensures { Ran (chains self.now.evaluator.caller.tree.now.nodes self.now.evaluator.lets.now self.now.node (map pattern_step_seen path_steps.now) first.now first.now)
+            (shown result) reads.old reads.new steps.old steps.new }
+    {
+        let Caller { alloc, tree } = self.evaluator.caller;
+        let mut nodes = copied_nodes(alloc, first)?;
+        let mut alive = copied_nodes(alloc, first)?;
+        let mut later = path_steps;
+        while let Some((step, rest)) = later.split_first() {
+            nodes = self.standing(step, rest, nodes.as_slice(), way)?;
+            if nodes.is_empty() {
+                return Ok(false);
+            }
+            let left = self.survivors(step, nodes.as_slice(), reads, steps)?;
+            alive = led_to(alloc, tree, step, alive.as_slice(), left.as_slice())?;
+            later = rest;
+        }
+        Ok(is_among(alive.as_slice(), self.node))
+    }
 }
 
 /// Whether the last step's node test refuses a live node.
@@ -63,40 +87,4 @@ fn ends_elsewhere(tree: &Tree, path_steps: &[TypedPatternStep], n: NodeId) -> bo
         Some((last, _)) => !passes(tree, n, last.step.axis, &last.step.test),
         None => false,
     }
-}
-
-/// Whether all nodes of some chain to a live node survive their tests, step by step from the left. Where no node stands
-/// at a step there is no chain, and no more node is tested.
-///
-/// Beside the tests it costs, for each two steps, the square of the way's length at most.
-fn chains<L: Ledger>(
-    alloc: Global,
-    tree: &Tree,
-    path_steps: &[TypedPatternStep],
-    first: &[NodeId],
-    way: &[NodeId],
-    n: NodeId,
-    lets: &Lets,
-    reads: &mut Recorder,
-    steps: &mut Steps<L>,
-) -> Result<bool, EvalError>
-    requires lives { is_live tree.now.nodes n ≡ true }
-    requires way { way.now ≡ starts tree.now.nodes false n }
-    requires typed { PatternStepsTyped (map pattern_step_seen path_steps.now) }
-    ensures { Ran (chains tree.now.nodes lets.now n (map pattern_step_seen path_steps.now) first.now first.now)
-        (shown result) reads.old reads.new steps.old steps.new }
-{
-    let mut nodes = copied_nodes(alloc, first)?;
-    let mut alive = copied_nodes(alloc, first)?;
-    let mut later = path_steps;
-    while let Some((step, rest)) = later.split_first() {
-        nodes = standing(alloc, tree, step, rest, nodes.as_slice(), way, n)?;
-        if nodes.is_empty() {
-            return Ok(false);
-        }
-        let left = survivors(alloc, tree, step, nodes.as_slice(), n, lets, reads, steps)?;
-        alive = led_to(alloc, tree, step, alive.as_slice(), left.as_slice())?;
-        later = rest;
-    }
-    Ok(is_among(alive.as_slice(), n))
 }

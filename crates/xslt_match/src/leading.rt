@@ -15,10 +15,12 @@ ghost use Rattle.xp_typed_tree.specs.WellTyped.{is_pattern_axis, PatternStepsTyp
 ghost use Rattle.xslt_match.specs.Leading.{is_beside, fits, holder, looks_at, looks_there, OnOneWay};
 ghost use Rattle.xslt_match.specs.Matching.{leads, reaches, standing, starts};
 
+use crate::matching::Matcher;
 use doc_axes::passes;
 use doc_tree::{Axis, Kind, NodeId, NodeList, Tree};
 use sch_base::ItemList;
 use std::alloc::{AllocError, Global};
+use xp_eval::Caller;
 use xp_typed_tree::{Join, TypedPatternStep};
 
 /// The way from the root to a live node: its ancestors and itself, the root first. Costs the depth.
@@ -63,7 +65,7 @@ pub(crate) fn starts<'a>(tree: &Tree, from_root: bool, way: &'a [NodeId], n: Nod
 
 /// Those of some nodes that a step leads to from some other nodes.
 ///
-/// Costs for each node that passes the node test as much as there are nodes to be led from, and behind `//` the depth
+/// Costs for each node that passes the node test as much as there are nodes to be led from, and after `//` the depth
 /// besides, where these come from the root downwards on one way.
 pub(crate) fn led_to(
     alloc: Global,
@@ -192,28 +194,29 @@ fn is_above(tree: &Tree, m: NodeId, p: NodeId) -> bool
     }
 }
 
-/// The nodes that stand at a step in some chain to n, by those that stand before it: the step leads to them, and the
-/// later steps lead on to n. Costs for each of the steps the square of the way's length at most.
-pub(crate) fn standing(
-    alloc: Global,
-    tree: &Tree,
-    step: &TypedPatternStep,
-    later: &[TypedPatternStep],
-    nodes: &[NodeId],
-    way: &[NodeId],
-    n: NodeId,
-) -> Result<NodeList, AllocError>
-    requires axis { is_pattern_axis (pattern_step_seen step.now).axis ≡ true }
-    requires later { PatternStepsTyped (map pattern_step_seen later.now) }
-    requires lives { is_live tree.now.nodes n ≡ true }
-    requires way { way.now ≡ starts tree.now.nodes false n }
-    ensures is { IfOk result (λ v.
-        v ≡ standing tree.now.nodes (pattern_step_seen step.now) (map pattern_step_seen later.now) nodes.now n) }
-    ensures live { IfOk result (λ v. (k : ℕ) → mem k v ≡ true → is_live tree.now.nodes k ≡ true) }
-{
-    tree.laws();
-    let among = origins(alloc, tree, later, way, n)?;
-    led_to(alloc, tree, step, nodes, among.as_slice())
+impl Matcher<'_> {
+    /// The nodes that stand at a step in some chain to the node, by those that stand before it: the step leads to them, and the
+    /// later steps lead on to it. Costs for each of the steps the square of the way's length at most.
+    pub(crate) fn standing(
+        &self,
+        step: &TypedPatternStep,
+        later: &[TypedPatternStep],
+        nodes: &[NodeId],
+        way: &[NodeId],
+    ) -> Result<NodeList, AllocError>
+        requires axis { is_pattern_axis (pattern_step_seen step.now).axis ≡ true }
+        requires later { PatternStepsTyped (map pattern_step_seen later.now) }
+        requires lives { is_live self.now.evaluator.caller.tree.now.nodes self.now.node ≡ true }
+        requires way { way.now ≡ starts self.now.evaluator.caller.tree.now.nodes false self.now.node }
+        ensures is { IfOk result (λ v.
+            v ≡ standing self.now.evaluator.caller.tree.now.nodes (pattern_step_seen step.now) (map pattern_step_seen later.now) nodes.now self.now.node) }
+        ensures live { IfOk result (λ v. (k : ℕ) → mem k v ≡ true → is_live self.now.evaluator.caller.tree.now.nodes k ≡ true) }
+    {
+        let Caller { alloc, tree } = self.evaluator.caller;
+        tree.laws();
+        let among = origins(alloc, tree, later, way, self.node)?;
+        led_to(alloc, tree, step, nodes, among.as_slice())
+    }
 }
 
 /// The nodes from which steps lead on to a live node, found from the last step backwards. Costs for each step the
@@ -262,7 +265,7 @@ fn holders(
     Ok(found)
 }
 
-/// Those of some nodes on one way that tell from where a step looks for candidates at one of them: behind `//` the
+/// Those of some nodes on one way that tell from where a step looks for candidates at one of them: after `//` the
 /// deepest, else all.
 fn ends_of(alloc: Global, tree: &Tree, join: Join, nodes: NodeList) -> Result<NodeList, AllocError>
     requires { OnOneWay tree.now.nodes nodes }

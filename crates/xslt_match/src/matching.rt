@@ -8,10 +8,10 @@ ghost use Rattle.xp_typed_tree.specs.TypedView.{paths_seen};
 ghost use Rattle.xp_typed_tree.specs.WellTyped.{PathsTyped};
 ghost use Rattle.xslt_match.specs.Matching.{matching, some_path};
 
-use crate::chains::path_matches;
 use doc_tree::{NodeId, Tree};
 use std::alloc::Global;
 use std::sync::ledger::Ledger;
+use xp_eval::{Caller, Evaluator};
 use xp_meaning::Lets;
 use xp_outcome::{Recorder, Steps};
 use xp_typed_tree::{TypedPath, TypedPattern};
@@ -41,28 +41,37 @@ pub fn matches<L: Ledger>(
         (shown result) reads.old reads.new steps.old steps.new }
 {
     steps.tick();
-    some_path(alloc, tree, pattern.paths(), n, lets, reads, steps)
+    let caller = Caller { alloc, tree };
+    let evaluator = Evaluator { caller, lets };
+    Matcher { evaluator, node: n }.some_path(pattern.paths(), reads, steps)
 }
 
-/// Whether a live node matches some of the path patterns; all are tested.
-fn some_path<L: Ledger>(
-    alloc: Global,
-    tree: &Tree,
-    paths: &[TypedPath],
-    n: NodeId,
-    lets: &Lets,
-    reads: &mut Recorder,
-    steps: &mut Steps<L>,
-) -> Result<bool, EvalError>
-    requires lives { is_live tree.now.nodes n ≡ true }
-    requires typed { PathsTyped (paths_seen paths.now) }
-    ensures { Ran (some_path tree.now.nodes lets.now n (paths_seen paths.now))
-        (shown result) reads.old reads.new steps.old steps.new }
-{
-    let mut matched = false;
-    for path in paths {
-        let here = path_matches(alloc, tree, path, n, lets, reads, steps)?;
-        matched |= here;
+/// What stays the same in the matching of a node: the evaluator of the predicates, and the node.
+#[derive(Clone, Copy)]
+pub(crate) struct Matcher<'r> {
+    pub(crate) evaluator: Evaluator<'r>,
+    /// The node that is matched, which is live.
+    pub(crate) node: NodeId,
+}
+
+impl Matcher<'_> {
+    /// Whether a live node matches some of the path patterns; all are tested.
+    fn some_path<L: Ledger>(
+        &self,
+        paths: &[TypedPath],
+        reads: &mut Recorder,
+        steps: &mut Steps<L>,
+    ) -> Result<bool, EvalError>
+        requires lives { is_live self.now.evaluator.caller.tree.now.nodes self.now.node ≡ true }
+        requires typed { PathsTyped (paths_seen paths.now) }
+        ensures { Ran (some_path self.now.evaluator.caller.tree.now.nodes self.now.evaluator.lets.now self.now.node (paths_seen paths.now))
+            (shown result) reads.old reads.new steps.old steps.new }
+    {
+        let mut matched = false;
+        for path in paths {
+            let here = self.path_matches(path, reads, steps)?;
+            matched |= here;
+        }
+        Ok(matched)
     }
-    Ok(matched)
 }

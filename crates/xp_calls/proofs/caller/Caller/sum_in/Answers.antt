@@ -1,0 +1,13 @@
+use Rattle.std.proofs.Common.{refl}
+use Rattle.xp_meaning.specs.Conversions.{sum_in}
+use Rattle.xp_calls.proofs.Takings.{taken_err, taken_ok}
+use Rattle.xp_meaning.proofs.Exits.{exit_memory, ran_given}
+use Rattle.xp_calls.proofs.caller.Caller.sum_in.Goals as goal
+
+pub returns-in_err-take_texts : goal.returns-in_err-take_texts
+unfolding sum_in
+returns-in_err-take_texts g c = exit_memory _ c.from_residual.ensures.1 (taken_err _ _ _ _ refl _ c.in_err-take_texts.ensures)
+
+pub returns : goal.returns
+unfolding sum_in
+returns g c = taken_ok _ _ _ _ refl c.in_ok-take_texts.ensures (ran_given _ _ _ _ c.sum_of.ensures)

@@ -1,0 +1,403 @@
+//! The evaluation of expressions, part by part (XPath 1.0, sections 2 to 4).
+//!
+//! Each function answers what its definition in xp_meaning gives, and stops at the first fault.
+
+ghost use Rattle.std.specs.Prelude.{◌≡◌, None, Some, flat_map, IfOk};
+ghost use Rattle.doc_axes.specs.Sets.{in_order};
+ghost use Rattle.xp_values.specs.declared.values.Value.TheVariants as value_kinds;
+ghost use Rattle.xp_outcome.specs.Evaluation.{done, bind};
+ghost use Rattle.xp_outcome.specs.Running.{Ran};
+ghost use Rattle.xp_meaning.specs.Conversions.{nodes_of, number_in};
+ghost use Rattle.xp_meaning.specs.Results.{shown};
+ghost use Rattle.xp_typed_tree.specs.TypedView.{typed_tree_of, typed_seen, place_of, compared_list_seen, combined_list_seen, typed_steps_seen};
+ghost use Rattle.xp_meaning.specs.Functions.{applied};
+ghost use Rattle.xp_meaning.specs.Paths.{kept, filtered, step_at, step_from, path};
+ghost use Rattle.xp_meaning.specs.Evaluation.{meaning, meanings, some_true, all_true, compared, combined, values, start_nodes, comparands_meant, combinands_meant, steps_meant};
+ghost use Rattle.xp_eval.specs.Steps.{step_meant};
+ghost use Rattle.xp_eval.specs.Wants.{wanted_by};
+
+use crate::choosing::{nodes_in, push_chosen, size_of, union_of, wanted_by};
+use doc_axes::{in_document_order, one_node, push_all};
+use doc_tree::{NodeId, NodeList};
+use sch_base::{ItemList, Text};
+use std::alloc::{AllocError, Global};
+use std::sync::ledger::Ledger;
+use xp_calls::{Caller, negate};
+use xp_meaning::{Context, Lets};
+use xp_outcome::{Recorder, Steps};
+use xp_typed_tree::{Combined, Compared, Function, TypedExpr, TypedStart, TypedStep};
+use xp_values::{EvalError, Num, Value, arith, to_truth};
+
+/// What stays the same in an evaluation: what functions and conversions are called with, and the values of the lets.
+#[derive(Clone, Copy)]
+pub struct Evaluator<'r> {
+    pub caller: Caller<'r>,
+    pub lets: &'r Lets,
+}
+
+impl Evaluator<'_> {
+    /// The value of an expression in a context.
+    #[cycle(evaluation)]
+    pub(crate) fn evaluate<L: Ledger>(
+        &self,
+        expr: &TypedExpr,
+        at: &Context,
+        reads: &mut Recorder,
+        steps: &mut Steps<L>,
+    ) -> Result<Value, EvalError>
+        ensures { Ran (meaning self.now.caller.tree.now.nodes self.now.lets.now (typed_tree_of expr.now) at.now) (shown result) reads.old reads.new steps.old steps.new }
+    {
+        steps.tick();
+        match expr {
+            TypedExpr::Or(operands) => {
+                let truth = self.some_true(operands, at, reads, steps)?;
+                Ok(Value::Truth(truth))
+            }
+            TypedExpr::And(operands) => {
+                let truth = self.all_true(operands, at, reads, steps)?;
+                Ok(Value::Truth(truth))
+            }
+            TypedExpr::Compare { first, rest } => {
+                let value = self.evaluate(first, at, reads, steps)?;
+                self.compare_rest(rest, value, at, reads, steps)
+            }
+            TypedExpr::Arith { first, rest } => {
+                let number = self.operand_number(first, at, reads, steps)?;
+                let result = self.combine_rest(rest, number, at, reads, steps)?;
+                Ok(Value::Number(result))
+            }
+            TypedExpr::Negate { count, operand } => {
+                let number = self.operand_number(operand, at, reads, steps)?;
+                Ok(Value::Number(negate(*count, number)?))
+            }
+            TypedExpr::Union(operands) => self.union_value(operands, at, reads, steps),
+            TypedExpr::Path { start, steps: path } => {
+                let nodes = self.start_nodes(start, at, reads, steps)?;
+                let nodes = self.path_nodes(path, at.current, nodes, reads, steps)?;
+                Ok(Value::NodeSet(nodes))
+            }
+            TypedExpr::Filter { base, predicates } => {
+                let set = self.operand_nodes(base, at, reads, steps)?;
+                let left = self.filter(predicates, at.current, set, reads, steps)?;
+                Ok(Value::NodeSet(left))
+            }
+            TypedExpr::Variable { slot, .. } => self.variable(*slot, reads),
+            TypedExpr::Literal { value } => Ok(text_value(self.caller.alloc, value)?),
+            TypedExpr::Number { value } => Ok(whole_value(value)),
+            TypedExpr::Call { function, args } => {
+                self.call_value(*function, args, at, reads, steps)
+            }
+        }
+    }
+
+    /// Whether some operand is true; those after it aren't evaluated (XPath 1.0, section 3.4).
+    #[cycle(evaluation)]
+    fn some_true<L: Ledger>(
+        &self,
+        operands: &[TypedExpr],
+        at: &Context,
+        reads: &mut Recorder,
+        steps: &mut Steps<L>,
+    ) -> Result<bool, EvalError>
+        ensures { Ran (some_true (meanings self.now.caller.tree.now.nodes self.now.lets.now (typed_seen operands.now)) at.now) (shown result) reads.old reads.new steps.old steps.new }
+    {
+        for operand in operands {
+            let value = self.evaluate(operand, at, reads, steps)?;
+            if to_truth(&value) {
+                return Ok(true);
+            }
+        }
+        Ok(false)
+    }
+
+    /// Whether all operands are true, as predicates of one node or as operands of `and`; those after a false one aren't
+    /// evaluated (XPath 1.0, section 3.4).
+    #[cycle(evaluation)]
+    pub fn all_true<L: Ledger>(
+        &self,
+        operands: &[TypedExpr],
+        at: &Context,
+        reads: &mut Recorder,
+        steps: &mut Steps<L>,
+    ) -> Result<bool, EvalError>
+        ensures { Ran (all_true (meanings self.now.caller.tree.now.nodes self.now.lets.now (typed_seen operands.now)) at.now) (shown result) reads.old reads.new steps.old steps.new }
+    {
+        for operand in operands {
+            let value = self.evaluate(operand, at, reads, steps)?;
+            if !to_truth(&value) {
+                return Ok(false);
+            }
+        }
+        Ok(true)
+    }
+
+    /// Comparisons of a value with later operands, from left to right.
+    #[cycle(evaluation)]
+    fn compare_rest<L: Ledger>(
+        &self,
+        rest: &[Compared],
+        value: Value,
+        at: &Context,
+        reads: &mut Recorder,
+        steps: &mut Steps<L>,
+    ) -> Result<Value, EvalError>
+        ensures { Ran (compared self.now.caller.tree.now.nodes (comparands_meant self.now.caller.tree.now.nodes self.now.lets.now (compared_list_seen rest.now)) value at.now) (shown result) reads.old reads.new steps.old steps.new }
+    {
+        let mut value = value;
+        for operand in rest {
+            let right = self.evaluate(&operand.expr, at, reads, steps)?;
+            let truth = self
+                .caller
+                .compare_in(operand.operator, &value, &right, reads, steps)?;
+            value = Value::Truth(truth);
+        }
+        Ok(value)
+    }
+
+    /// Arithmetic on a number and later operands, from left to right: each operand is converted and combined before the
+    /// next one is evaluated.
+    #[cycle(evaluation)]
+    fn combine_rest<L: Ledger>(
+        &self,
+        rest: &[Combined],
+        number: Num,
+        at: &Context,
+        reads: &mut Recorder,
+        steps: &mut Steps<L>,
+    ) -> Result<Num, EvalError>
+        ensures { Ran (combined self.now.caller.tree.now.nodes (combinands_meant self.now.caller.tree.now.nodes self.now.lets.now (combined_list_seen rest.now)) number at.now) (shown result) reads.old reads.new steps.old steps.new }
+    {
+        let mut number = number;
+        for operand in rest {
+            let right = self.operand_number(&operand.expr, at, reads, steps)?;
+            number = arith(operand.operator, number, right)?;
+        }
+        Ok(number)
+    }
+
+    /// The number of an operand.
+    #[cycle(evaluation)]
+    fn operand_number<L: Ledger>(
+        &self,
+        operand: &TypedExpr,
+        at: &Context,
+        reads: &mut Recorder,
+        steps: &mut Steps<L>,
+    ) -> Result<Num, EvalError>
+        ensures { Ran (bind (meaning self.now.caller.tree.now.nodes self.now.lets.now (typed_tree_of operand.now) at.now) (number_in self.now.caller.tree.now.nodes)) (shown result) reads.old reads.new steps.old steps.new }
+    {
+        let value = self.evaluate(operand, at, reads, steps)?;
+        self.caller.number_in(&value, reads, steps)
+    }
+
+    /// The nodes of an operand, which is a node-set.
+    #[cycle(evaluation)]
+    fn operand_nodes<L: Ledger>(
+        &self,
+        operand: &TypedExpr,
+        at: &Context,
+        reads: &mut Recorder,
+        steps: &mut Steps<L>,
+    ) -> Result<NodeList, EvalError>
+        ensures { Ran (bind (meaning self.now.caller.tree.now.nodes self.now.lets.now (typed_tree_of operand.now) at.now) (λ v. done (nodes_of v))) (shown result) reads.old reads.new steps.old steps.new }
+    {
+        let value = self.evaluate(operand, at, reads, steps)?;
+        Ok(nodes_in(self.caller.alloc, value))
+    }
+
+    /// The union of node-sets, as a value (XPath 1.0, section 3.3).
+    #[cycle(evaluation)]
+    fn union_value<L: Ledger>(
+        &self,
+        operands: &[TypedExpr],
+        at: &Context,
+        reads: &mut Recorder,
+        steps: &mut Steps<L>,
+    ) -> Result<Value, EvalError>
+        ensures { Ran (bind (values self.now.caller.tree.now.nodes (wanted_by None) (meanings self.now.caller.tree.now.nodes self.now.lets.now (typed_seen operands.now)) at.now)
+            (λ vs. done (value_kinds.NodeSet (in_order self.now.caller.tree.now.nodes (flat_map nodes_of vs)))))
+            (shown result) reads.old reads.new steps.old steps.new }
+    {
+        let sets = self.values(operands, None, at, reads, steps)?;
+        let nodes = union_of(self.caller.alloc, self.caller.tree, sets.as_slice())?;
+        Ok(Value::NodeSet(nodes))
+    }
+
+    /// What a function gives for arguments (XPath 1.0, section 3.2).
+    #[cycle(evaluation)]
+    fn call_value<L: Ledger>(
+        &self,
+        function: Function,
+        operands: &[TypedExpr],
+        at: &Context,
+        reads: &mut Recorder,
+        steps: &mut Steps<L>,
+    ) -> Result<Value, EvalError>
+        ensures { Ran (bind (values self.now.caller.tree.now.nodes (wanted_by (Some function)) (meanings self.now.caller.tree.now.nodes self.now.lets.now (typed_seen operands.now)) at.now)
+            (λ vs. applied self.now.caller.tree.now.nodes function at.now vs))
+            (shown result) reads.old reads.new steps.old steps.new }
+    {
+        let arguments = self.values(operands, Some(function), at, reads, steps)?;
+        self.caller
+            .apply(function, at, arguments.as_slice(), reads, steps)
+    }
+
+    /// The values of operands, each converted before the next one is evaluated.
+    #[cycle(evaluation)]
+    fn values<L: Ledger>(
+        &self,
+        operands: &[TypedExpr],
+        function: Option<Function>,
+        at: &Context,
+        reads: &mut Recorder,
+        steps: &mut Steps<L>,
+    ) -> Result<ItemList<Value>, EvalError>
+        ensures { Ran (values self.now.caller.tree.now.nodes (wanted_by function) (meanings self.now.caller.tree.now.nodes self.now.lets.now (typed_seen operands.now)) at.now) (shown result) reads.old reads.new steps.old steps.new }
+    {
+        let mut values = ItemList::new(self.caller.alloc);
+        for (place, operand) in operands.iter().enumerate() {
+            let value = self.evaluate(operand, at, reads, steps)?;
+            let want = wanted_by(function, place);
+            let value = self.caller.as_wanted(want, value, reads, steps)?;
+            values.push(value)?;
+        }
+        Ok(values)
+    }
+
+    /// The nodes at which a path begins.
+    #[cycle(evaluation)]
+    fn start_nodes<L: Ledger>(
+        &self,
+        start: &TypedStart,
+        at: &Context,
+        reads: &mut Recorder,
+        steps: &mut Steps<L>,
+    ) -> Result<NodeList, EvalError>
+        ensures { Ran (start_nodes self.now.caller.tree.now.nodes self.now.lets.now (place_of start.now) at.now) (shown result) reads.old reads.new steps.old steps.new }
+    {
+        match start {
+            TypedStart::Root => Ok(one_node(self.caller.alloc, self.caller.tree.root())?),
+            TypedStart::Here => Ok(one_node(self.caller.alloc, at.node)?),
+            TypedStart::From(base) => self.operand_nodes(base, at, reads, steps),
+        }
+    }
+
+    /// The nodes that a path's steps select from a set of nodes, one step after another.
+    #[cycle(evaluation)]
+    fn path_nodes<L: Ledger>(
+        &self,
+        path_steps: &[TypedStep],
+        current: NodeId,
+        nodes: NodeList,
+        reads: &mut Recorder,
+        steps: &mut Steps<L>,
+    ) -> Result<NodeList, EvalError>
+        ensures { Ran (path self.now.caller.tree.now.nodes (steps_meant self.now.caller.tree.now.nodes self.now.lets.now (typed_steps_seen path_steps.now)) current nodes) (shown result) reads.old reads.new steps.old steps.new }
+    {
+        let mut nodes = nodes;
+        for step in path_steps {
+            nodes = self.step_set(step, current, nodes.as_slice(), reads, steps)?;
+        }
+        Ok(nodes)
+    }
+
+    /// The nodes that a step selects from a set of nodes, in document order.
+    #[cycle(evaluation)]
+    fn step_set<L: Ledger>(
+        &self,
+        step: &TypedStep,
+        current: NodeId,
+        nodes: &[NodeId],
+        reads: &mut Recorder,
+        steps: &mut Steps<L>,
+    ) -> Result<NodeList, EvalError>
+        ensures { Ran (step_from self.now.caller.tree.now.nodes (step_meant self.now.caller.tree.now.nodes self.now.lets.now step.now) current nodes.now) (shown result) reads.old reads.new steps.old steps.new }
+    {
+        let mut selected = ItemList::new(self.caller.alloc);
+        for n in nodes {
+            let found = self.step_at(step, current, *n, reads, steps)?;
+            push_all(&mut selected, found.as_slice())?;
+        }
+        let set = in_document_order(self.caller.alloc, self.caller.tree, &selected)?;
+        Ok(set)
+    }
+
+    /// The nodes that a step selects at a node, in the axis's own order (XPath 1.0, section 2.1).
+    #[cycle(evaluation)]
+    pub fn step_at<L: Ledger>(
+        &self,
+        step: &TypedStep,
+        current: NodeId,
+        n: NodeId,
+        reads: &mut Recorder,
+        steps: &mut Steps<L>,
+    ) -> Result<NodeList, EvalError>
+        ensures { Ran (step_at self.now.caller.tree.now.nodes (step_meant self.now.caller.tree.now.nodes self.now.lets.now step.now) current n) (shown result) reads.old reads.new steps.old steps.new }
+    {
+        let nodes = self.candidates(step.axis, &step.test, n, reads, steps)?;
+        self.filter(&step.predicates, current, nodes, reads, steps)
+    }
+
+    /// The nodes for which predicates hold, each of which filters what the one before it has left.
+    #[cycle(evaluation)]
+    fn filter<L: Ledger>(
+        &self,
+        predicates: &[TypedExpr],
+        current: NodeId,
+        nodes: NodeList,
+        reads: &mut Recorder,
+        steps: &mut Steps<L>,
+    ) -> Result<NodeList, EvalError>
+        ensures { Ran (filtered (meanings self.now.caller.tree.now.nodes self.now.lets.now (typed_seen predicates.now)) current nodes) (shown result) reads.old reads.new steps.old steps.new }
+    {
+        let mut nodes = nodes;
+        for predicate in predicates {
+            nodes = self.keep(predicate, current, nodes.as_slice(), reads, steps)?;
+        }
+        Ok(nodes)
+    }
+
+    /// The nodes for which a predicate holds, each at its position in the list.
+    #[cycle(evaluation)]
+    fn keep<L: Ledger>(
+        &self,
+        predicate: &TypedExpr,
+        current: NodeId,
+        nodes: &[NodeId],
+        reads: &mut Recorder,
+        steps: &mut Steps<L>,
+    ) -> Result<NodeList, EvalError>
+        ensures { Ran (kept (meaning self.now.caller.tree.now.nodes self.now.lets.now (typed_tree_of predicate.now)) current nodes.now) (shown result) reads.old reads.new steps.old steps.new }
+    {
+        let size = size_of(nodes)?;
+        let mut kept = ItemList::new(self.caller.alloc);
+        let mut position = 0;
+        for n in nodes {
+            position += 1;
+            let at = Context {
+                node: *n,
+                position,
+                size,
+                current,
+            };
+            let value = self.evaluate(predicate, &at, reads, steps)?;
+            push_chosen(&mut kept, position, *n, &value)?;
+        }
+        Ok(kept)
+    }
+}
+
+/// A literal as a value.
+fn text_value(alloc: Global, value: &Text) -> Result<Value, AllocError>
+    ensures { IfOk result (λ v. v ≡ value_kinds.Chars value.now) }
+{
+    let text = Text::copy(alloc, value.as_str())?;
+    Ok(Value::Chars(text))
+}
+
+/// A whole number as a value.
+fn whole_value(value: &i64) -> Value
+    ensures { result ≡ value_kinds.Number (Num.Whole value.now) }
+{
+    Value::Number(Num::Whole(*value))
+}
