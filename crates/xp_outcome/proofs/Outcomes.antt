@@ -110,7 +110,7 @@ module _ {F X A B C : Type 0} (act : ℕ → X → Evaluation F A) (piece : ℕ 
       ∙ bind_alike (gather act piece (i + 1) xs) _ _ (λ rest.
       bind-done (piece i x v ++ rest) (λ more. next (acc ++ more)) ∙ ap next (sym (append_assoc acc (piece i x v) rest))))
 
--- what is gathered from two lists, one behind the other
+-- what is gathered from two lists, one after the other
 module _ {F X A B : Type 0} (act : ℕ → X → Evaluation F A) (piece : ℕ → X → A → List B) where
   next_place : (i : ℕ) (x : X) (xs : List X) → (i + 1) + length xs ≡ i + length (x ∷ xs)
   next_place i x xs = omega arith

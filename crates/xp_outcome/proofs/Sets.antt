@@ -1,15 +1,17 @@
 -- Sets that lists stand for: the order of the items and repeats don't matter.
-use Rattle.std.proofs.Common.{◌≡◌, Bool, true, false, cond, ◌||◌, ◌&&◌, List, [], ◌∷◌, refl, sym, ◌∙◌, ap}
+use Rattle.std.proofs.Common.{◌≡◌, Bool, true, false, cond, ◌||◌, ◌&&◌, List, [], ◌∷◌, refl, sym, ◌∙◌, ap, inl, inr}
+use Rattle.std.specs.Prelude.{Result, Ok, Err, OnOk, OnErr}
 use Rattle.std.specs.declared.cmp.Ordering.{Ordering}
 use Rattle.std.specs.declared.cmp.Ordering.TheVariants.{Less, Equal, Greater}
 use Rattle.std.specs.Ordering.{nat_cmp, eq_by_cmp, ordering_then}
 use Rattle.std.specs.Cmp.{IsTotalOrder, Equal-is, nat_cmp_total, on_total, then_total}
 use Rattle.std.specs.FinMap.{IsAntisymmetric, nat_cmp-IsAntisymmetric}
-use Rattle.std.specs.FinSet.{from_list, retain, contains-from_list, contains-retain, same_set}
+use Rattle.std.specs.FinSet.{from_list, from_list_push, insert, retain, contains-from_list, contains-retain, same_set}
 use Rattle.std.specs.List.{list_any, filter, dedup, dedup_from}
 use Rattle.std.proofs.lemmas.List.Sorted.{list_any-IsPermutation}
-use Rattle.xp_outcome.specs.Recorded.{kind_number, node_of, cell_of, cell_cmp, cell_again}
-use Rattle.xp_outcome.specs.Settling.{Settled}
+use Rattle.xp_outcome.specs.Recorded.{kind_number, node_of, cell_cmp}
+use Rattle.xp_outcome.specs.inner.RecordedCode.{cell_of, cell_again}
+use Rattle.xp_outcome.specs.inner.Settling.{Settled, SettledSome, WithOneMore}
 
 pub cell_cmp_total : IsTotalOrder cell_cmp
 cell_cmp_total = then_total (on_total kind_number nat_cmp_total) (on_total node_of nat_cmp_total)
@@ -57,6 +59,17 @@ module _ {K : Type 0} {R : K → K → Ordering} (o : IsTotalOrder R) (same : Is
       ∙ same_set o same _ _ (λ q. contains-from_list o (dedup eq s.sorted) q ∙ any_dedup eq exact (eq_by_cmp R q) s.sorted
       ∙ sym (list_any-IsPermutation (eq_by_cmp R q) xs s.sorted s.permutation) ∙ sym (contains-from_list o xs q))
 
+  -- and so does one that was freed of them or not
+  pub settled_some_same : (eq : K → K → Bool) → ((x y : K) → eq x y ≡ true → x ≡ y) → (xs ys : List K) → SettledSome eq xs ys → from_list {R = R} ys ≡ from_list xs
+  settled_some_same eq exact xs ys (inl is) = ap (λ zs. from_list {R = R} zs) is
+  settled_some_same eq exact xs ys (inr s) = settled_same eq exact xs ys s
+
+  -- with one item more at the end it stands for the set with that item
+  pub one_more : (eq : K → K → Bool) → ((x y : K) → eq x y ≡ true → x ≡ y) → (xs : List K) (x : K) (ys : List K) → WithOneMore eq xs x ys →
+      from_list {R = R} ys ≡ insert (from_list xs) x
+  one_more eq exact xs x ys w =
+      ap (λ zs. from_list {R = R} zs) w.added ∙ from_list_push o same w.others x ∙ ap (λ s. insert s x) (settled_some_same eq exact xs w.others w.settled)
+
 module _ {K : Type 0} (p e : K → Bool) (b : Bool) (same : (x : K) → e x ≡ true → p x ≡ b) where
   any_filter : (xs : List K) → list_any e (filter p xs) ≡ (list_any e xs && b)
   any_filter [] = refl
@@ -81,3 +94,12 @@ module _ {K : Type 0} {R : K → K → Ordering} (o : IsTotalOrder R) (same : Is
       ∙ any_filter p (eq_by_cmp R q) (p q) (λ x tie. ap p (sym (same q x ((Equal-is (R q x)).0 tie)))) xs
       ∙ ap (λ b. b && p q) (sym (contains-from_list o xs q))
       ∙ sym (contains-retain (from_list xs) p q (λ x tie. ap p (sym (same q x tie)))))
+
+-- what follows where a call gave a value, and where it gave an error
+pub on_ok : {A E P Q : Type 0} (r : Result A E) → (P → Q) → OnOk r P → OnOk r Q
+on_ok (Ok v) next h = next h
+on_ok (Err e) next h = tt
+
+pub on_err : {A E P Q : Type 0} (r : Result A E) → (P → Q) → OnErr r P → OnErr r Q
+on_err (Ok v) next h = tt
+on_err (Err e) next h = next h

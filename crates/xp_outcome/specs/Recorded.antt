@@ -1,10 +1,9 @@
 -- The set of what was read.
-use Rattle.std.specs.Prelude.{◌≡◌, ℕ, zero, suc, Bool, nat_lt, List, [], ◌∷◌, refl}
+use Rattle.std.specs.Prelude.{ℕ, Bool, nat_lt, List, [], ◌∷◌}
 use Rattle.std.specs.declared.cmp.Ordering.{Ordering}
 use Rattle.std.specs.Ordering.{nat_cmp, on, then_cmp}
 use Rattle.std.specs.FinSet.{FinSet, empty, insert, contains}
 use Rattle.std.specs.FinSet as set
-use Rattle.std.specs.Coded.{Coded, code_by, coded×, coded_ℕ}
 use Rattle.doc_tree.specs.cell.Cell.{Cell}
 use Rattle.doc_tree.specs.cell.Cell.TheVariants.{Kids, Shape, Attrs, Value, Text}
 use Rattle.xp_outcome.specs.Evaluation.{Read, cell, variable}
@@ -25,28 +24,9 @@ node_of (Attrs n) = n
 node_of (Value n) = n
 node_of (Text n) = n
 
--- the cell of a kind and a node
-abbrev pub cell_of : ℕ → ℕ → Cell
-cell_of zero n = Kids n
-cell_of (suc zero) n = Shape n
-cell_of (suc (suc zero)) n = Attrs n
-cell_of (suc (suc (suc zero))) n = Value n
-cell_of (suc (suc (suc (suc k)))) n = Text n
-
 -- the order of cells in a set: by kind, then by node
 abbrev pub cell_cmp : Cell → Cell → Ordering
 cell_cmp = then_cmp (on kind_number nat_cmp) (on node_of nat_cmp)
-
-pub cell_again : (c : Cell) → cell_of (kind_number c) (node_of c) ≡ c
-cell_again (Kids n) = refl
-cell_again (Shape n) = refl
-cell_again (Attrs n) = refl
-cell_again (Value n) = refl
-cell_again (Text n) = refl
-
--- a cell is stored as its kind and its node
-abbrev pub cell_code : Coded Cell
-cell_code = code_by (ℕ × ℕ) (coded× coded_ℕ coded_ℕ) (λ c. (kind_number c, node_of c)) (λ p. cell_of p.0 p.1) cell_again
 
 -- the sets of cells and of lets that were read
 abbrev pub CellSet : Type 0
@@ -82,9 +62,3 @@ without_lets_from slot held = record { cells = held.cells; lets = set.retain hel
 abbrev pub has_read : Recorded → Read → Bool
 has_read held (cell c) = contains held.cells c
 has_read held (variable slot) = contains held.lets slot
-
--- what a recorder holds is stored as the pair of its sets
-abbrev pub recorded_code : Coded Recorded
-recorded_code =
-    code_by (CellSet × LetSet) (coded× (set.code cell_code) (set.code coded_ℕ)) (λ r. (r.cells, r.lets))
-    (λ p. record { cells = p.0; lets = p.1 }) (λ _. refl)

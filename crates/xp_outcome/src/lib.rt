@@ -4,11 +4,9 @@
 //! stands to them; evaluation, matching, lets and rules compose by them.
 #![tactic(auto)]
 
-mod cell_set;
 mod laws;
-mod let_set;
+mod read_list;
 mod recorder;
-mod settle;
 mod slots;
 mod steps;
 

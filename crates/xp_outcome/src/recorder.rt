@@ -5,8 +5,7 @@ ghost use Rattle.std.specs.FinSet as set;
 ghost use Rattle.xp_outcome.specs.Evaluation.{cell as of_cell, variable};
 ghost use Rattle.xp_outcome.specs.Recorded.{nothing_read, note, without_lets_from};
 
-use crate::cell_set::CellSet;
-use crate::let_set::LetSet;
+use crate::read_list::ReadList;
 use doc_tree::Cell;
 use std::alloc::{AllocError, Global};
 use std::marker::Model;
@@ -14,20 +13,20 @@ use std::marker::Model;
 /// The cells and the lets that were read, seen by contracts as two sets.
 #[derive(Drop)]
 pub struct Recorder {
-    cells: CellSet,
-    lets: LetSet,
+    cells: ReadList<Cell>,
+    lets: ReadList<u32>,
 }
 
 impl Model for Recorder {
     ghost use Rattle.std.specs.FinSet as set;
-    ghost use Rattle.std.specs.Coded.{code_by, coded×, coded_ℕ};
-    ghost use Rattle.xp_outcome.specs.Recorded.{Recorded, recorded_code};
+    ghost use Rattle.xp_outcome.specs.Recorded.{Recorded};
+    ghost use Rattle.xp_outcome.specs.inner.RecordedCode.{recorded_code};
 
     ghost Value = { Recorded };
 
     ghost coded = { recorded_code };
 
-    ghost view = { λ r. record { cells = r.cells; lets = r.lets } };
+    ghost view = { λ r. record { cells = set.from_list r.cells.items.items; lets = set.from_list r.lets.items.items } };
 }
 
 impl Recorder {
@@ -36,8 +35,8 @@ impl Recorder {
         ensures { result ≡ nothing_read }
     {
         Recorder {
-            cells: CellSet::new(alloc),
-            lets: LetSet::new(alloc),
+            cells: ReadList::new(alloc),
+            lets: ReadList::new(alloc),
         }
     }
 
@@ -76,5 +75,21 @@ impl Recorder {
         ensures { self.new ≡ without_lets_from len self.old }
     {
         self.lets.cut(len)
+    }
+
+    /// Drops repeats and gives back the memory that isn't needed: a recorder that is kept for one cell then holds one.
+    pub fn settle(&mut self)
+        ensures { self.new ≡ self.old }
+    {
+        self.cells.shrink();
+        self.lets.shrink();
+    }
+
+    /// Forgets all that was read; the memory stays for what is read next.
+    pub fn clear(&mut self)
+        ensures { self.new ≡ nothing_read }
+    {
+        self.cells.clear();
+        self.lets.clear();
     }
 }

@@ -1,5 +1,5 @@
 use Rattle.std.proofs.lemmas.List.Filters.{dedup_is}
-use Rattle.xp_outcome.proofs.settle.settle.Goals as goal
+use Rattle.xp_outcome.proofs.read_list.ReadList.settle.Goals as goal
 
 pub returns : goal.returns
 returns g c = record {

@@ -1,0 +1,2 @@
+pub mod RecordedCode
+pub mod Settling
