@@ -1,2 +1,3 @@
 pub mod RecordedCode
 pub mod Settling
+pub mod Trimming

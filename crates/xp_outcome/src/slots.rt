@@ -1,13 +1,14 @@
 //! Numbered slots for the values of lets.
 
-ghost use Rattle.std.specs.Prelude.{◌≡◌, ◌<◌, ◌^◌, [], length, take, OnOk, OnErr};
+ghost use Rattle.std.specs.Prelude.{◌≡◌, ◌<◌, ◌^◌, [], length, OnOk, OnErr};
 ghost use Rattle.std.specs.Option.{option_copied};
-ghost use Rattle.xp_outcome.specs.Slots.{in_slot, reaching, with_slot};
+ghost use Rattle.xp_outcome.specs.Slots.{IsTrimmed, in_slot, reaching, slots_below, trimmed, with_slot};
+ghost use Rattle.xp_outcome.specs.inner.Trimming.{ends_empty};
 
 use std::alloc::{AllocError, Global};
 use std::marker::Model;
 
-/// A list of slots, each empty or with a value.
+/// A list of slots, each empty or with a value; the last one has a value.
 #[derive(Drop)]
 pub struct Slots<V> {
     slots: Vec<Option<V>>,
@@ -18,7 +19,11 @@ impl<V> Model for Slots<V> {
 
     ghost Value = { List (Option V) };
 
+    ghost use Rattle.xp_outcome.specs.Slots.{IsTrimmed};
+
     ghost view = { λ s. s.slots.items };
+
+    ghost invariant = { λ s. IsTrimmed s.slots.items };
 }
 
 impl<V> Slots<V> {
@@ -40,6 +45,13 @@ impl<V> Slots<V> {
             _ => None,
         }
     }
+
+    /// No slot at the end is empty, so that slots with the same values are the same.
+    pub fn laws(&self)
+        ensures { IsTrimmed self.now }
+    {
+        let _ = &self.slots;
+    }
 }
 
 /// Puts empty slots at the end until there is one with the number.
@@ -56,6 +68,25 @@ fn reach<V: Drop>(slots: &mut Vec<Option<V>>, slot: usize) -> Result<(), AllocEr
     Ok(())
 }
 
+/// Drops the empty slots at the end.
+fn trim<V: Drop>(slots: &mut Vec<Option<V>>)
+    ensures { slots.new.items ≡ trimmed slots.old.items }
+{
+    while ends_empty(slots) {
+        slots.pop();
+    }
+}
+
+/// Whether there is a slot, and the last one is empty.
+fn ends_empty<V>(slots: &[Option<V>]) -> bool
+    ensures { result ≡ ends_empty slots.now }
+{
+    match slots.last() {
+        Some(slot) => slot.is_none(),
+        None => false,
+    }
+}
+
 impl<V: Drop> Slots<V> {
     /// Puts a value into a slot in place of what it held.
     pub fn set(&mut self, slot: u32, value: V) -> Result<(), AllocError>
@@ -69,8 +100,9 @@ impl<V: Drop> Slots<V> {
 
     /// Forgets the values in the slots from `len` on.
     pub fn cut(&mut self, len: u32)
-        ensures { self.new ≡ take len self.old }
+        ensures { self.new ≡ slots_below len self.old }
     {
         self.slots.truncate(len as usize);
+        trim(&mut self.slots);
     }
 }
