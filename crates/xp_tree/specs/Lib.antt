@@ -1,3 +1,4 @@
 pub mod Tree
 pub mod View
 pub mod PatternTree
+pub mod Decimals

@@ -4,11 +4,13 @@
 
 mod build;
 mod expr;
+mod numbers;
 mod operators;
 mod pattern;
 mod terms;
 
 pub use expr::{Chain, Expr, Operand, Start, Step};
+pub use numbers::MAX_WHOLE;
 pub use operators::{ArithOp, Comparison};
 pub use pattern::{Join, PathPattern, Pattern, PatternStart, PatternStep};
 pub use terms::{AxisName, Level, Operator, StepTest};

@@ -1,4 +1,4 @@
 pub mod TypedTree
 pub mod TypedView
 pub mod WellTyped
-pub mod TypedCode
+pub mod inner

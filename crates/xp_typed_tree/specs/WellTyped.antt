@@ -6,6 +6,7 @@ use Rattle.xp_typed_tree.specs.declared.function.Function.{Function}
 use Rattle.xp_typed_tree.specs.declared.function.Function.TheVariants.{Last, Position, Current, Count, Sum, LocalName, NamespaceUri, Name, String, Number, Boolean, Not, True, False, Concat, StartsWith, Contains, SubstringBefore, SubstringAfter, Substring, StringLength, NormalizeSpace, Translate, Lang, Floor, Ceiling, Round}
 use Rattle.doc_tree.specs.declared.axes.Axis.{Axis}
 use Rattle.doc_tree.specs.declared.axes.Axis.TheVariants as axes
+use Rattle.xp_tree.specs.declared.numbers.TheConstants.{MAX_WHOLE}
 use Rattle.xp_typed_tree.specs.TypedTree.{TypedTree, TypedPatternStepTree, TypedPathTree, TypedPlace, TypedSteps, Comparands, Combinands, TypedTrees, disjunction, conjunction, comparison, arithmetic, negation, union, location, selection, slot, text, whole, application, at_root, at_context, at_nodes, no_more_steps, typed_step, no_comparands, comparand, no_combinands, combinand, no_typed, typed}
 
 -- the type of what a function gives: XPath 1.0, section 4, and XSLT 1.0, section 12.4
@@ -132,7 +133,7 @@ abbrev mutual
   WellTyped p (selection base predicates) = WellTyped p base × (type_of base ≡ types.NodeSet) × AllTyped p false predicates
   WellTyped p (slot place type) = Unit {0}
   WellTyped p (text value) = Unit {0}
-  WellTyped p (whole value) = (pos 0 ≤ℤ value) × (value ≤ℤ pos 9007199254740991)
+  WellTyped p (whole value) = (pos 0 ≤ℤ value) × (value ≤ℤ pos MAX_WHOLE)
   WellTyped p (application f args) = (may_call p f ≡ true) × (takes f (count_of args) ≡ true) × AllTyped p (wants_nodes f) args
 
   pub PlaceTyped : Bool → TypedPlace → Type 0

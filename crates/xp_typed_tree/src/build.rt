@@ -68,35 +68,35 @@ impl TypedStep {
 
 impl TypedExpr {
     /// Operands joined by `or`.
-    pub fn disjunction(operands: Vec<TypedExpr>) -> TypedExpr
+    pub fn or(operands: Vec<TypedExpr>) -> TypedExpr
         ensures { typed_tree_of result ≡ disjunction (typed_seen operands.items) }
     {
         TypedExpr::Or(operands)
     }
 
     /// Operands joined by `and`.
-    pub fn conjunction(operands: Vec<TypedExpr>) -> TypedExpr
+    pub fn and(operands: Vec<TypedExpr>) -> TypedExpr
         ensures { typed_tree_of result ≡ conjunction (typed_seen operands.items) }
     {
         TypedExpr::And(operands)
     }
 
     /// Operands joined by comparisons.
-    pub fn comparison(first: Box<TypedExpr>, rest: Vec<Compared>) -> TypedExpr
+    pub fn compare(first: Box<TypedExpr>, rest: Vec<Compared>) -> TypedExpr
         ensures { typed_tree_of result ≡ comparison (typed_tree_of first.value) (compared_list_seen rest.items) }
     {
         TypedExpr::Compare { first, rest }
     }
 
     /// Operands joined by operators on numbers.
-    pub fn arithmetic(first: Box<TypedExpr>, rest: Vec<Combined>) -> TypedExpr
+    pub fn arith(first: Box<TypedExpr>, rest: Vec<Combined>) -> TypedExpr
         ensures { typed_tree_of result ≡ arithmetic (typed_tree_of first.value) (combined_list_seen rest.items) }
     {
         TypedExpr::Arith { first, rest }
     }
 
     /// An operand under minus signs.
-    pub fn negation(count: u32, operand: Box<TypedExpr>) -> TypedExpr
+    pub fn negate(count: u32, operand: Box<TypedExpr>) -> TypedExpr
         ensures { typed_tree_of result ≡ negation count (typed_tree_of operand.value) }
     {
         TypedExpr::Negate { count, operand }
@@ -110,14 +110,14 @@ impl TypedExpr {
     }
 
     /// A path.
-    pub fn location(start: TypedStart, steps: Vec<TypedStep>) -> TypedExpr
+    pub fn path(start: TypedStart, steps: Vec<TypedStep>) -> TypedExpr
         ensures { typed_tree_of result ≡ location (place_of start) (typed_steps_seen steps.items) }
     {
         TypedExpr::Path { start, steps }
     }
 
     /// A node-set with predicates.
-    pub fn selection(base: Box<TypedExpr>, predicates: Vec<TypedExpr>) -> TypedExpr
+    pub fn filter(base: Box<TypedExpr>, predicates: Vec<TypedExpr>) -> TypedExpr
         ensures { typed_tree_of result ≡ selection (typed_tree_of base.value) (typed_seen predicates.items) }
     {
         TypedExpr::Filter { base, predicates }

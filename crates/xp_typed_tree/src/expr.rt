@@ -51,7 +51,7 @@ pub enum TypedExpr {
     Literal {
         value: Text,
     },
-    /// A whole number, at most 9,007,199,254,740,991.
+    /// A whole number, at most `xp_tree::MAX_WHOLE`.
     Number {
         value: i64,
     },

@@ -17,7 +17,7 @@ pub struct Typed {
 
 impl Model for Typed {
     ghost use Rattle.xp_typed_tree.specs.TypedTree.{TypedTree};
-    ghost use Rattle.xp_typed_tree.specs.TypedCode.{tree_code};
+    ghost use Rattle.xp_typed_tree.specs.inner.TypedCode.{tree_code};
     ghost use Rattle.std.specs.Coded.{codes};
 
     ghost Value = { TypedTree };
@@ -67,7 +67,7 @@ pub struct TypedPattern {
 impl Model for TypedPattern {
     ghost use Rattle.std.specs.Prelude.{List};
     ghost use Rattle.xp_typed_tree.specs.TypedTree.{TypedPathTree};
-    ghost use Rattle.xp_typed_tree.specs.TypedCode.{paths_code};
+    ghost use Rattle.xp_typed_tree.specs.inner.TypedCode.{paths_code};
     ghost use Rattle.std.specs.Coded.{codes};
 
     ghost Value = { List TypedPathTree };

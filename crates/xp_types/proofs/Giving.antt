@@ -3,7 +3,7 @@ use Rattle.std.proofs.Common.{◌≡◌, Result, Ok, Err, sym, ap, ◌∙◌, su
 use Rattle.xp_types.specs.declared.faults.TypeFault.{TypeFault}
 use Rattle.xp_types.specs.declared.faults.CheckError.{CheckError}
 use Rattle.xp_types.specs.declared.faults.CheckError.TheVariants as errors
-use Rattle.xp_types.specs.Checked.{Checked, after, Gives}
+use Rattle.xp_types.specs.Checked.{Checked, after, ChecksAs}
 
 module _ {A B : Type 0} (m : Checked A) (f : A → Checked B) where
   pub after-value : (a : A) → m ≡ Ok a → after m f ≡ f a
@@ -16,19 +16,19 @@ module _ {A B : Type 0} (m : Checked A) (f : A → Checked B) where
 
 module _ {A B C D : Type 0} (m : Checked A) (f : A → Checked B) (s : C → A) (t : D → B) where
   -- the first check gave a value
-  pub goes : (c : C) (r : Result D CheckError) → Gives m s (Ok c) → Gives (f (s c)) t r → Gives (after m f) t r
+  pub goes : (c : C) (r : Result D CheckError) → ChecksAs m s (Ok c) → ChecksAs (f (s c)) t r → ChecksAs (after m f) t r
   goes c (Ok d) g h = record { given = after-value m f (s c) g.given ∙ h.given }
   goes c (Err (errors.Fault x)) g h = record { given = after-value m f (s c) g.given ∙ h.given }
   goes c (Err errors.Memory) g h = record { given = tt }
 
   -- the first check gave an error
-  pub stops : (e : CheckError) → Gives m s (Err e) → Gives (after m f) t (Err e)
+  pub stops : (e : CheckError) → ChecksAs m s (Err e) → ChecksAs (after m f) t (Err e)
   stops (errors.Fault x) g = record { given = after-fault m f x g.given }
   stops errors.Memory g = record { given = tt }
 
 module _ {A B : Type 0} {m n : Checked A} {s : B → A} where
-  pub gives-same : {r : Result B CheckError} → n ≡ m → Gives m s r → Gives n s r
-  gives-same {r} e g = subst (λ k. Gives k s r) (sym e) g
+  pub gives-same : {r : Result B CheckError} → n ≡ m → ChecksAs m s r → ChecksAs n s r
+  gives-same {r} e g = subst (λ k. ChecksAs k s r) (sym e) g
 
-pub memory : {A B : Type 0} (m : Checked A) (s : B → A) (e : CheckError) → e ≡ errors.Memory → Gives m s (Err e)
-memory m s e is = subst (λ x. Gives m s (Err x)) (sym is) (record { given = tt })
+pub memory : {A B : Type 0} (m : Checked A) (s : B → A) (e : CheckError) → e ≡ errors.Memory → ChecksAs m s (Err e)
+memory m s e is = subst (λ x. ChecksAs m s (Err x)) (sym is) (record { given = tt })

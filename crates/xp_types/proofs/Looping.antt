@@ -25,8 +25,8 @@ use Rattle.std.specs.Prelude.{Vec}
 use Rattle.std.specs.declared.alloc.Global.{Global}
 use Rattle.xp_types.specs.declared.faults.CheckError.{CheckError}
 use Rattle.xp_types.specs.Scope.{Scope}
-use Rattle.xp_types.specs.ChainParts.{first_in, rest_in}
-use Rattle.xp_types.specs.Checked.{Checked, after, Gives}
+use Rattle.xp_types.specs.inner.ChainParts.{first_in, rest_in}
+use Rattle.xp_types.specs.Checked.{Checked, after, ChecksAs}
 use Rattle.xp_types.specs.Typing.{typing, wanted, comparison_of, arith_of, axis_of, resolved, all_typed, operands_typed, comparands_typed, combinands_typed, steps_typed, chain_typed, comparison_typed, arithmetic_typed}
 use Rattle.xp_types.proofs.Giving.{stops, gives-same, after-value}
 
@@ -148,19 +148,19 @@ list-next : (S : Scope) (nodes : Bool) (es : List Expr) (i : ℕ) (done : List T
 list-next S nodes es i done e lt is so = so.onto ∙ ap (λ r. after (all_typed S nodes (trees_seen r)) (λ ts. Ok (joined (typed_seen done) ts))) (drop-at es i e lt is)
 
 pub list-goes : (S : Scope) (nodes : Bool) (es : List Expr) (i : ℕ) (done all : List TypedExpr) (e : Expr) (t : TypedExpr) → i < length es → e ≡ get_or es i e → ListOnto S nodes es i done →
-    Gives (after (typing S (tree_of e)) (wanted nodes (offset_of (tree_of e)))) typed_tree_of (Ok t) → all ≡ done ++ t ∷ [] → ListOnto S nodes es (i + 1) all
+    ChecksAs (after (typing S (tree_of e)) (wanted nodes (offset_of (tree_of e)))) typed_tree_of (Ok t) → all ≡ done ++ t ∷ [] → ListOnto S nodes es (i + 1) all
 list-goes S nodes es i done all e t lt is so g grown = subst (ListOnto S nodes es (i + 1)) (sym grown) (record {
   onto = advance (all_typed S nodes (trees_seen es)) (after (typing S (tree_of e)) (wanted nodes (offset_of (tree_of e)))) (all_typed S nodes (trees_seen (drop (i + 1) es))) typed
       (λ ts. joined (typed_seen done) ts) (λ ts. joined (typed_seen (done ++ t ∷ [])) ts) (typed_tree_of t) g.given (joined-push done t) (list-next S nodes es i done e lt is so);
 })
 
 pub list-stops : (S : Scope) (nodes : Bool) (es : List Expr) (i : ℕ) (done : List TypedExpr) (e : Expr) (x : CheckError) → i < length es → e ≡ get_or es i e → ListOnto S nodes es i done →
-    Gives (after (typing S (tree_of e)) (wanted nodes (offset_of (tree_of e)))) typed_tree_of (Err x) → Gives (all_typed S nodes (trees_seen es)) (λ (v : Vec TypedExpr Global). typed_seen v.items) (Err x)
+    ChecksAs (after (typing S (tree_of e)) (wanted nodes (offset_of (tree_of e)))) typed_tree_of (Err x) → ChecksAs (all_typed S nodes (trees_seen es)) (λ (v : Vec TypedExpr Global). typed_seen v.items) (Err x)
 list-stops S nodes es i done e x lt is so g =
     gives-same (list-next S nodes es i done e lt is so) (stops _ _ (λ (u : TypedTrees). u) _ x (stops _ _ typed_tree_of (λ (u : TypedTrees). u) x g))
 
 pub list-ends : (S : Scope) (nodes : Bool) (es : List Expr) (i : ℕ) (v : Vec TypedExpr Global) → length es ≤ i → ListOnto S nodes es i v.items →
-    Gives (all_typed S nodes (trees_seen es)) (λ (w : Vec TypedExpr Global). typed_seen w.items) (Ok v)
+    ChecksAs (all_typed S nodes (trees_seen es)) (λ (w : Vec TypedExpr Global). typed_seen w.items) (Ok v)
 list-ends S nodes es i v ge so = record {
   given = so.onto ∙ ap (λ r. after (all_typed S nodes (trees_seen r)) (λ ts. Ok (joined (typed_seen v.items) ts))) (drop-end es i ge)
       ∙ after-value (Ok no_typed) (λ ts. Ok (joined (typed_seen v.items) ts)) no_typed refl ∙ ap Ok (joined-none (typed_seen v.items));
@@ -169,7 +169,7 @@ list-ends S nodes es i v ge so = record {
 -- ---- the operands of a chain
 
 pub chain-begins : (S : Scope) (nodes : Bool) (c : Chain) (first : Expr) (t : TypedExpr) (empty all : List TypedExpr) → first ≡ (out-Chain c).first.value →
-    Gives (after (typing S (tree_of first)) (wanted nodes (offset_of (tree_of first)))) typed_tree_of (Ok t) → empty ≡ [] → all ≡ empty ++ t ∷ [] → ChainOnto S nodes c 0 all
+    ChecksAs (after (typing S (tree_of first)) (wanted nodes (offset_of (tree_of first)))) typed_tree_of (Ok t) → empty ≡ [] → all ≡ empty ++ t ∷ [] → ChainOnto S nodes c 0 all
 chain-begins S nodes c first t empty all is g none grown =
     subst (ChainOnto S nodes c 0) (sym (grown ∙ ap (λ l. l ++ t ∷ []) none)) (record {
       onto = ap (λ e. chain_typed S nodes (tree_of e) (rest_in c)) (sym is)
@@ -177,8 +177,8 @@ chain-begins S nodes c first t empty all is g none grown =
     })
 
 pub chain-fails : (S : Scope) (nodes : Bool) (c : Chain) (first : Expr) (x : CheckError) → first ≡ (out-Chain c).first.value →
-    Gives (after (typing S (tree_of first)) (wanted nodes (offset_of (tree_of first)))) typed_tree_of (Err x) →
-    Gives (chain_typed S nodes (first_in c) (rest_in c)) (λ (v : Vec TypedExpr Global). typed_seen v.items) (Err x)
+    ChecksAs (after (typing S (tree_of first)) (wanted nodes (offset_of (tree_of first)))) typed_tree_of (Err x) →
+    ChecksAs (chain_typed S nodes (first_in c) (rest_in c)) (λ (v : Vec TypedExpr Global). typed_seen v.items) (Err x)
 chain-fails S nodes c first x is g =
     gives-same (ap (λ e. chain_typed S nodes (tree_of e) (rest_in c)) (sym is)) (stops _ _ typed_tree_of _ x g)
 
@@ -194,20 +194,20 @@ chain-next S nodes c i done o lt is so =
     so.onto ∙ ap (λ r. after (operands_typed S nodes r) (λ ts. Ok (joined (typed_seen done) ts))) (operand-next (out-Chain c).rest.items i o lt is)
 
 pub chain-goes : (S : Scope) (nodes : Bool) (c : Chain) (i : ℕ) (done all : List TypedExpr) (o : Operand) (t : TypedExpr) → i < length (out-Chain c).rest.items → o ≡ get_or (out-Chain c).rest.items i o → ChainOnto S nodes c i done →
-    Gives (after (typing S (tree_of (out-Operand o).expr)) (wanted nodes (offset_of (tree_of (out-Operand o).expr)))) typed_tree_of (Ok t) → all ≡ done ++ t ∷ [] → ChainOnto S nodes c (i + 1) all
+    ChecksAs (after (typing S (tree_of (out-Operand o).expr)) (wanted nodes (offset_of (tree_of (out-Operand o).expr)))) typed_tree_of (Ok t) → all ≡ done ++ t ∷ [] → ChainOnto S nodes c (i + 1) all
 chain-goes S nodes c i done all o t lt is so g grown = subst (ChainOnto S nodes c (i + 1)) (sym grown) (record {
   onto = advance (chain_typed S nodes (first_in c) (rest_in c)) (after (typing S (tree_of (out-Operand o).expr)) (wanted nodes (offset_of (tree_of (out-Operand o).expr)))) (operands_typed S nodes (operands_seen (drop (i + 1) (out-Chain c).rest.items))) typed
       (λ ts. joined (typed_seen done) ts) (λ ts. joined (typed_seen (done ++ t ∷ [])) ts) (typed_tree_of t) g.given (joined-push done t) (chain-next S nodes c i done o lt is so);
 })
 
 pub chain-stops : (S : Scope) (nodes : Bool) (c : Chain) (i : ℕ) (done : List TypedExpr) (o : Operand) (x : CheckError) → i < length (out-Chain c).rest.items → o ≡ get_or (out-Chain c).rest.items i o → ChainOnto S nodes c i done →
-    Gives (after (typing S (tree_of (out-Operand o).expr)) (wanted nodes (offset_of (tree_of (out-Operand o).expr)))) typed_tree_of (Err x) →
-    Gives (chain_typed S nodes (first_in c) (rest_in c)) (λ (v : Vec TypedExpr Global). typed_seen v.items) (Err x)
+    ChecksAs (after (typing S (tree_of (out-Operand o).expr)) (wanted nodes (offset_of (tree_of (out-Operand o).expr)))) typed_tree_of (Err x) →
+    ChecksAs (chain_typed S nodes (first_in c) (rest_in c)) (λ (v : Vec TypedExpr Global). typed_seen v.items) (Err x)
 chain-stops S nodes c i done o x lt is so g =
     gives-same (chain-next S nodes c i done o lt is so) (stops _ _ (λ (u : TypedTrees). u) _ x (stops _ _ typed_tree_of (λ (u : TypedTrees). u) x g))
 
 pub chain-ends : (S : Scope) (nodes : Bool) (c : Chain) (i : ℕ) (v : Vec TypedExpr Global) → length (out-Chain c).rest.items ≤ i → ChainOnto S nodes c i v.items →
-    Gives (chain_typed S nodes (first_in c) (rest_in c)) (λ (w : Vec TypedExpr Global). typed_seen w.items) (Ok v)
+    ChecksAs (chain_typed S nodes (first_in c) (rest_in c)) (λ (w : Vec TypedExpr Global). typed_seen w.items) (Ok v)
 chain-ends S nodes c i v ge so = record {
   given = so.onto ∙ ap (λ r. after (operands_typed S nodes (operands_seen r)) (λ ts. Ok (joined (typed_seen v.items) ts))) (drop-end (out-Chain c).rest.items i ge)
       ∙ after-value (Ok no_typed) (λ ts. Ok (joined (typed_seen v.items) ts)) no_typed refl ∙ ap Ok (joined-none (typed_seen v.items));
@@ -216,7 +216,7 @@ chain-ends S nodes c i v ge so = record {
 -- ---- comparisons
 
 pub comparison-begins : (S : Scope) (c : Chain) (first : Expr) (t b : TypedExpr) (done : List Compared) → first ≡ (out-Chain c).first.value →
-    Gives (typing S (tree_of first)) typed_tree_of (Ok t) → b ≡ t → done ≡ [] → ComparedOnto S c 0 b done
+    ChecksAs (typing S (tree_of first)) typed_tree_of (Ok t) → b ≡ t → done ≡ [] → ComparedOnto S c 0 b done
 comparison-begins S c first t b done is g boxed none =
     subst (ComparedOnto S c 0 b) (sym none) (subst (λ u. ComparedOnto S c 0 u []) (sym boxed) (record {
       onto = ap (λ e. comparison_typed S (tree_of e) (rest_in c)) (sym is)
@@ -224,7 +224,7 @@ comparison-begins S c first t b done is g boxed none =
     }))
 
 pub comparison-fails : (S : Scope) (c : Chain) (first : Expr) (x : CheckError) → first ≡ (out-Chain c).first.value →
-    Gives (typing S (tree_of first)) typed_tree_of (Err x) → Gives (comparison_typed S (first_in c) (rest_in c)) typed_tree_of (Err x)
+    ChecksAs (typing S (tree_of first)) typed_tree_of (Err x) → ChecksAs (comparison_typed S (first_in c) (rest_in c)) typed_tree_of (Err x)
 comparison-fails S c first x is g = gives-same (ap (λ e. comparison_typed S (tree_of e) (rest_in c)) (sym is)) (stops _ _ typed_tree_of _ x g)
 
 comparison-next : (S : Scope) (c : Chain) (i : ℕ) (b : TypedExpr) (done : List Compared) (o : Operand) → i < length (out-Chain c).rest.items → o ≡ get_or (out-Chain c).rest.items i o → ComparedOnto S c i b done →
@@ -235,7 +235,7 @@ comparison-next S c i b done o lt is so =
     so.onto ∙ ap (λ r. after (comparands_typed S r) (λ cs. Ok (comparison (typed_tree_of b) (comparands_joined (compared_list_seen done) cs)))) (operand-next (out-Chain c).rest.items i o lt is)
 
 pub comparison-goes : (S : Scope) (c : Chain) (i : ℕ) (b : TypedExpr) (done all : List Compared) (o : Operand) (k : Comparison) (t : TypedExpr) (d : Compared) → i < length (out-Chain c).rest.items → o ≡ get_or (out-Chain c).rest.items i o → ComparedOnto S c i b done →
-    Gives (typing S (tree_of (out-Operand o).expr)) typed_tree_of (Ok t) → k ≡ comparison_of (out-Operand o).operator → ((r : Comparands) → compared_of d r ≡ comparand k (typed_tree_of t) r) → all ≡ done ++ d ∷ [] →
+    ChecksAs (typing S (tree_of (out-Operand o).expr)) typed_tree_of (Ok t) → k ≡ comparison_of (out-Operand o).operator → ((r : Comparands) → compared_of d r ≡ comparand k (typed_tree_of t) r) → all ≡ done ++ d ∷ [] →
     ComparedOnto S c (i + 1) b all
 comparison-goes S c i b done all o k t d lt is so g kept made grown = subst (ComparedOnto S c (i + 1) b) (sym grown) (record {
   onto = advance (comparison_typed S (first_in c) (rest_in c)) (typing S (tree_of (out-Operand o).expr)) (comparands_typed S (operands_seen (drop (i + 1) (out-Chain c).rest.items))) (comparand (comparison_of (out-Operand o).operator))
@@ -244,11 +244,11 @@ comparison-goes S c i b done all o k t d lt is so g kept made grown = subst (Com
 })
 
 pub comparison-stops : (S : Scope) (c : Chain) (i : ℕ) (b : TypedExpr) (done : List Compared) (o : Operand) (x : CheckError) → i < length (out-Chain c).rest.items → o ≡ get_or (out-Chain c).rest.items i o → ComparedOnto S c i b done →
-    Gives (typing S (tree_of (out-Operand o).expr)) typed_tree_of (Err x) → Gives (comparison_typed S (first_in c) (rest_in c)) typed_tree_of (Err x)
+    ChecksAs (typing S (tree_of (out-Operand o).expr)) typed_tree_of (Err x) → ChecksAs (comparison_typed S (first_in c) (rest_in c)) typed_tree_of (Err x)
 comparison-stops S c i b done o x lt is so g = gives-same (comparison-next S c i b done o lt is so) (stops _ _ (λ (u : Comparands). u) typed_tree_of x (stops _ _ typed_tree_of (λ (u : Comparands). u) x g))
 
 pub comparison-ends : (S : Scope) (c : Chain) (i : ℕ) (b : TypedExpr) (done : List Compared) (e : TypedExpr) → length (out-Chain c).rest.items ≤ i → ComparedOnto S c i b done →
-    typed_tree_of e ≡ comparison (typed_tree_of b) (compared_list_seen done) → Gives (comparison_typed S (first_in c) (rest_in c)) typed_tree_of (Ok e)
+    typed_tree_of e ≡ comparison (typed_tree_of b) (compared_list_seen done) → ChecksAs (comparison_typed S (first_in c) (rest_in c)) typed_tree_of (Ok e)
 comparison-ends S c i b done e ge so made = record {
   given = so.onto ∙ ap (λ r. after (comparands_typed S (operands_seen r)) (λ cs. Ok (comparison (typed_tree_of b) (comparands_joined (compared_list_seen done) cs)))) (drop-end (out-Chain c).rest.items i ge)
       ∙ after-value (Ok no_comparands) (λ cs. Ok (comparison (typed_tree_of b) (comparands_joined (compared_list_seen done) cs))) no_comparands refl
@@ -258,7 +258,7 @@ comparison-ends S c i b done e ge so made = record {
 -- ---- operators on numbers
 
 pub arithmetic-begins : (S : Scope) (c : Chain) (first : Expr) (t b : TypedExpr) (done : List Combined) → first ≡ (out-Chain c).first.value →
-    Gives (typing S (tree_of first)) typed_tree_of (Ok t) → b ≡ t → done ≡ [] → CombinedOnto S c 0 b done
+    ChecksAs (typing S (tree_of first)) typed_tree_of (Ok t) → b ≡ t → done ≡ [] → CombinedOnto S c 0 b done
 arithmetic-begins S c first t b done is g boxed none =
     subst (CombinedOnto S c 0 b) (sym none) (subst (λ u. CombinedOnto S c 0 u []) (sym boxed) (record {
       onto = ap (λ e. arithmetic_typed S (tree_of e) (rest_in c)) (sym is)
@@ -266,7 +266,7 @@ arithmetic-begins S c first t b done is g boxed none =
     }))
 
 pub arithmetic-fails : (S : Scope) (c : Chain) (first : Expr) (x : CheckError) → first ≡ (out-Chain c).first.value →
-    Gives (typing S (tree_of first)) typed_tree_of (Err x) → Gives (arithmetic_typed S (first_in c) (rest_in c)) typed_tree_of (Err x)
+    ChecksAs (typing S (tree_of first)) typed_tree_of (Err x) → ChecksAs (arithmetic_typed S (first_in c) (rest_in c)) typed_tree_of (Err x)
 arithmetic-fails S c first x is g = gives-same (ap (λ e. arithmetic_typed S (tree_of e) (rest_in c)) (sym is)) (stops _ _ typed_tree_of _ x g)
 
 arithmetic-next : (S : Scope) (c : Chain) (i : ℕ) (b : TypedExpr) (done : List Combined) (o : Operand) → i < length (out-Chain c).rest.items → o ≡ get_or (out-Chain c).rest.items i o → CombinedOnto S c i b done →
@@ -278,7 +278,7 @@ arithmetic-next S c i b done o lt is so =
 
 -- the operator is known
 arithmetic-known : (S : Scope) (c : Chain) (i : ℕ) (b : TypedExpr) (done : List Combined) (o : Operand) (k : ArithOp) → i < length (out-Chain c).rest.items → o ≡ get_or (out-Chain c).rest.items i o → CombinedOnto S c i b done →
-    Gives (arith_of (out-Operand o).operator (out-Operand o).offset) (λ (a : ArithOp). a) (Ok k) →
+    ChecksAs (arith_of (out-Operand o).operator (out-Operand o).offset) (λ (a : ArithOp). a) (Ok k) →
     arithmetic_typed S (first_in c) (rest_in c)
     ≡ after (after (typing S (tree_of (out-Operand o).expr)) (λ t. after (combinands_typed S (operands_seen (drop (i + 1) (out-Chain c).rest.items))) (λ cs. Ok (combinand k t cs))))
     (λ cs. Ok (arithmetic (typed_tree_of b) (combinands_joined (combined_list_seen done) cs)))
@@ -288,7 +288,7 @@ arithmetic-known S c i b done o k lt is so h =
     (after-value (arith_of (out-Operand o).operator (out-Operand o).offset) (λ a. after (typing S (tree_of (out-Operand o).expr)) (λ t. after (combinands_typed S (operands_seen (drop (i + 1) (out-Chain c).rest.items))) (λ cs. Ok (combinand a t cs)))) k h.given)
 
 pub arithmetic-goes : (S : Scope) (c : Chain) (i : ℕ) (b : TypedExpr) (done all : List Combined) (o : Operand) (k : ArithOp) (t : TypedExpr) (d : Combined) → i < length (out-Chain c).rest.items → o ≡ get_or (out-Chain c).rest.items i o → CombinedOnto S c i b done →
-    Gives (arith_of (out-Operand o).operator (out-Operand o).offset) (λ (a : ArithOp). a) (Ok k) → Gives (typing S (tree_of (out-Operand o).expr)) typed_tree_of (Ok t) → ((r : Combinands) → combined_of d r ≡ combinand k (typed_tree_of t) r) → all ≡ done ++ d ∷ [] →
+    ChecksAs (arith_of (out-Operand o).operator (out-Operand o).offset) (λ (a : ArithOp). a) (Ok k) → ChecksAs (typing S (tree_of (out-Operand o).expr)) typed_tree_of (Ok t) → ((r : Combinands) → combined_of d r ≡ combinand k (typed_tree_of t) r) → all ≡ done ++ d ∷ [] →
     CombinedOnto S c (i + 1) b all
 arithmetic-goes S c i b done all o k t d lt is so h g made grown = subst (CombinedOnto S c (i + 1) b) (sym grown) (record {
   onto = advance (arithmetic_typed S (first_in c) (rest_in c)) (typing S (tree_of (out-Operand o).expr)) (combinands_typed S (operands_seen (drop (i + 1) (out-Chain c).rest.items))) (combinand k)
@@ -297,16 +297,16 @@ arithmetic-goes S c i b done all o k t d lt is so h g made grown = subst (Combin
 })
 
 pub arithmetic-refuses : (S : Scope) (c : Chain) (i : ℕ) (b : TypedExpr) (done : List Combined) (o : Operand) (x : CheckError) → i < length (out-Chain c).rest.items → o ≡ get_or (out-Chain c).rest.items i o → CombinedOnto S c i b done →
-    Gives (arith_of (out-Operand o).operator (out-Operand o).offset) (λ (a : ArithOp). a) (Err x) → Gives (arithmetic_typed S (first_in c) (rest_in c)) typed_tree_of (Err x)
+    ChecksAs (arith_of (out-Operand o).operator (out-Operand o).offset) (λ (a : ArithOp). a) (Err x) → ChecksAs (arithmetic_typed S (first_in c) (rest_in c)) typed_tree_of (Err x)
 arithmetic-refuses S c i b done o x lt is so h = gives-same (arithmetic-next S c i b done o lt is so) (stops _ _ (λ (u : Combinands). u) typed_tree_of x (stops _ _ (λ (a : ArithOp). a) (λ (u : Combinands). u) x h))
 
 pub arithmetic-stops : (S : Scope) (c : Chain) (i : ℕ) (b : TypedExpr) (done : List Combined) (o : Operand) (k : ArithOp) (x : CheckError) → i < length (out-Chain c).rest.items → o ≡ get_or (out-Chain c).rest.items i o → CombinedOnto S c i b done →
-    Gives (arith_of (out-Operand o).operator (out-Operand o).offset) (λ (a : ArithOp). a) (Ok k) → Gives (typing S (tree_of (out-Operand o).expr)) typed_tree_of (Err x) → Gives (arithmetic_typed S (first_in c) (rest_in c)) typed_tree_of (Err x)
+    ChecksAs (arith_of (out-Operand o).operator (out-Operand o).offset) (λ (a : ArithOp). a) (Ok k) → ChecksAs (typing S (tree_of (out-Operand o).expr)) typed_tree_of (Err x) → ChecksAs (arithmetic_typed S (first_in c) (rest_in c)) typed_tree_of (Err x)
 arithmetic-stops S c i b done o k x lt is so h g =
     gives-same (arithmetic-known S c i b done o k lt is so h) (stops _ _ (λ (u : Combinands). u) typed_tree_of x (stops _ _ typed_tree_of (λ (u : Combinands). u) x g))
 
 pub arithmetic-ends : (S : Scope) (c : Chain) (i : ℕ) (b : TypedExpr) (done : List Combined) (e : TypedExpr) → length (out-Chain c).rest.items ≤ i → CombinedOnto S c i b done →
-    typed_tree_of e ≡ arithmetic (typed_tree_of b) (combined_list_seen done) → Gives (arithmetic_typed S (first_in c) (rest_in c)) typed_tree_of (Ok e)
+    typed_tree_of e ≡ arithmetic (typed_tree_of b) (combined_list_seen done) → ChecksAs (arithmetic_typed S (first_in c) (rest_in c)) typed_tree_of (Ok e)
 arithmetic-ends S c i b done e ge so made = record {
   given = so.onto ∙ ap (λ r. after (combinands_typed S (operands_seen r)) (λ cs. Ok (arithmetic (typed_tree_of b) (combinands_joined (combined_list_seen done) cs)))) (drop-end (out-Chain c).rest.items i ge)
       ∙ after-value (Ok no_combinands) (λ cs. Ok (arithmetic (typed_tree_of b) (combinands_joined (combined_list_seen done) cs))) no_combinands refl
@@ -331,41 +331,41 @@ test_left S s rest a = after (resolved S (out-Step s).test (out-Step s).test_off
 abbrev predicates_left : Scope → Step → Steps → Axis → NodeTest → Checked TypedSteps
 predicates_left S s rest a n = after (all_typed S false (trees_seen (out-Step s).predicates.items)) (λ ps. after (steps_typed S rest) (λ ts. Ok (typed_step a n ps ts)))
 
-steps-axis : (S : Scope) (ss : List Step) (i : ℕ) (done : List TypedStep) (s : Step) (a : Axis) → i < length ss → s ≡ get_or ss i s → StepsOnto S ss i done → Gives (axis_of (out-Step s).axis (out-Step s).offset) (λ (x : Axis). x) (Ok a) →
+steps-axis : (S : Scope) (ss : List Step) (i : ℕ) (done : List TypedStep) (s : Step) (a : Axis) → i < length ss → s ≡ get_or ss i s → StepsOnto S ss i done → ChecksAs (axis_of (out-Step s).axis (out-Step s).offset) (λ (x : Axis). x) (Ok a) →
     steps_typed S (steps_seen ss) ≡ after (test_left S s (steps_seen (drop (i + 1) ss)) a) (λ ts. Ok (steps_joined (typed_steps_seen done) ts))
 steps-axis S ss i done s a lt is so h =
     steps-next S ss i done s lt is so ∙ ap (λ m. after m (λ ts. Ok (steps_joined (typed_steps_seen done) ts))) (after-value (axis_of (out-Step s).axis (out-Step s).offset) (test_left S s (steps_seen (drop (i + 1) ss))) a h.given)
 
-steps-test : (S : Scope) (ss : List Step) (i : ℕ) (done : List TypedStep) (s : Step) (a : Axis) (n : NodeTest) → i < length ss → s ≡ get_or ss i s → StepsOnto S ss i done → Gives (axis_of (out-Step s).axis (out-Step s).offset) (λ (x : Axis). x) (Ok a) →
-    Gives (resolved S (out-Step s).test (out-Step s).test_offset) (λ (x : NodeTest). x) (Ok n) →
+steps-test : (S : Scope) (ss : List Step) (i : ℕ) (done : List TypedStep) (s : Step) (a : Axis) (n : NodeTest) → i < length ss → s ≡ get_or ss i s → StepsOnto S ss i done → ChecksAs (axis_of (out-Step s).axis (out-Step s).offset) (λ (x : Axis). x) (Ok a) →
+    ChecksAs (resolved S (out-Step s).test (out-Step s).test_offset) (λ (x : NodeTest). x) (Ok n) →
     steps_typed S (steps_seen ss) ≡ after (predicates_left S s (steps_seen (drop (i + 1) ss)) a n) (λ ts. Ok (steps_joined (typed_steps_seen done) ts))
 steps-test S ss i done s a n lt is so h g =
     steps-axis S ss i done s a lt is so h
     ∙ ap (λ m. after m (λ ts. Ok (steps_joined (typed_steps_seen done) ts))) (after-value (resolved S (out-Step s).test (out-Step s).test_offset) (predicates_left S s (steps_seen (drop (i + 1) ss)) a) n g.given)
 
 pub steps-go : (S : Scope) (ss : List Step) (i : ℕ) (done all : List TypedStep) (s : Step) (a : Axis) (n : NodeTest) (ps : Vec TypedExpr Global) (d : TypedStep) → i < length ss → s ≡ get_or ss i s → StepsOnto S ss i done →
-    Gives (axis_of (out-Step s).axis (out-Step s).offset) (λ (x : Axis). x) (Ok a) → Gives (resolved S (out-Step s).test (out-Step s).test_offset) (λ (x : NodeTest). x) (Ok n) →
-    Gives (all_typed S false (trees_seen (out-Step s).predicates.items)) (λ (v : Vec TypedExpr Global). typed_seen v.items) (Ok ps) → ((r : TypedSteps) → typed_step_of d r ≡ typed_step a n (typed_seen ps.items) r) → all ≡ done ++ d ∷ [] → StepsOnto S ss (i + 1) all
+    ChecksAs (axis_of (out-Step s).axis (out-Step s).offset) (λ (x : Axis). x) (Ok a) → ChecksAs (resolved S (out-Step s).test (out-Step s).test_offset) (λ (x : NodeTest). x) (Ok n) →
+    ChecksAs (all_typed S false (trees_seen (out-Step s).predicates.items)) (λ (v : Vec TypedExpr Global). typed_seen v.items) (Ok ps) → ((r : TypedSteps) → typed_step_of d r ≡ typed_step a n (typed_seen ps.items) r) → all ≡ done ++ d ∷ [] → StepsOnto S ss (i + 1) all
 steps-go S ss i done all s a n ps d lt is so h g k made grown = subst (StepsOnto S ss (i + 1)) (sym grown) (record {
   onto = advance (steps_typed S (steps_seen ss)) (all_typed S false (trees_seen (out-Step s).predicates.items)) (steps_typed S (steps_seen (drop (i + 1) ss))) (typed_step a n)
       (λ ts. steps_joined (typed_steps_seen done) ts) (λ ts. steps_joined (typed_steps_seen (done ++ d ∷ [])) ts) (typed_seen ps.items) k.given (λ ts. steps-push done a n (typed_seen ps.items) d ts made) (steps-test S ss i done s a n lt is so h g);
 })
 
-pub steps-refuse : (S : Scope) (ss : List Step) (i : ℕ) (done : List TypedStep) (s : Step) (x : CheckError) → i < length ss → s ≡ get_or ss i s → StepsOnto S ss i done → Gives (axis_of (out-Step s).axis (out-Step s).offset) (λ (a : Axis). a) (Err x) →
-    Gives (steps_typed S (steps_seen ss)) (λ (v : Vec TypedStep Global). typed_steps_seen v.items) (Err x)
+pub steps-refuse : (S : Scope) (ss : List Step) (i : ℕ) (done : List TypedStep) (s : Step) (x : CheckError) → i < length ss → s ≡ get_or ss i s → StepsOnto S ss i done → ChecksAs (axis_of (out-Step s).axis (out-Step s).offset) (λ (a : Axis). a) (Err x) →
+    ChecksAs (steps_typed S (steps_seen ss)) (λ (v : Vec TypedStep Global). typed_steps_seen v.items) (Err x)
 steps-refuse S ss i done s x lt is so h = gives-same (steps-next S ss i done s lt is so) (stops _ _ (λ (u : TypedSteps). u) _ x (stops _ _ (λ (a : Axis). a) (λ (u : TypedSteps). u) x h))
 
-pub steps-unresolved : (S : Scope) (ss : List Step) (i : ℕ) (done : List TypedStep) (s : Step) (a : Axis) (x : CheckError) → i < length ss → s ≡ get_or ss i s → StepsOnto S ss i done → Gives (axis_of (out-Step s).axis (out-Step s).offset) (λ (a : Axis). a) (Ok a) →
-    Gives (resolved S (out-Step s).test (out-Step s).test_offset) (λ (n : NodeTest). n) (Err x) → Gives (steps_typed S (steps_seen ss)) (λ (v : Vec TypedStep Global). typed_steps_seen v.items) (Err x)
+pub steps-unresolved : (S : Scope) (ss : List Step) (i : ℕ) (done : List TypedStep) (s : Step) (a : Axis) (x : CheckError) → i < length ss → s ≡ get_or ss i s → StepsOnto S ss i done → ChecksAs (axis_of (out-Step s).axis (out-Step s).offset) (λ (a : Axis). a) (Ok a) →
+    ChecksAs (resolved S (out-Step s).test (out-Step s).test_offset) (λ (n : NodeTest). n) (Err x) → ChecksAs (steps_typed S (steps_seen ss)) (λ (v : Vec TypedStep Global). typed_steps_seen v.items) (Err x)
 steps-unresolved S ss i done s a x lt is so h g = gives-same (steps-axis S ss i done s a lt is so h) (stops _ _ (λ (u : TypedSteps). u) _ x (stops _ _ (λ (n : NodeTest). n) (λ (u : TypedSteps). u) x g))
 
-pub steps-stop : (S : Scope) (ss : List Step) (i : ℕ) (done : List TypedStep) (s : Step) (a : Axis) (n : NodeTest) (x : CheckError) → i < length ss → s ≡ get_or ss i s → StepsOnto S ss i done → Gives (axis_of (out-Step s).axis (out-Step s).offset) (λ (a : Axis). a) (Ok a) →
-    Gives (resolved S (out-Step s).test (out-Step s).test_offset) (λ (n : NodeTest). n) (Ok n) → Gives (all_typed S false (trees_seen (out-Step s).predicates.items)) (λ (v : Vec TypedExpr Global). typed_seen v.items) (Err x) →
-    Gives (steps_typed S (steps_seen ss)) (λ (v : Vec TypedStep Global). typed_steps_seen v.items) (Err x)
+pub steps-stop : (S : Scope) (ss : List Step) (i : ℕ) (done : List TypedStep) (s : Step) (a : Axis) (n : NodeTest) (x : CheckError) → i < length ss → s ≡ get_or ss i s → StepsOnto S ss i done → ChecksAs (axis_of (out-Step s).axis (out-Step s).offset) (λ (a : Axis). a) (Ok a) →
+    ChecksAs (resolved S (out-Step s).test (out-Step s).test_offset) (λ (n : NodeTest). n) (Ok n) → ChecksAs (all_typed S false (trees_seen (out-Step s).predicates.items)) (λ (v : Vec TypedExpr Global). typed_seen v.items) (Err x) →
+    ChecksAs (steps_typed S (steps_seen ss)) (λ (v : Vec TypedStep Global). typed_steps_seen v.items) (Err x)
 steps-stop S ss i done s a n x lt is so h g k =
     gives-same (steps-test S ss i done s a n lt is so h g) (stops _ _ (λ (u : TypedSteps). u) _ x (stops _ _ (λ (v : Vec TypedExpr Global). typed_seen v.items) (λ (u : TypedSteps). u) x k))
 
-pub steps-end : (S : Scope) (ss : List Step) (i : ℕ) (v : Vec TypedStep Global) → length ss ≤ i → StepsOnto S ss i v.items → Gives (steps_typed S (steps_seen ss)) (λ (w : Vec TypedStep Global). typed_steps_seen w.items) (Ok v)
+pub steps-end : (S : Scope) (ss : List Step) (i : ℕ) (v : Vec TypedStep Global) → length ss ≤ i → StepsOnto S ss i v.items → ChecksAs (steps_typed S (steps_seen ss)) (λ (w : Vec TypedStep Global). typed_steps_seen w.items) (Ok v)
 steps-end S ss i v ge so = record {
   given = so.onto ∙ ap (λ r. after (steps_typed S (steps_seen r)) (λ ts. Ok (steps_joined (typed_steps_seen v.items) ts))) (drop-end ss i ge)
       ∙ after-value (Ok no_more_steps) (λ ts. Ok (steps_joined (typed_steps_seen v.items) ts)) no_more_steps refl ∙ ap Ok (steps-none (typed_steps_seen v.items));

@@ -15,7 +15,7 @@ use Rattle.xp_typed_tree.specs.TypedTree.{TypedTrees, TypedPatternStepTree, Type
 use Rattle.xp_typed_tree.specs.TypedView.{typed_seen, pattern_step_seen, path_seen, paths_seen}
 use Rattle.xp_types.specs.declared.faults.CheckError.{CheckError}
 use Rattle.xp_types.specs.Scope.{Scope}
-use Rattle.xp_types.specs.Checked.{Checked, after, Gives}
+use Rattle.xp_types.specs.Checked.{Checked, after, ChecksAs}
 use Rattle.xp_types.specs.Typing.{resolved, all_typed, pattern_axis, pattern_start, pattern_steps_typed, pattern_typing}
 use Rattle.xp_types.proofs.Giving.{stops, gives-same, after-value}
 use Rattle.xp_types.proofs.Looping.{drop-at, drop-end, unjoined, advance}
@@ -41,7 +41,7 @@ module _ (S : Scope) (ss : List PatternStep) where
   pattern-steps-begin done none = subst (PatternStepsOnto S ss 0) (sym none) (record { onto = unjoined (pattern_steps_typed S (map pattern_step_of ss)) })
 
   pub pattern-steps-end : (i : ℕ) (v : Vec TypedPatternStep Global) → length ss ≤ i → PatternStepsOnto S ss i v.items →
-      Gives (pattern_steps_typed S (map pattern_step_of ss)) (λ (w : Vec TypedPatternStep Global). map pattern_step_seen w.items) (Ok v)
+      ChecksAs (pattern_steps_typed S (map pattern_step_of ss)) (λ (w : Vec TypedPatternStep Global). map pattern_step_seen w.items) (Ok v)
   pattern-steps-end i v ge so = record {
     given = so.onto ∙ ap (λ r. after (pattern_steps_typed S (map pattern_step_of r)) (λ ts. Ok (map pattern_step_seen v.items ++ ts))) (drop-end ss i ge)
         ∙ after-value (Ok []) (λ ts. Ok (map pattern_step_seen v.items ++ ts)) [] refl ∙ ap Ok (joined-none (map pattern_step_seen v.items));
@@ -57,22 +57,22 @@ module _ (S : Scope) (ss : List PatternStep) where
     abbrev left : NodeTest → Checked (List TypedPatternStepTree)
     left n = after (all_typed S false (trees_seen s.predicates.items)) (λ ps. after (pattern_steps_typed S (map pattern_step_of (drop (i + 1) ss))) (λ rest. Ok (made n ps ∷ rest)))
 
-    tested : (n : NodeTest) → Gives (resolved S s.test s.test_offset) (λ (x : NodeTest). x) (Ok n) →
+    tested : (n : NodeTest) → ChecksAs (resolved S s.test s.test_offset) (λ (x : NodeTest). x) (Ok n) →
         pattern_steps_typed S (map pattern_step_of ss) ≡ after (left n) (λ ts. Ok (map pattern_step_seen done ++ ts))
     tested n g = next ∙ ap (λ m. after m (λ ts. Ok (map pattern_step_seen done ++ ts))) (after-value (resolved S s.test s.test_offset) left n g.given)
 
-    pub pattern-steps-unresolved : (x : CheckError) → Gives (resolved S s.test s.test_offset) (λ (n : NodeTest). n) (Err x) →
-        Gives (pattern_steps_typed S (map pattern_step_of ss)) (λ (w : Vec TypedPatternStep Global). map pattern_step_seen w.items) (Err x)
+    pub pattern-steps-unresolved : (x : CheckError) → ChecksAs (resolved S s.test s.test_offset) (λ (n : NodeTest). n) (Err x) →
+        ChecksAs (pattern_steps_typed S (map pattern_step_of ss)) (λ (w : Vec TypedPatternStep Global). map pattern_step_seen w.items) (Err x)
     pattern-steps-unresolved x g = gives-same next (stops _ _ (λ (u : List TypedPatternStepTree). u) _ x (stops _ _ (λ (n : NodeTest). n) (λ (u : List TypedPatternStepTree). u) x g))
 
-    pub pattern-steps-stop : (n : NodeTest) (x : CheckError) → Gives (resolved S s.test s.test_offset) (λ (n : NodeTest). n) (Ok n) →
-        Gives (all_typed S false (trees_seen s.predicates.items)) (λ (v : Vec TypedExpr Global). typed_seen v.items) (Err x) →
-        Gives (pattern_steps_typed S (map pattern_step_of ss)) (λ (w : Vec TypedPatternStep Global). map pattern_step_seen w.items) (Err x)
+    pub pattern-steps-stop : (n : NodeTest) (x : CheckError) → ChecksAs (resolved S s.test s.test_offset) (λ (n : NodeTest). n) (Ok n) →
+        ChecksAs (all_typed S false (trees_seen s.predicates.items)) (λ (v : Vec TypedExpr Global). typed_seen v.items) (Err x) →
+        ChecksAs (pattern_steps_typed S (map pattern_step_of ss)) (λ (w : Vec TypedPatternStep Global). map pattern_step_seen w.items) (Err x)
     pattern-steps-stop n x g k =
         gives-same (tested n g) (stops _ _ (λ (u : List TypedPatternStepTree). u) _ x (stops _ _ (λ (v : Vec TypedExpr Global). typed_seen v.items) (λ (u : List TypedPatternStepTree). u) x k))
 
-    pub pattern-steps-go : (all : List TypedPatternStep) (n : NodeTest) (ps : Vec TypedExpr Global) (a : Axis) (d : TypedPatternStep) → Gives (resolved S s.test s.test_offset) (λ (n : NodeTest). n) (Ok n) →
-        Gives (all_typed S false (trees_seen s.predicates.items)) (λ (v : Vec TypedExpr Global). typed_seen v.items) (Ok ps) → a ≡ pattern_axis s.is_attribute →
+    pub pattern-steps-go : (all : List TypedPatternStep) (n : NodeTest) (ps : Vec TypedExpr Global) (a : Axis) (d : TypedPatternStep) → ChecksAs (resolved S s.test s.test_offset) (λ (n : NodeTest). n) (Ok n) →
+        ChecksAs (all_typed S false (trees_seen s.predicates.items)) (λ (v : Vec TypedExpr Global). typed_seen v.items) (Ok ps) → a ≡ pattern_axis s.is_attribute →
         pattern_step_seen d ≡ record { join = s.join; axis = a; test = n; predicates = typed_seen ps.items } → all ≡ done ++ d ∷ [] → PatternStepsOnto S ss (i + 1) all
     pattern-steps-go all n ps a d g k axis seen grown = subst (PatternStepsOnto S ss (i + 1)) (sym grown) (record {
       onto = advance (pattern_steps_typed S (map pattern_step_of ss)) (all_typed S false (trees_seen s.predicates.items)) (pattern_steps_typed S (map pattern_step_of (drop (i + 1) ss))) (λ qs rest. made n qs ∷ rest)
@@ -86,7 +86,7 @@ module _ (S : Scope) (ps : List PathPattern) where
   pub paths-begin : (done : List TypedPath) → done ≡ [] → PathsOnto S ps 0 done
   paths-begin done none = subst (PathsOnto S ps 0) (sym none) (record { onto = unjoined (pattern_typing S (map path_pattern_of ps)) })
 
-  pub paths-end : (i : ℕ) (v : Vec TypedPath Global) → length ps ≤ i → PathsOnto S ps i v.items → Gives (pattern_typing S (map path_pattern_of ps)) (λ (w : Vec TypedPath Global). paths_seen w.items) (Ok v)
+  pub paths-end : (i : ℕ) (v : Vec TypedPath Global) → length ps ≤ i → PathsOnto S ps i v.items → ChecksAs (pattern_typing S (map path_pattern_of ps)) (λ (w : Vec TypedPath Global). paths_seen w.items) (Ok v)
   paths-end i v ge so = record {
     given = so.onto ∙ ap (λ r. after (pattern_typing S (map path_pattern_of r)) (λ ts. Ok (paths_seen v.items ++ ts))) (drop-end ps i ge)
         ∙ after-value (Ok []) (λ ts. Ok (paths_seen v.items ++ ts)) [] refl ∙ ap Ok (joined-none (paths_seen v.items));
@@ -102,18 +102,18 @@ module _ (S : Scope) (ps : List PathPattern) where
     abbrev path-left : Bool → Checked (List TypedPathTree)
     path-left b = after (pattern_steps_typed S (map pattern_step_of p.steps.items)) (λ steps. after (pattern_typing S (map path_pattern_of (drop (i + 1) ps))) (λ rest. Ok (path-made b steps ∷ rest)))
 
-    begun : (b : Bool) → Gives (pattern_start p.start p.offset) (λ (x : Bool). x) (Ok b) → pattern_typing S (map path_pattern_of ps) ≡ after (path-left b) (λ ts. Ok (paths_seen done ++ ts))
+    begun : (b : Bool) → ChecksAs (pattern_start p.start p.offset) (λ (x : Bool). x) (Ok b) → pattern_typing S (map path_pattern_of ps) ≡ after (path-left b) (λ ts. Ok (paths_seen done ++ ts))
     begun b g = path-next ∙ ap (λ m. after m (λ ts. Ok (paths_seen done ++ ts))) (after-value (pattern_start p.start p.offset) path-left b g.given)
 
-    pub paths-refuse : (x : CheckError) → Gives (pattern_start p.start p.offset) (λ (b : Bool). b) (Err x) → Gives (pattern_typing S (map path_pattern_of ps)) (λ (w : Vec TypedPath Global). paths_seen w.items) (Err x)
+    pub paths-refuse : (x : CheckError) → ChecksAs (pattern_start p.start p.offset) (λ (b : Bool). b) (Err x) → ChecksAs (pattern_typing S (map path_pattern_of ps)) (λ (w : Vec TypedPath Global). paths_seen w.items) (Err x)
     paths-refuse x g = gives-same path-next (stops _ _ (λ (u : List TypedPathTree). u) _ x (stops _ _ (λ (b : Bool). b) (λ (u : List TypedPathTree). u) x g))
 
-    pub paths-stop : (b : Bool) (x : CheckError) → Gives (pattern_start p.start p.offset) (λ (b : Bool). b) (Ok b) →
-        Gives (pattern_steps_typed S (map pattern_step_of p.steps.items)) (λ (w : Vec TypedPatternStep Global). map pattern_step_seen w.items) (Err x) → Gives (pattern_typing S (map path_pattern_of ps)) (λ (w : Vec TypedPath Global). paths_seen w.items) (Err x)
+    pub paths-stop : (b : Bool) (x : CheckError) → ChecksAs (pattern_start p.start p.offset) (λ (b : Bool). b) (Ok b) →
+        ChecksAs (pattern_steps_typed S (map pattern_step_of p.steps.items)) (λ (w : Vec TypedPatternStep Global). map pattern_step_seen w.items) (Err x) → ChecksAs (pattern_typing S (map path_pattern_of ps)) (λ (w : Vec TypedPath Global). paths_seen w.items) (Err x)
     paths-stop b x g k = gives-same (begun b g) (stops _ _ (λ (u : List TypedPathTree). u) _ x (stops _ _ (λ (w : Vec TypedPatternStep Global). map pattern_step_seen w.items) (λ (u : List TypedPathTree). u) x k))
 
-    pub paths-go : (all : List TypedPath) (b : Bool) (v : Vec TypedPatternStep Global) (d : TypedPath) → Gives (pattern_start p.start p.offset) (λ (b : Bool). b) (Ok b) →
-        Gives (pattern_steps_typed S (map pattern_step_of p.steps.items)) (λ (w : Vec TypedPatternStep Global). map pattern_step_seen w.items) (Ok v) → d ≡ record { from_root = b; steps = v } → all ≡ done ++ d ∷ [] → PathsOnto S ps (i + 1) all
+    pub paths-go : (all : List TypedPath) (b : Bool) (v : Vec TypedPatternStep Global) (d : TypedPath) → ChecksAs (pattern_start p.start p.offset) (λ (b : Bool). b) (Ok b) →
+        ChecksAs (pattern_steps_typed S (map pattern_step_of p.steps.items)) (λ (w : Vec TypedPatternStep Global). map pattern_step_seen w.items) (Ok v) → d ≡ record { from_root = b; steps = v } → all ≡ done ++ d ∷ [] → PathsOnto S ps (i + 1) all
     paths-go all b v d g k seen grown = subst (PathsOnto S ps (i + 1)) (sym grown) (record {
       onto = advance (pattern_typing S (map path_pattern_of ps)) (pattern_steps_typed S (map pattern_step_of p.steps.items)) (pattern_typing S (map path_pattern_of (drop (i + 1) ps))) (λ steps rest. path-made b steps ∷ rest)
           (λ ts. paths_seen done ++ ts) (λ ts. paths_seen (done ++ d ∷ []) ++ ts) (map pattern_step_seen v.items) k.given

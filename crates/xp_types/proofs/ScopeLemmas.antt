@@ -1,14 +1,15 @@
 -- The tables of a scope hold what their lists say.
 use Rattle.std.proofs.Common.{◌≡◌, ℕ, Bool, true, false, List, [], ◌∷◌, ◌++◌, Option, Some, None, cond, map, refl, ap, ◌∙◌, String, Global}
-use Rattle.std.specs.Prelude.{codes}
 use Rattle.std.proofs.lemmas.List.{map-append}
 use Rattle.std.specs.Map.{lookup}
 use Rattle.std.specs.String.{string_bytes, string_eq}
 use Rattle.std.specs.Str.{bytes_eq}
 use Rattle.indexmap.specs.IndexMap.{insert_entry, IndexMap}
 use Rattle.indexmap.proofs.CallerLemmas.{insert_entry-new}
+use Rattle.doc_tree.specs.Scope.{xml_prefix, xml_namespace}
 use Rattle.xp_types.specs.declared.env.Variable.{Variable}
-use Rattle.xp_types.specs.Scope.{Scope, Binding, xml_namespace, namespace_of, Named, bound, variable_of, binding_of, variable_in}
+use Rattle.xp_types.specs.Scope.{Scope, Binding, namespace_of, Named, bound, variable_of}
+use Rattle.xp_types.specs.inner.ScopeTables.{binding_of, variable_in}
 
 pub bound-looked_up : (es : List (String Global × List ℕ)) (p : List ℕ) → lookup (λ k. bytes_eq p (string_bytes k)) es ≡ bound (map binding_of es) p
 bound-looked_up [] p = refl
@@ -20,12 +21,9 @@ variable-looked_up (e ∷ es) p = ap (λ r. cond (bytes_eq p (string_bytes e.0))
 
 -- a prefix other than `xml` is looked up
 pub namespace-looked_up : (es : List (String Global × List ℕ)) (S : Scope) (p : List ℕ) (r : Option (List ℕ)) → map binding_of es ≡ S.prefixes →
-    false ≡ bytes_eq p (codes "xml") → r ≡ lookup (λ k. bytes_eq p (string_bytes k)) es → r ≡ namespace_of S p
+    false ≡ bytes_eq p xml_prefix → r ≡ lookup (λ k. bytes_eq p (string_bytes k)) es → r ≡ namespace_of S p
 namespace-looked_up es S p r seen other found =
     found ∙ bound-looked_up es p ∙ ap (λ bs. bound bs p) seen ∙ ap (λ b. cond b (Some xml_namespace) (bound S.prefixes p)) other
-
-pub is_xml : (S : Scope) (p : List ℕ) → true ≡ bytes_eq p (codes "xml") → Some xml_namespace ≡ namespace_of S p
-is_xml S p is = ap (λ b. cond b (Some xml_namespace) (bound S.prefixes p)) is
 
 pub variable-found : (es : List (String Global × Variable)) (vs : List Named) (p : List ℕ) (r : Option Variable) → map variable_in es ≡ vs →
     r ≡ lookup (λ k. bytes_eq p (string_bytes k)) es → r ≡ variable_of vs p

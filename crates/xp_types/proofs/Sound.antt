@@ -8,6 +8,8 @@ use Rattle.std.proofs.lemmas.Bool.Decides.{nat_tests}
 use Rattle.xp_tree.specs.declared.terms.Level.TheVariants as levels
 use Rattle.xp_tree.specs.Tree.{Tree, PathStart, Steps, Operands, Trees, chain, negated, path, filtered, variable, literal, number, call, root, here, from, no_steps, step, no_operands, operand, no_trees, tree, offset_of}
 use Rattle.xp_tree.specs.PatternTree.{PathTree, StepTree}
+use Rattle.xp_tree.specs.declared.numbers.TheConstants.{MAX_WHOLE}
+use Rattle.xp_tree.specs.Decimals.{decimal_value}
 use Rattle.xp_typed_tree.specs.declared.value_type.ValueType.{ValueType}
 use Rattle.xp_typed_tree.specs.declared.value_type.ValueType.TheVariants as types
 use Rattle.xp_typed_tree.specs.declared.function.Function.{Function}
@@ -17,7 +19,7 @@ use Rattle.xp_types.specs.declared.env.Variable.{Variable}
 use Rattle.xp_types.specs.Scope.{Scope, variable_of}
 use Rattle.xp_types.specs.FunctionNames.{function_named, is_left_out}
 use Rattle.xp_types.specs.Checked.{Checked, after}
-use Rattle.xp_types.specs.Typing.{typing, wanted, node_set_at, all_typed, operands_typed, comparands_typed, combinands_typed, steps_typed, place_typed, called, function_called, variable_typed, number_of_trees, axis_of, resolved, arith_of, decimal, has_point, pattern_axis, pattern_start, pattern_steps_typed, pattern_typing}
+use Rattle.xp_types.specs.Typing.{typing, wanted, node_set_at, all_typed, operands_typed, comparands_typed, combinands_typed, steps_typed, place_typed, called, function_called, variable_typed, number_of_trees, axis_of, resolved, arith_of, has_point, pattern_axis, pattern_start, pattern_steps_typed, pattern_typing}
 
 -- a chain of checks gave a value: its parts did
 pub record Went {A B : Type 0} (m : Checked A) (f : A → Checked B) (b : B) : Type 0 where
@@ -47,20 +49,20 @@ pub wanted-sound : (nodes : Bool) (offset : ℕ) (u t : TypedTree) → wanted no
 wanted-sound true offset u t h = node_set-sound (type_of u) offset u t refl h
 wanted-sound false offset u t h = record { is = same u t h; kind = tt }
 
-number-sound : (p : Bool) (offset value : ℕ) (fits : Bool) (t : TypedTree) → nat_le value 9007199254740991 ≡ fits →
+number-sound : (p : Bool) (offset value : ℕ) (fits : Bool) (t : TypedTree) → nat_le value MAX_WHOLE ≡ fits →
     ◌≡◌ {A = Checked TypedTree} (cond fits (Ok (whole (pos value))) (Err (record { kind = kinds.NumberTooLarge; offset = offset }))) (Ok t) → WellTyped p t
 number-sound p offset value true t fits h =
-    let small : value ≤ 9007199254740991 = grind (arith, nat_tests) in
+    let small : value ≤ MAX_WHOLE = grind (arith, nat_tests) in
     let low : pos 0 ≤ℤ pos value = omega (arith, ints) in
-    let high : pos value ≤ℤ pos 9007199254740991 = omega (arith, ints) in
+    let high : pos value ≤ℤ pos MAX_WHOLE = omega (arith, ints) in
     subst (WellTyped p) (same (whole (pos value)) t h) (low, high)
 number-sound p offset value false t fits h = absurd (cc)
 
 point-sound : (p : Bool) (digits : List ℕ) (offset : ℕ) (point : Bool) (t : TypedTree) →
     ◌≡◌ {A = Checked TypedTree} (cond point (Err (record { kind = kinds.Refused (codes "fraction"); offset = offset }))
-    (cond (nat_le (decimal digits) 9007199254740991) (Ok (whole (pos (decimal digits)))) (Err (record { kind = kinds.NumberTooLarge; offset = offset })))) (Ok t) → WellTyped p t
+    (cond (nat_le (decimal_value digits) MAX_WHOLE) (Ok (whole (pos (decimal_value digits)))) (Err (record { kind = kinds.NumberTooLarge; offset = offset })))) (Ok t) → WellTyped p t
 point-sound p digits offset true t h = absurd (cc)
-point-sound p digits offset false t h = number-sound p offset (decimal digits) (nat_le (decimal digits) 9007199254740991) t refl h
+point-sound p digits offset false t h = number-sound p offset (decimal_value digits) (nat_le (decimal_value digits) MAX_WHOLE) t refl h
 
 variable-sound : (p : Bool) (v : Option Variable) (offset : ℕ) (t : TypedTree) → variable_typed v offset ≡ Ok t → WellTyped p t
 variable-sound p (Some v) offset t h = subst (WellTyped p) (same (slot v.slot v.ty) t h) tt

@@ -15,7 +15,7 @@ use Rattle.xp_tree.proofs.ViewLemmas.{of-Or, of-And, of-Equal, of-Rel, of-Sum, o
 use Rattle.xp_typed_tree.specs.TypedTree.{TypedTree, TypedTrees, typed, disjunction, conjunction, union, negation, location, selection, application, text, at_root, at_context, at_nodes}
 use Rattle.xp_typed_tree.specs.WellTyped.{wants_nodes}
 use Rattle.xp_types.specs.Scope.{Scope, variable_of}
-use Rattle.xp_types.specs.ChainParts.{first_in, rest_in}
+use Rattle.xp_types.specs.inner.ChainParts.{first_in, rest_in}
 use Rattle.xp_types.specs.Checked.{Checked, after}
 use Rattle.xp_types.specs.Typing.{typing, wanted, all_typed, operands_typed, comparison_typed, arithmetic_typed, chain_typed, steps_typed, place_typed, called, number_typed, variable_typed, number_of_trees}
 

@@ -16,14 +16,14 @@ after (Err fault) next = Err fault
 abbrev pub fault : {A : Type 0} → TypeKind → ℕ → Checked A
 fault kind offset = Err (record { kind = kind; offset = offset })
 
-abbrev pub GivesCases : {A B : Type 0} → Checked A → (B → A) → Result B CheckError → Type 0
-GivesCases meant seen (Ok b) = meant ≡ Ok (seen b)
-GivesCases meant seen (Err (errors.Fault fault)) = meant ≡ Err fault
-GivesCases meant seen (Err errors.Memory) = Unit {0}
+abbrev pub ChecksCases : {A B : Type 0} → Checked A → (B → A) → Result B CheckError → Type 0
+ChecksCases meant seen (Ok b) = meant ≡ Ok (seen b)
+ChecksCases meant seen (Err (errors.Fault fault)) = meant ≡ Err fault
+ChecksCases meant seen (Err errors.Memory) = Unit {0}
 
 -- a call gave what is meant: the value, or the first fault; only want of memory is free
-pub record Gives {A B : Type 0} (meant : Checked A) (seen : B → A) (result : Result B CheckError) : Type 0 where
-  pub given : GivesCases meant seen result
+pub record ChecksAs {A B : Type 0} (meant : Checked A) (seen : B → A) (result : Result B CheckError) : Type 0 where
+  pub given : ChecksCases meant seen result
 
 -- an error tells of the fault, where it doesn't tell of want of memory
 abbrev pub Tells : TypeKind → ℕ → CheckError → Type 0

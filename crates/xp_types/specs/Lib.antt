@@ -1,6 +1,7 @@
 pub mod Scope
 pub mod FunctionNames
+pub mod FaultNames
 pub mod Checked
 pub mod Typing
-pub mod ChainParts
 pub mod HasType
+pub mod inner

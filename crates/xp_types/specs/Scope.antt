@@ -1,8 +1,7 @@
 -- What is in scope where an expression stands: XPath 1.0, section 1.
-use Rattle.std.specs.Prelude.{ℕ, Bool, List, [], ◌∷◌, Option, None, Some, if◌then◌else◌, codes, String}
-use Rattle.std.specs.String.{string_bytes}
+use Rattle.std.specs.Prelude.{ℕ, Bool, List, [], ◌∷◌, Option, None, Some, if◌then◌else◌}
 use Rattle.std.specs.Str.{bytes_eq}
-use Rattle.std.specs.declared.alloc.Global.{Global}
+use Rattle.doc_tree.specs.Scope.{xml_prefix, xml_namespace}
 use Rattle.xp_typed_tree.specs.declared.value_type.ValueType.{ValueType}
 use Rattle.xp_types.specs.declared.env.Variable.{Variable}
 
@@ -27,21 +26,11 @@ abbrev pub bound : List Binding → List ℕ → Option (List ℕ)
 bound [] prefix = None
 bound (b ∷ bs) prefix = if bytes_eq prefix b.prefix then Some b.uri else bound bs prefix
 
-abbrev pub xml_namespace : List ℕ
-xml_namespace = codes "http://www.w3.org/XML/1998/namespace"
-
 -- the namespace of a prefix; `xml` is always bound: Namespaces in XML 1.0, section 3
 abbrev pub namespace_of : Scope → List ℕ → Option (List ℕ)
-namespace_of S prefix = if bytes_eq prefix (codes "xml") then Some xml_namespace else bound S.prefixes prefix
+namespace_of S prefix = if bytes_eq prefix xml_prefix then Some xml_namespace else bound S.prefixes prefix
 
 -- the slot and the type of a variable
 abbrev pub variable_of : List Named → List ℕ → Option Variable
 variable_of [] name = None
 variable_of (v ∷ vs) name = if bytes_eq name v.name then Some (record { slot = v.place; ty = v.type }) else variable_of vs name
-
--- what an entry of a table of the program is seen as
-abbrev pub binding_of : String Global × List ℕ → Binding
-binding_of e = record { prefix = string_bytes e.0; uri = e.1 }
-
-abbrev pub variable_in : String Global × Variable → Named
-variable_in e = record { name = string_bytes e.0; place = e.1.slot; type = e.1.ty }

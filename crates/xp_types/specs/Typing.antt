@@ -1,6 +1,6 @@
 -- The types of expressions and of match patterns, or the first fault: XPath 1.0, sections 2 to 4, and XSLT 1.0,
 -- section 5.2. Parts are checked in the order in which they begin in the text.
-use Rattle.std.specs.Prelude.{ℕ, ◌+◌, ◌-◌, ◌*◌, pos, Bool, true, false, List, [], ◌∷◌, Option, None, Some, Ok, if◌then◌else◌, nat_le, ◌==◌, fold, suc, codes}
+use Rattle.std.specs.Prelude.{ℕ, pos, Bool, true, false, List, [], ◌∷◌, Option, None, Some, Ok, if◌then◌else◌, nat_le, ◌==◌, suc, codes}
 use Rattle.std.specs.List.{list_any}
 use Rattle.doc_tree.specs.declared.axes.Axis.{Axis}
 use Rattle.doc_tree.specs.declared.axes.Axis.TheVariants as axes
@@ -17,6 +17,8 @@ use Rattle.xp_tree.specs.declared.pattern.PatternStart.{PatternStart}
 use Rattle.xp_tree.specs.declared.pattern.PatternStart.TheVariants as starts
 use Rattle.xp_tree.specs.Tree.{Tree, PathStart, Steps, Operands, Trees, chain, negated, path, filtered, variable, literal, number, call, root, here, from, no_steps, step, no_operands, operand, no_trees, tree, offset_of}
 use Rattle.xp_tree.specs.PatternTree.{PathTree, StepTree}
+use Rattle.xp_tree.specs.declared.numbers.TheConstants.{MAX_WHOLE}
+use Rattle.xp_tree.specs.Decimals.{decimal_value}
 use Rattle.xp_typed_tree.specs.declared.value_type.ValueType.{ValueType}
 use Rattle.xp_typed_tree.specs.declared.value_type.ValueType.TheVariants as types
 use Rattle.xp_tree.specs.declared.operators.Comparison.{Comparison}
@@ -32,10 +34,6 @@ use Rattle.xp_types.specs.Scope.{Scope, namespace_of, variable_of}
 use Rattle.xp_types.specs.FunctionNames.{function_named, is_left_out}
 use Rattle.xp_types.specs.Checked.{Checked, after, fault}
 
--- the value of digits: XPath 1.0, section 3.5
-abbrev pub decimal : List ℕ → ℕ
-decimal digits = fold (λ value digit. 10 * value + (digit - 48)) 0 digits
-
 abbrev pub has_point : List ℕ → Bool
 has_point digits = list_any (λ c. c == 46) digits
 
@@ -43,7 +41,7 @@ has_point digits = list_any (λ c. c == 46) digits
 abbrev pub number_typed : List ℕ → ℕ → Checked TypedTree
 number_typed digits offset =
     if has_point digits then fault (kinds.Refused (codes "fraction")) offset
-    else (if nat_le (decimal digits) 9007199254740991 then Ok (whole (pos (decimal digits))) else fault kinds.NumberTooLarge offset)
+    else (if nat_le (decimal_value digits) MAX_WHOLE then Ok (whole (pos (decimal_value digits))) else fault kinds.NumberTooLarge offset)
 
 -- a node-set, where that is wanted
 abbrev pub node_set_at : ValueType → ℕ → TypedTree → Checked TypedTree

@@ -4,14 +4,12 @@ ghost use Rattle.std.specs.Prelude.{◌≡◌, ◌++◌, ◌∷◌, [], None, ta
 ghost use Rattle.std.specs.Option.{option_copied};
 ghost use Rattle.xp_types.specs.Scope.{bound, namespace_of, variable_of};
 
+use doc_tree::{is_xml, xml_namespace};
 use indexmap::IndexMap;
 use sch_base::Text;
 use std::alloc::{AllocError, Global};
 use std::marker::Model;
 use xp_typed_tree::ValueType;
-
-/// The namespace of the prefix `xml` (Namespaces in XML 1.0, section 3).
-const XML_NAMESPACE: &str = "http://www.w3.org/XML/1998/namespace";
 
 /// A variable: where its value is kept, and the type of that value.
 #[derive(Clone, Copy, Debug)]
@@ -37,7 +35,7 @@ impl Model for Env {
     ghost Value = { Scope };
 
     ghost use Rattle.std.specs.Prelude.{map};
-    ghost use Rattle.xp_types.specs.Scope.{binding_of, variable_in};
+    ghost use Rattle.xp_types.specs.inner.ScopeTables.{binding_of, variable_in};
 
     ghost view = { λ e. record { in_pattern = e.in_pattern; prefixes = map binding_of e.prefixes.entries; variables = map variable_in e.variables.entries } };
 }
@@ -110,8 +108,8 @@ impl Env {
     pub(crate) fn namespace(&self, prefix: &str) -> Option<&str>
         ensures { option_copied result ≡ namespace_of self.now prefix.now }
     {
-        if prefix == "xml" {
-            return Some(XML_NAMESPACE);
+        if is_xml(prefix) {
+            return Some(xml_namespace());
         }
         match self.prefixes.get(prefix) {
             Some(uri) => Some(uri.as_str()),

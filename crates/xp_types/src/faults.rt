@@ -1,6 +1,7 @@
 //! What may be wrong with the types of an expression.
 
 ghost use Rattle.std.specs.Prelude.{◌≡◌};
+ghost use Rattle.xp_types.specs.FaultNames.{kind_name};
 ghost use Rattle.xp_types.specs.declared.faults.CheckError.TheVariants as errors;
 
 use sch_base::Text;
@@ -22,8 +23,25 @@ pub enum TypeKind {
     UnknownPrefix,
     /// A part of XPath 1.0 that is refused by its name.
     Refused { thing: Text },
-    /// A number past 9,007,199,254,740,991.
+    /// A number past `xp_tree::MAX_WHOLE`.
     NumberTooLarge,
+}
+
+impl TypeKind {
+    /// The kind's name, as messages tell it.
+    pub fn name(&self) -> &'static str
+        ensures { result.now ≡ kind_name self.now }
+    {
+        match self {
+            TypeKind::UnknownFunction => "UnknownFunction",
+            TypeKind::Arity => "Arity",
+            TypeKind::NodeSetWanted => "NodeSetWanted",
+            TypeKind::UnknownVariable => "UnknownVariable",
+            TypeKind::UnknownPrefix => "UnknownPrefix",
+            TypeKind::Refused { .. } => "Refused",
+            TypeKind::NumberTooLarge => "NumberTooLarge",
+        }
+    }
 }
 
 /// A fault, and where it stands, in bytes from the text's beginning.

@@ -5,8 +5,8 @@
 mod checks;
 mod env;
 mod faults;
+mod function_names;
 mod laws;
-mod names;
 mod patterns;
 mod terms;
 mod typing;

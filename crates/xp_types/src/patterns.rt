@@ -5,7 +5,7 @@
 ghost use Rattle.std.specs.Prelude.{◌≡◌, map};
 ghost use Rattle.xp_tree.specs.PatternTree.{pattern_step_of, path_pattern_of};
 ghost use Rattle.xp_typed_tree.specs.TypedView.{pattern_step_seen, paths_seen};
-ghost use Rattle.xp_types.specs.Checked.{Gives};
+ghost use Rattle.xp_types.specs.Checked.{ChecksAs};
 ghost use Rattle.xp_types.specs.Typing.{pattern_start, pattern_axis, pattern_steps_typed, pattern_typing};
 
 use crate::env::Env;
@@ -18,7 +18,7 @@ use xp_typed_tree::{Axis, TypedPath, TypedPatternStep};
 
 /// Whether a path pattern begins at the root; `id` and `key` are refused.
 fn begins_at_root(alloc: Global, start: &PatternStart, offset: u32) -> Result<bool, CheckError>
-    ensures { Gives (pattern_start start.now offset) (λ b. b) result }
+    ensures { ChecksAs (pattern_start start.now offset) (λ b. b) result }
 {
     match start {
         PatternStart::Here => Ok(false),
@@ -34,7 +34,7 @@ fn type_pattern_steps(
     steps: &[PatternStep],
     env: &Env,
 ) -> Result<Vec<TypedPatternStep>, CheckError>
-    ensures { Gives (pattern_steps_typed env.now (map pattern_step_of steps.now)) (λ v. map pattern_step_seen v.items) result }
+    ensures { ChecksAs (pattern_steps_typed env.now (map pattern_step_of steps.now)) (λ v. map pattern_step_seen v.items) result }
 {
     let mut typed = Vec::new(alloc);
     for step in steps {
@@ -63,7 +63,7 @@ pub(crate) fn type_paths(
     paths: &[PathPattern],
     env: &Env,
 ) -> Result<Vec<TypedPath>, CheckError>
-    ensures { Gives (pattern_typing env.now (map path_pattern_of paths.now)) (λ v. paths_seen v.items) result }
+    ensures { ChecksAs (pattern_typing env.now (map path_pattern_of paths.now)) (λ v. paths_seen v.items) result }
 {
     let mut typed = Vec::new(alloc);
     for path in paths {

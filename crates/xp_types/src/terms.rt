@@ -3,23 +3,22 @@
 ghost use Rattle.std.specs.Prelude.{◌≡◌, ◌*◌, ◌+◌, ◌-◌, ◌≤◌, min};
 ghost use Rattle.xp_tree.specs.Tree.{offset_of};
 ghost use Rattle.xp_tree.specs.View.{tree_of};
+ghost use Rattle.xp_tree.specs.Decimals.{decimal_value};
+ghost use Rattle.xp_tree.specs.declared.numbers.TheConstants.{MAX_WHOLE};
 ghost use Rattle.xp_typed_tree.specs.TypedView.{typed_tree_of};
 ghost use Rattle.xp_types.specs.declared.faults.TypeKind.TheVariants as kinds;
 ghost use Rattle.xp_types.specs.Scope.{namespace_of, variable_of};
-ghost use Rattle.xp_types.specs.Checked.{Gives, Tells};
-ghost use Rattle.xp_types.specs.Typing.{number_typed, wanted, comparison_of, arith_of, axis_of, known, resolved, variable_typed, called, decimal};
+ghost use Rattle.xp_types.specs.Checked.{ChecksAs, Tells};
+ghost use Rattle.xp_types.specs.Typing.{number_typed, wanted, comparison_of, arith_of, axis_of, known, resolved, variable_typed, called};
 ghost use Rattle.xp_tree.specs.declared.terms.StepTest.TheVariants as written;
 
 use crate::env::Env;
 use crate::faults::{CheckError, TypeFault, TypeKind};
-use crate::names::{function_named, is_left_out};
+use crate::function_names::{function_named, is_left_out};
 use sch_base::Text;
 use std::alloc::Global;
-use xp_tree::{ArithOp, AxisName, Comparison, Expr, Operator, StepTest};
+use xp_tree::{ArithOp, AxisName, Comparison, Expr, MAX_WHOLE, Operator, StepTest};
 use xp_typed_tree::{Axis, Function, NodeTest, TypedExpr, ValueType};
-
-/// The largest whole number.
-const MAX_WHOLE: u64 = 9_007_199_254_740_991;
 
 /// A fault of a kind at a place.
 pub(crate) fn fault_at(kind: TypeKind, offset: u32) -> CheckError
@@ -40,7 +39,7 @@ pub(crate) fn refusal(alloc: Global, thing: &str, offset: u32) -> CheckError
 
 /// The expression, where it is a node-set or none is wanted.
 pub(crate) fn as_wanted(typed: TypedExpr, offset: u32, nodes: bool) -> Result<TypedExpr, CheckError>
-    ensures { Gives (wanted nodes offset (typed_tree_of typed)) typed_tree_of result }
+    ensures { ChecksAs (wanted nodes offset (typed_tree_of typed)) typed_tree_of result }
 {
     if !nodes {
         return Ok(typed);
@@ -71,7 +70,7 @@ pub(crate) fn arith_of(
     operator: Operator,
     offset: u32,
 ) -> Result<ArithOp, CheckError>
-    ensures { Gives (arith_of operator offset) (λ o. o) result }
+    ensures { ChecksAs (arith_of operator offset) (λ o. o) result }
 {
     match operator {
         Operator::Div => Err(refusal(alloc, "div", offset)),
@@ -84,7 +83,7 @@ pub(crate) fn arith_of(
 
 /// The axis of a name; `namespace` is refused.
 pub(crate) fn axis_of(alloc: Global, axis: AxisName, offset: u32) -> Result<Axis, CheckError>
-    ensures { Gives (axis_of axis offset) (λ a. a) result }
+    ensures { ChecksAs (axis_of axis offset) (λ a. a) result }
 {
     match axis {
         AxisName::Ancestor => Ok(Axis::Ancestor),
@@ -105,7 +104,7 @@ pub(crate) fn axis_of(alloc: Global, axis: AxisName, offset: u32) -> Result<Axis
 
 /// The namespace of a name test's prefix.
 fn namespace_at(alloc: Global, prefix: &Text, offset: u32, env: &Env) -> Result<Text, CheckError>
-    ensures { Gives (known (namespace_of env.now prefix.now) offset) (λ uri. uri) result }
+    ensures { ChecksAs (known (namespace_of env.now prefix.now) offset) (λ uri. uri) result }
 {
     match env.namespace(prefix.as_str()) {
         Some(uri) => Ok(Text::copy(alloc, uri)?),
@@ -120,7 +119,7 @@ pub(crate) fn resolve(
     offset: u32,
     env: &Env,
 ) -> Result<NodeTest, CheckError>
-    ensures { Gives (resolved env.now test.now offset) (λ t. t) result }
+    ensures { ChecksAs (resolved env.now test.now offset) (λ t. t) result }
 {
     match test {
         StepTest::Star => Ok(NodeTest::Star),
@@ -143,7 +142,7 @@ fn resolve_prefix(
     offset: u32,
     env: &Env,
 ) -> Result<NodeTest, CheckError>
-    ensures { Gives (resolved env.now (written.InPrefix prefix.now) offset) (λ t. t) result }
+    ensures { ChecksAs (resolved env.now (written.InPrefix prefix.now) offset) (λ t. t) result }
 {
     let uri = namespace_at(alloc, prefix, offset, env)?;
     Ok(NodeTest::InNamespace { uri })
@@ -157,7 +156,7 @@ fn resolve_name(
     offset: u32,
     env: &Env,
 ) -> Result<NodeTest, CheckError>
-    ensures { Gives (resolved env.now (written.Named prefix.now local.now) offset) (λ t. t) result }
+    ensures { ChecksAs (resolved env.now (written.Named prefix.now local.now) offset) (λ t. t) result }
 {
     match prefix {
         Some(prefix) => {
@@ -175,7 +174,7 @@ fn resolve_name(
 
 /// The variable of a name.
 pub(crate) fn type_variable(name: &Text, offset: u32, env: &Env) -> Result<TypedExpr, CheckError>
-    ensures { Gives (variable_typed (variable_of env.now.variables name.now) offset) typed_tree_of result }
+    ensures { ChecksAs (variable_typed (variable_of env.now.variables name.now) offset) typed_tree_of result }
 {
     match env.variable(name.as_str()) {
         Some(variable) => Ok(TypedExpr::variable(variable.slot, variable.ty)),
@@ -185,15 +184,15 @@ pub(crate) fn type_variable(name: &Text, offset: u32, env: &Env) -> Result<Typed
 
 /// The value of digits with one more, or what is just too large.
 fn with_digit(value: u64, digit: u8) -> u64
-    requires { value ≤ 9007199254740992 }
-    ensures { result ≡ min (10 * value + (digit - 48)) 9007199254740992 }
+    requires { value ≤ MAX_WHOLE + 1 }
+    ensures { result ≡ min (value * 10 + (digit - 48)) (MAX_WHOLE + 1) }
 {
-    (10 * value + u64::from(digit.saturating_sub(b'0'))).min(MAX_WHOLE + 1)
+    (value * 10 + u64::from(digit.saturating_sub(b'0'))).min(MAX_WHOLE + 1)
 }
 
 /// The value of digits, or what is just too large.
 fn value_of(digits: &str) -> u64
-    ensures { result ≡ min (decimal digits.now) 9007199254740992 }
+    ensures { result ≡ min (decimal_value digits.now) (MAX_WHOLE + 1) }
 {
     let mut value = 0;
     for digit in digits.as_bytes() {
@@ -208,7 +207,7 @@ pub(crate) fn type_number(
     digits: &Text,
     offset: u32,
 ) -> Result<TypedExpr, CheckError>
-    ensures { Gives (number_typed digits.now offset) typed_tree_of result }
+    ensures { ChecksAs (number_typed digits.now offset) typed_tree_of result }
 {
     let digits = digits.as_str();
     if digits.as_bytes().contains(&b'.') {
@@ -230,7 +229,7 @@ pub(crate) fn called(
     count: usize,
     env: &Env,
 ) -> Result<Function, CheckError>
-    ensures { Gives (called env.now name.now offset count) (λ f. f) result }
+    ensures { ChecksAs (called env.now name.now offset count) (λ f. f) result }
 {
     let name = name.as_str();
     if name.as_bytes().contains(&b':') {

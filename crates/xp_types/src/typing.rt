@@ -5,8 +5,8 @@
 ghost use Rattle.xp_tree.specs.View.{tree_of, start_of, trees_seen, steps_seen};
 ghost use Rattle.xp_tree.specs.Tree.{offset_of};
 ghost use Rattle.xp_typed_tree.specs.TypedView.{typed_tree_of, place_of, typed_seen, typed_steps_seen};
-ghost use Rattle.xp_types.specs.ChainParts.{first_in, rest_in};
-ghost use Rattle.xp_types.specs.Checked.{Gives, after};
+ghost use Rattle.xp_types.specs.inner.ChainParts.{first_in, rest_in};
+ghost use Rattle.xp_types.specs.Checked.{ChecksAs, after};
 ghost use Rattle.xp_types.specs.Typing.{typing, wanted, all_typed, chain_typed, comparison_typed, arithmetic_typed, place_typed, steps_typed};
 
 use crate::env::Env;
@@ -23,11 +23,11 @@ use xp_typed_tree::{Combined, Compared, TypedExpr, TypedStart, TypedStep};
 /// The typed tree of an expression.
 #[cycle(typing)]
 pub(crate) fn type_expr(alloc: Global, expr: &Expr, env: &Env) -> Result<TypedExpr, CheckError>
-    ensures { Gives (typing env.now (tree_of expr.now)) typed_tree_of result }
+    ensures { ChecksAs (typing env.now (tree_of expr.now)) typed_tree_of result }
 {
     match expr {
-        Expr::Or(chain) => Ok(TypedExpr::disjunction(type_chain(alloc, chain, env, false)?)),
-        Expr::And(chain) => Ok(TypedExpr::conjunction(type_chain(alloc, chain, env, false)?)),
+        Expr::Or(chain) => Ok(TypedExpr::or(type_chain(alloc, chain, env, false)?)),
+        Expr::And(chain) => Ok(TypedExpr::and(type_chain(alloc, chain, env, false)?)),
         Expr::Equal(chain) => type_comparison(alloc, chain, env),
         Expr::Rel(chain) => type_comparison(alloc, chain, env),
         Expr::Sum(chain) => type_arithmetic(alloc, chain, env),
@@ -35,11 +35,11 @@ pub(crate) fn type_expr(alloc: Global, expr: &Expr, env: &Env) -> Result<TypedEx
         Expr::Union(chain) => Ok(TypedExpr::union(type_chain(alloc, chain, env, true)?)),
         Expr::Neg { count, operand, .. } => {
             let operand = type_expr(alloc, operand, env)?;
-            Ok(TypedExpr::negation(*count, Box::new(alloc, operand)?))
+            Ok(TypedExpr::negate(*count, Box::new(alloc, operand)?))
         }
         Expr::Path { start, steps, .. } => {
             let place = type_start(alloc, start, env)?;
-            Ok(TypedExpr::location(place, type_steps(alloc, steps, env)?))
+            Ok(TypedExpr::path(place, type_steps(alloc, steps, env)?))
         }
         Expr::Filter {
             base,
@@ -48,7 +48,7 @@ pub(crate) fn type_expr(alloc: Global, expr: &Expr, env: &Env) -> Result<TypedEx
         } => {
             let base = type_operand(alloc, base, env, true)?;
             let predicates = type_list(alloc, predicates, env, false)?;
-            Ok(TypedExpr::selection(Box::new(alloc, base)?, predicates))
+            Ok(TypedExpr::filter(Box::new(alloc, base)?, predicates))
         }
         Expr::Variable { offset, name } => type_variable(name, *offset, env),
         Expr::Literal { value, .. } => Ok(TypedExpr::literal(Text::copy(alloc, value.as_str())?)),
@@ -64,7 +64,7 @@ pub(crate) fn type_expr(alloc: Global, expr: &Expr, env: &Env) -> Result<TypedEx
 /// An operand, a node-set where one is wanted.
 #[cycle(typing)]
 fn type_operand(alloc: Global, expr: &Expr, env: &Env, nodes: bool) -> Result<TypedExpr, CheckError>
-    ensures { Gives (after (typing env.now (tree_of expr.now)) (wanted nodes (offset_of (tree_of expr.now)))) typed_tree_of result }
+    ensures { ChecksAs (after (typing env.now (tree_of expr.now)) (wanted nodes (offset_of (tree_of expr.now)))) typed_tree_of result }
 {
     let typed = type_expr(alloc, expr, env)?;
     as_wanted(typed, offset_of(expr), nodes)
@@ -78,7 +78,7 @@ pub(crate) fn type_list(
     env: &Env,
     nodes: bool,
 ) -> Result<Vec<TypedExpr>, CheckError>
-    ensures { Gives (all_typed env.now nodes (trees_seen exprs.now)) (λ v. typed_seen v.items) result }
+    ensures { ChecksAs (all_typed env.now nodes (trees_seen exprs.now)) (λ v. typed_seen v.items) result }
 {
     let mut typed = Vec::new(alloc);
     for expr in exprs {
@@ -95,7 +95,7 @@ fn type_chain(
     env: &Env,
     nodes: bool,
 ) -> Result<Vec<TypedExpr>, CheckError>
-    ensures { Gives (chain_typed env.now nodes (first_in chain.now) (rest_in chain.now)) (λ v. typed_seen v.items) result }
+    ensures { ChecksAs (chain_typed env.now nodes (first_in chain.now) (rest_in chain.now)) (λ v. typed_seen v.items) result }
 {
     let mut typed = Vec::new(alloc);
     typed.push(type_operand(alloc, &chain.first, env, nodes)?)?;
@@ -108,7 +108,7 @@ fn type_chain(
 /// Comparisons of one level.
 #[cycle(typing)]
 fn type_comparison(alloc: Global, chain: &Chain, env: &Env) -> Result<TypedExpr, CheckError>
-    ensures { Gives (comparison_typed env.now (first_in chain.now) (rest_in chain.now)) typed_tree_of result }
+    ensures { ChecksAs (comparison_typed env.now (first_in chain.now) (rest_in chain.now)) typed_tree_of result }
 {
     let first = Box::new(alloc, type_expr(alloc, &chain.first, env)?)?;
     let mut compared = Vec::new(alloc);
@@ -116,13 +116,13 @@ fn type_comparison(alloc: Global, chain: &Chain, env: &Env) -> Result<TypedExpr,
         let expr = type_expr(alloc, &operand.expr, env)?;
         compared.push(Compared::new(comparison_of(operand.operator), expr))?;
     }
-    Ok(TypedExpr::comparison(first, compared))
+    Ok(TypedExpr::compare(first, compared))
 }
 
 /// Operators on numbers of one level.
 #[cycle(typing)]
 fn type_arithmetic(alloc: Global, chain: &Chain, env: &Env) -> Result<TypedExpr, CheckError>
-    ensures { Gives (arithmetic_typed env.now (first_in chain.now) (rest_in chain.now)) typed_tree_of result }
+    ensures { ChecksAs (arithmetic_typed env.now (first_in chain.now) (rest_in chain.now)) typed_tree_of result }
 {
     let first = Box::new(alloc, type_expr(alloc, &chain.first, env)?)?;
     let mut combined = Vec::new(alloc);
@@ -131,13 +131,13 @@ fn type_arithmetic(alloc: Global, chain: &Chain, env: &Env) -> Result<TypedExpr,
         let expr = type_expr(alloc, &operand.expr, env)?;
         combined.push(Combined::new(operator, expr))?;
     }
-    Ok(TypedExpr::arithmetic(first, combined))
+    Ok(TypedExpr::arith(first, combined))
 }
 
 /// Where a path begins.
 #[cycle(typing)]
 fn type_start(alloc: Global, start: &Start, env: &Env) -> Result<TypedStart, CheckError>
-    ensures { Gives (place_typed env.now (start_of start.now)) place_of result }
+    ensures { ChecksAs (place_typed env.now (start_of start.now)) place_of result }
 {
     match start {
         Start::Root => Ok(TypedStart::at_root()),
@@ -152,7 +152,7 @@ fn type_start(alloc: Global, start: &Start, env: &Env) -> Result<TypedStart, Che
 /// The steps of a path.
 #[cycle(typing)]
 fn type_steps(alloc: Global, steps: &[Step], env: &Env) -> Result<Vec<TypedStep>, CheckError>
-    ensures { Gives (steps_typed env.now (steps_seen steps.now)) (λ v. typed_steps_seen v.items) result }
+    ensures { ChecksAs (steps_typed env.now (steps_seen steps.now)) (λ v. typed_steps_seen v.items) result }
 {
     let mut typed = Vec::new(alloc);
     for step in steps {

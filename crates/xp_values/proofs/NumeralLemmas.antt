@@ -6,10 +6,11 @@ use Rattle.std.proofs.Math.Numerals.{one-add}
 use Rattle.std.proofs.lemmas.List.{take_all, drop_all}
 use Rattle.std.proofs.lemmas.Bool.{leb-true, leb-false}
 use Rattle.xp_values.specs.declared.numbers.Num.TheVariants.{NaN, Whole}
-use Rattle.xp_values.specs.declared.numbers.TheConstants.{MAX_WHOLE}
+use Rattle.xp_tree.specs.declared.numbers.TheConstants.{MAX_WHOLE}
 use Rattle.xp_values.specs.declared.values.EvalFault.TheVariants.{NotWhole, NumberRange}
 use Rattle.xp_values.specs.Numbers.{whole_number}
-use Rattle.xp_values.specs.Numerals.{front, past, decimal_value, bounded, signed, are_zeros, number_written}
+use Rattle.xp_tree.specs.Decimals.{decimal_value}
+use Rattle.xp_values.specs.Numerals.{front, past, bounded, signed, are_zeros, number_written}
 
 abbrev front_len : (ℕ → Bool) → List ℕ → ℕ
 front_len test xs = prefix_len (λ x. not (not (test x))) xs

@@ -5,7 +5,7 @@ use Rattle.std.proofs.lemmas.Int.{ints}
 use Rattle.xp_values.specs.declared.numbers.Num.{Num}
 use Rattle.xp_values.specs.declared.numbers.Num.TheVariants.{NaN, Whole}
 use Rattle.xp_values.specs.Texts.{at_positions, is_within}
-use Rattle.xp_values.specs.Positions.{positions_before, KeepsWithin}
+use Rattle.xp_values.specs.inner.Positions.{positions_before, KeepsWithin}
 
 none-of : (kept skipped : ℕ) → [] ≡ take kept (drop {A = ℕ} skipped [])
 none-of zero zero = refl
@@ -13,7 +13,7 @@ none-of zero (suc skipped) = refl
 none-of (suc kept) zero = refl
 none-of (suc kept) (suc skipped) = refl
 
--- the positions that pass are those behind so many, and so many of them
+-- the positions that pass are those after so many, and so many of them
 record Passes (keep : ℕ → Bool) (first skipped kept count : ℕ) : Type 0 where
   before : (i : ℕ) → i < skipped → keep (first + i) ≡ false
   within : (i : ℕ) → skipped ≤ i → i < skipped + kept → keep (first + i) ≡ true

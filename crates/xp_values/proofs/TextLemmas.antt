@@ -81,10 +81,10 @@ found_place hay needle r h = by r (first_place hay needle) h (placed hay needle)
     by (Some k) None h p = absurd (p k h.1)
     by (Some k) (Some j) h p = ap Some (first-same hay needle k j (h.1, λ i less o. h.0.before i (omega arith) less o) p)
 
--- a text may be cut before and behind the first place of another
+-- a text may be cut before and after the first place of another
 pub record Cuts (text part : List ℕ) (k : ℕ) : Type 0 where
   pub before : IsCharBoundary text k
-  pub behind : IsCharBoundary (drop k text) (length part)
+  pub after : IsCharBoundary (drop k text) (length part)
   pub fits : k + length part ≤ length text
 
 before_place : (text part : List ℕ) (k : ℕ) → IsUtf8 text → IsUtf8 part → Placed text part (Some k) → IsCharBoundary text k
@@ -103,4 +103,4 @@ place_cuts text part k u v e =
     let same : take (length part) (drop k text) ≡ part = OccursAt-part text part k p.0 in
     let rest : IsCharBoundary (drop k text) (length part) =
     IsCharBoundary-from_take (drop k text) (length part) (IsUtf8-drop text k u cut) (omega (arith, p.0.fits, length-drop k text)) (subst IsUtf8 (sym same) v) in
-    record { before = cut; behind = rest; fits = p.0.fits }
+    record { before = cut; after = rest; fits = p.0.fits }

@@ -1,4 +1,4 @@
--- Comparisons (XPath 1.0 section 3.4).
+-- Comparisons (XPath 1.0, section 3.4).
 use Rattle.std.specs.Prelude.{ℕ, ℤ, Bool, true, false, not, ◌&&◌, ◌||◌, List, [], ◌∷◌, map, int_lt, bytes_eq, Result, Ok, if◌then◌else◌}
 use Rattle.std.specs.List.{list_any}
 use Rattle.std.specs.Ordering.{int_eq}

@@ -4,4 +4,5 @@ pub mod Outcomes
 pub mod Conversions
 pub mod Comparisons
 pub mod Texts
-pub mod Positions
+pub mod FaultNames
+pub mod inner

@@ -1,11 +1,11 @@
--- Numbers (XPath 1.0 section 3.5): whole ones in a range, and NaN.
+-- Numbers (XPath 1.0, section 3.5): whole ones in a range, and NaN.
 use Rattle.std.specs.Prelude.{ℕ, ℤ, pos, ◌+ℤ◌, ◌-ℤ◌, ◌*ℤ◌, ◌≤◌, Result, Ok, Err, nat_le, unsigned_abs, int_rem, if◌then◌else◌}
 use Rattle.std.specs.Ordering.{int_eq}
 use Rattle.xp_values.specs.declared.numbers.Num.{Num}
 use Rattle.xp_values.specs.declared.numbers.Num.TheVariants.{NaN, Whole}
 use Rattle.xp_tree.specs.declared.operators.ArithOp.{ArithOp}
 use Rattle.xp_tree.specs.declared.operators.ArithOp.TheVariants.{Add, Sub, Mul, Mod}
-use Rattle.xp_values.specs.declared.numbers.TheConstants.{MAX_WHOLE}
+use Rattle.xp_tree.specs.declared.numbers.TheConstants.{MAX_WHOLE}
 use Rattle.xp_values.specs.declared.values.EvalFault.{EvalFault}
 use Rattle.xp_values.specs.declared.values.EvalFault.TheVariants.{NumberRange}
 

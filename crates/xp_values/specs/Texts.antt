@@ -1,4 +1,4 @@
--- Functions on texts (XPath 1.0 section 4.2). Positions and lengths count characters.
+-- Functions on texts (XPath 1.0, section 4.2). Positions and lengths count characters.
 use Rattle.std.specs.Prelude.{ℕ, ℤ, pos, suc, ◌+◌, ◌+ℤ◌, ◌==◌, Bool, true, false, not, ◌&&◌, nat_le, nat_eq, int_le, int_lt, List, [], ◌∷◌, ◌++◌, length, take, drop, Option, None, Some, is_some, option_map, option_to_list, Result, Ok, Err, chars, encode_utf8_all, flat_map, if◌then◌else◌}
 use Rattle.std.specs.List.{starts_with}
 use Rattle.sch_base.specs.Characters.{is_whitespace}
@@ -30,15 +30,15 @@ abbrev pub before_place : List ℕ → Option ℕ → List ℕ
 before_place text None = []
 before_place text (Some place) = take place text
 
-abbrev pub behind_place : List ℕ → List ℕ → Option ℕ → List ℕ
-behind_place text part None = []
-behind_place text part (Some place) = drop (place + length part) text
+abbrev pub after_place : List ℕ → List ℕ → Option ℕ → List ℕ
+after_place text part None = []
+after_place text part (Some place) = drop (place + length part) text
 
 abbrev pub substring_before : List ℕ → List ℕ → List ℕ
 substring_before text part = before_place text (first_place text part)
 
 abbrev pub substring_after : List ℕ → List ℕ → List ℕ
-substring_after text part = behind_place text part (first_place text part)
+substring_after text part = after_place text part (first_place text part)
 
 abbrev pub string_length : List ℕ → Num
 string_length text = Whole (pos (length (chars text)))
@@ -75,7 +75,7 @@ squeezed (c ∷ characters) =
     if is_whitespace c then (if begins_word characters then 32 ∷ squeezed characters else squeezed characters)
     else c ∷ squeezed characters
 
--- what a character that isn't whitespace adds behind others: itself, behind a space where whitespace came before
+-- what a character that isn't whitespace adds after others: itself, after a space where whitespace came before
 abbrev pub added : Bool → ℕ → List ℕ
 added pending c = if pending then 32 ∷ c ∷ [] else c ∷ []
 

@@ -2,23 +2,25 @@
 //! (section 3.5) and the functions on texts (section 4.2).
 #![tactic(auto)]
 
-mod comparing;
-mod convert;
+mod comparisons;
+mod conversions;
 mod numbers;
 mod numerals;
 mod replacing;
+mod sameness;
 mod spaces;
 mod texts;
 mod values;
 
-pub use comparing::compare;
-pub use convert::{to_number, to_text, to_truth};
-pub use numbers::{MAX_WHOLE, Num, arith};
+pub use comparisons::compare;
+pub use conversions::{to_number, to_text, to_truth};
+pub use numbers::{Num, arith};
 pub use numerals::text_to_number;
 pub use replacing::translate;
+pub use sameness::same_value;
 pub use spaces::normalize_space;
 pub use texts::{
     concat, contains, starts_with, string_length, substring, substring_after, substring_before,
 };
 pub use values::{EvalError, EvalFault, Value};
-pub use xp_tree::{ArithOp, Comparison};
+pub use xp_tree::{ArithOp, Comparison, MAX_WHOLE};

@@ -4,11 +4,8 @@ ghost use Rattle.std.specs.Prelude.{◌≡◌, ℤ, IfOk, SomeIff, FitsSigned};
 ghost use Rattle.std.specs.Int.{w64};
 ghost use Rattle.xp_values.specs.Numbers.{InRange, arith, combined, remainder, whole_number};
 
-use super::values::EvalFault;
-use xp_tree::ArithOp;
-
-/// The greatest whole number in size, 2^53 - 1.
-pub const MAX_WHOLE: u64 = 9_007_199_254_740_991;
+use crate::values::EvalFault;
+use xp_tree::{ArithOp, MAX_WHOLE};
 
 /// A number: not a number, or a whole one, at most `MAX_WHOLE` in size.
 ///

@@ -3,16 +3,18 @@
 ghost use Rattle.std.specs.Prelude.{◌≡◌, ◌≤◌, not, position, IfOk};
 ghost use Rattle.std.specs.List.{list_all};
 ghost use Rattle.xp_values.specs.Numbers.{InRange};
-ghost use Rattle.xp_values.specs.Numerals.{is_space, is_digit, front, past, fraction, past_fraction, decimal_value, bounded, signed, are_zeros, number_written, number_ended, unsigned_number, text_to_number};
-ghost use Rattle.xp_values.specs.declared.numbers.TheConstants.{MAX_WHOLE};
+ghost use Rattle.xp_values.specs.Numerals.{is_space, is_digit, front, past, fraction, past_fraction, bounded, signed, are_zeros, number_written, number_ended, unsigned_number, text_to_number};
+ghost use Rattle.xp_tree.specs.Decimals.{decimal_value};
+ghost use Rattle.xp_tree.specs.declared.numbers.TheConstants.{MAX_WHOLE};
 
-use super::numbers::{MAX_WHOLE, Num, whole_number};
-use super::values::EvalFault;
+use crate::numbers::{Num, whole_number};
+use crate::values::EvalFault;
+use xp_tree::MAX_WHOLE;
 
-/// Reads a text as a number: optional whitespace, optional `-`, digits with an optional point and optional digits behind
+/// Reads a text as a number: optional whitespace, optional `-`, digits with an optional point and optional digits after
 /// it, or a point and digits, optional whitespace. Any other text is NaN.
 ///
-/// The fault is NotWhole for a digit other than 0 behind the point, and else NumberRange for a value outside the range.
+/// The fault is NotWhole for a digit other than 0 after the point, and else NumberRange for a value outside the range.
 pub fn text_to_number(s: &str) -> Result<Num, EvalFault>
     ensures value { result ≡ text_to_number s.now }
     ensures in_range { IfOk result InRange }
@@ -45,7 +47,7 @@ fn first_other(text: &[u8]) -> Option<usize>
     text.iter().position(|b| !is_space(*b))
 }
 
-/// What stands behind the whitespace at the front.
+/// What stands after the whitespace at the front.
 fn past_spaces(text: &[u8]) -> &[u8]
     ensures { result.now ≡ past is_space text.now }
 {
@@ -62,7 +64,7 @@ fn first_no_digit(text: &[u8]) -> Option<usize>
     text.iter().position(|b| !is_digit(*b))
 }
 
-/// The digits at the front, and what stands behind them.
+/// The digits at the front, and what stands after them.
 fn split_digits(text: &[u8]) -> (&[u8], &[u8])
     ensures digits { result.0.now ≡ front is_digit text.now }
     ensures rest { result.1.now ≡ past is_digit text.now }
@@ -73,7 +75,7 @@ fn split_digits(text: &[u8]) -> (&[u8], &[u8])
     }
 }
 
-/// The digits behind a point at the front, and what stands behind them.
+/// The digits after a point at the front, and what stands after them.
 fn split_fraction(text: &[u8]) -> (&[u8], &[u8])
     ensures digits { result.0.now ≡ fraction text.now }
     ensures rest { result.1.now ≡ past_fraction text.now }
@@ -84,7 +86,7 @@ fn split_fraction(text: &[u8]) -> (&[u8], &[u8])
     }
 }
 
-/// The number behind the sign.
+/// The number after the sign.
 fn unsigned_number(negative: bool, text: &[u8]) -> Result<Num, EvalFault>
     ensures value { result ≡ unsigned_number negative text.now }
     ensures in_range { IfOk result InRange }
@@ -94,7 +96,7 @@ fn unsigned_number(negative: bool, text: &[u8]) -> Result<Num, EvalFault>
     number_ended(negative, digits, fraction, rest)
 }
 
-/// The number of a numeral with these digits before and behind its point, where only whitespace stands behind it.
+/// The number of a numeral with these digits before and after its point, where only whitespace stands after it.
 fn number_ended(
     negative: bool,
     digits: &[u8],
@@ -111,19 +113,21 @@ fn number_ended(
     }
 }
 
+/// Whether all the bytes are whitespace.
 fn are_spaces(text: &[u8]) -> bool
     ensures { result ≡ list_all is_space text.now }
 {
     text.iter().all(|b| is_space(*b))
 }
 
+/// Whether all the digits are 0.
 fn are_zeros(digits: &[u8]) -> bool
     ensures { result ≡ are_zeros digits.now }
 {
     digits.iter().all(|digit| *digit == b'0')
 }
 
-/// The number with these digits before and behind its point.
+/// The number with these digits before and after its point.
 fn number_written(negative: bool, digits: &[u8], fraction: &[u8]) -> Result<Num, EvalFault>
     ensures value { result ≡ number_written negative digits.now fraction.now }
     ensures in_range { IfOk result InRange }

@@ -5,7 +5,7 @@ ghost use Rattle.std.specs.HashMap.{get};
 ghost use Rattle.xp_values.specs.Texts.{translate, replaced_by, counterpart};
 ghost use Rattle.xp_values.specs.Outcomes.{Gives};
 
-use super::values::{EvalError, EvalFault};
+use crate::values::{EvalError, EvalFault};
 use sch_base::{MAX_TEXT_BYTES, Text};
 use std::alloc::{AllocError, Global};
 use std::collections::HashMap;
@@ -33,6 +33,7 @@ pub fn translate(alloc: Global, s: &str, from: &str, to: &str) -> Result<Text, E
     Ok(Text::from(text))
 }
 
+/// The characters of a text.
 fn chars_of(alloc: Global, s: &str) -> Result<Vec<char>, AllocError>
     ensures { IfOk result (λ v. v.items ≡ chars s.now) }
 {
@@ -93,6 +94,7 @@ fn counterparts(
     Ok(counterparts)
 }
 
+/// The character at a place, if there is one.
 fn char_at(chars: &[char], i: usize) -> Option<char>
     ensures { result ≡ slice_get chars.now i }
 {

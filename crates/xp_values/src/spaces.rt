@@ -20,7 +20,7 @@ pub fn normalize_space(alloc: Global, s: &str) -> Result<Text, AllocError>
     Ok(Text::from(text))
 }
 
-/// Puts a character at the end of the text, behind a space where one is pending. Whitespace adds nothing, and a space is
+/// Puts a character at the end of the text, after a space where one is pending. Whitespace adds nothing, and a space is
 /// then pending unless the text is empty; the answer says whether one is.
 fn push_normalized(text: &mut String, pending: bool, c: char) -> Result<bool, AllocError>
     ensures space { IfOk result (λ next. is_whitespace c ≡ true → (string_bytes text.new ≡ string_bytes text.old) × (next ≡ not (length (string_bytes text.old) == 0))) }

@@ -2,11 +2,11 @@
 
 ghost use Rattle.std.specs.Prelude.{◌≡◌, ◌<◌, ◌<ℤ◌, ◌+ℤ◌, ◌-◌, ◌^◌, ℕ, pos, Some, length, take, drop, chars, encode_utf8_all, string_bytes, IfOk};
 ghost use Rattle.xp_values.specs.Texts.{concat, begins_with, first_place, contains, substring_before, substring_after, string_length, substring};
-ghost use Rattle.xp_values.specs.Positions.{KeepsWithin, positions_before};
+ghost use Rattle.xp_values.specs.inner.Positions.{KeepsWithin, positions_before};
 ghost use Rattle.xp_values.specs.Outcomes.{Gives};
 
-use super::numbers::Num;
-use super::values::{EvalError, EvalFault};
+use crate::numbers::Num;
+use crate::values::{EvalError, EvalFault};
 use memchr::memmem;
 use sch_base::{MAX_TEXT_BYTES, Text};
 use std::alloc::{AllocError, Global};
@@ -56,7 +56,7 @@ pub fn substring_before(alloc: Global, s: &str, t: &str) -> Result<Text, AllocEr
     }
 }
 
-/// What stands behind the first `t` in `s`, empty where there is none (XPath 1.0, section 4.2, `substring-after`).
+/// What stands after the first `t` in `s`, empty where there is none (XPath 1.0, section 4.2, `substring-after`).
 pub fn substring_after(alloc: Global, s: &str, t: &str) -> Result<Text, AllocError>
     ensures { IfOk result (λ text. text ≡ substring_after s.now t.now) }
 {
@@ -76,6 +76,7 @@ pub fn string_length(s: &str) -> Num
     Num::Whole(char_count(s) as i64)
 }
 
+/// How many characters the text has.
 fn char_count(s: &str) -> usize
     ensures value { result ≡ length (chars s.now) }
     ensures small { result < 2 ^ 63 }
@@ -93,7 +94,7 @@ pub fn substring(alloc: Global, s: &str, from: Num, len: Option<Num>) -> Result<
     Ok(Text::from(text))
 }
 
-/// At most so many characters, behind those that are passed over.
+/// At most so many characters, after those that are passed over.
 fn chars_between(alloc: Global, s: &str, skipped: usize, kept: usize) -> Result<String, AllocError>
     ensures { IfOk result (λ text. string_bytes text ≡ encode_utf8_all (take kept (drop skipped (chars s.now)))) }
 {
@@ -107,12 +108,12 @@ fn kept_range(from: Num, len: Option<Num>, most: usize) -> (usize, usize)
 {
     match from {
         Num::NaN => (0, 0),
-        Num::Whole(from) => kept_behind(from, len, most),
+        Num::Whole(from) => kept_after(from, len, most),
     }
 }
 
 /// `kept_range` from a whole number on.
-fn kept_behind(from: i64, len: Option<Num>, most: usize) -> (usize, usize)
+fn kept_after(from: i64, len: Option<Num>, most: usize) -> (usize, usize)
     ensures { KeepsWithin (Num.Whole from) len most result.0 result.1 }
 {
     match len {

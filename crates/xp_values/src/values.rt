@@ -1,6 +1,9 @@
 //! Values and the faults of their evaluation.
 
-use super::numbers::Num;
+ghost use Rattle.std.specs.Prelude.{◌≡◌};
+ghost use Rattle.xp_values.specs.FaultNames.{fault_name};
+
+use crate::numbers::Num;
 use doc_tree::NodeList;
 use sch_base::Text;
 use std::alloc::AllocError;
@@ -27,6 +30,19 @@ pub enum EvalFault {
     NumberRange,
     /// A text would be longer than it may.
     TextLimit,
+}
+
+impl EvalFault {
+    /// The fault's name, as messages tell it.
+    pub fn name(self) -> &'static str
+        ensures { result.now ≡ fault_name self }
+    {
+        match self {
+            EvalFault::NotWhole => "NotWhole",
+            EvalFault::NumberRange => "NumberRange",
+            EvalFault::TextLimit => "TextLimit",
+        }
+    }
 }
 
 /// Why a call has no answer: a fault of the evaluation, or want of memory.

@@ -31,7 +31,7 @@ pub type_arithmetic-loop-operand-preserved : goal.type_arithmetic-loop-operand-p
 type_arithmetic-loop-operand-preserved t c = arithmetic-goes _ _ _ _ _ _ c.operand-item.result _ c.in_ok-expr.expr _ (rw c.deref-operand-items.ensures.value at c.loop-operand-test.true) (rw c.deref-operand-items.ensures.value at c.operand-item.is) c.loop-operand.invariant c.in_ok-operator.ensures c.in_ok-expr.ensures c.new-in-loop-operand.ensures c.in_ok-push.ensures.items
 
 pub type_arithmetic-returns : goal.type_arithmetic-returns
-type_arithmetic-returns t c = arithmetic-ends _ _ _ _ _ _ (rw c.deref-operand-items.ensures.value at c.loop-operand-test.false) c.loop-operand.invariant c.arithmetic.ensures
+type_arithmetic-returns t c = arithmetic-ends _ _ _ _ _ _ (rw c.deref-operand-items.ensures.value at c.loop-operand-test.false) c.loop-operand.invariant c.arith.ensures
 
 pub type_chain-returns-in_err-type_operand : goal.type_chain-returns-in_err-type_operand
 type_chain-returns-in_err-type_operand t c = let p = err_from_is_err_and c.from_residual.result c.from_residual.ensures.1 in
@@ -65,7 +65,7 @@ pub type_comparison-loop-operand-preserved : goal.type_comparison-loop-operand-p
 type_comparison-loop-operand-preserved t c = comparison-goes _ _ _ _ _ _ c.operand-item.result c.comparison_of.result c.in_ok-expr.expr _ (rw c.deref-operand-items.ensures.value at c.loop-operand-test.true) (rw c.deref-operand-items.ensures.value at c.operand-item.is) c.loop-operand.invariant c.in_ok-expr.ensures c.comparison_of.ensures c.new-in-loop-operand.ensures c.in_ok-push.ensures.items
 
 pub type_comparison-returns : goal.type_comparison-returns
-type_comparison-returns t c = comparison-ends _ _ _ _ _ _ (rw c.deref-operand-items.ensures.value at c.loop-operand-test.false) c.loop-operand.invariant c.comparison.ensures
+type_comparison-returns t c = comparison-ends _ _ _ _ _ _ (rw c.deref-operand-items.ensures.value at c.loop-operand-test.false) c.loop-operand.invariant c.compare.ensures
 
 pub type_expr-returns-in_err-type_chain-in-Or : goal.type_expr-returns-in_err-type_chain-in-Or
 type_expr-returns-in_err-type_chain-in-Or t c = let p = err_from_is_err_and c.from_residual.result c.from_residual.ensures.1 in
@@ -108,10 +108,10 @@ type_expr-returns-in_err-args-in-Call t c = let p = err_from_is_err_and c.from_r
     rw (p.1, p.2) (gives-same (view-Call _ _ _ _ _ _ _ c.in-Call.is c.len.ensures c.deref-in-Call.ensures.value) (goes _ _ (λ (f : Function). f) typed_tree_of c.in_ok-function-in-Call.function _ c.in_ok-function-in-Call.ensures (stops _ _ (λ (v : Vec TypedExpr Global). typed_seen v.items) typed_tree_of _ (rw c.wants_nodes.ensures at c.in_err-args-in-Call.ensures))))
 
 pub type_expr-returns-in_ok-type_chain-in-Or : goal.type_expr-returns-in_ok-type_chain-in-Or
-type_expr-returns-in_ok-type_chain-in-Or t c = gives-same (view-Or _ _ _ c.in-Or.is) (goes _ _ (λ (v : Vec TypedExpr Global). typed_seen v.items) typed_tree_of c.in_ok-type_chain-in-Or.field-0 _ c.in_ok-type_chain-in-Or.ensures (record { given = ap Ok (sym c.disjunction.ensures) }))
+type_expr-returns-in_ok-type_chain-in-Or t c = gives-same (view-Or _ _ _ c.in-Or.is) (goes _ _ (λ (v : Vec TypedExpr Global). typed_seen v.items) typed_tree_of c.in_ok-type_chain-in-Or.field-0 _ c.in_ok-type_chain-in-Or.ensures (record { given = ap Ok (sym c.or.ensures) }))
 
 pub type_expr-returns-in_ok-type_chain-in-And : goal.type_expr-returns-in_ok-type_chain-in-And
-type_expr-returns-in_ok-type_chain-in-And t c = gives-same (view-And _ _ _ c.in-And.is) (goes _ _ (λ (v : Vec TypedExpr Global). typed_seen v.items) typed_tree_of c.in_ok-type_chain-in-And.field-0 _ c.in_ok-type_chain-in-And.ensures (record { given = ap Ok (sym c.conjunction.ensures) }))
+type_expr-returns-in_ok-type_chain-in-And t c = gives-same (view-And _ _ _ c.in-And.is) (goes _ _ (λ (v : Vec TypedExpr Global). typed_seen v.items) typed_tree_of c.in_ok-type_chain-in-And.field-0 _ c.in_ok-type_chain-in-And.ensures (record { given = ap Ok (sym c.and.ensures) }))
 
 pub type_expr-returns-in-Equal : goal.type_expr-returns-in-Equal
 type_expr-returns-in-Equal t c = gives-same (view-Equal _ _ _ c.in-Equal.is) c.type_comparison.ensures
@@ -129,14 +129,14 @@ pub type_expr-returns-in_ok-type_chain-in-Union : goal.type_expr-returns-in_ok-t
 type_expr-returns-in_ok-type_chain-in-Union t c = gives-same (view-Union _ _ _ c.in-Union.is) (goes _ _ (λ (v : Vec TypedExpr Global). typed_seen v.items) typed_tree_of c.in_ok-type_chain-in-Union.field-0 _ c.in_ok-type_chain-in-Union.ensures (record { given = ap Ok (sym c.union.ensures) }))
 
 pub type_expr-returns-in_ok-new-in-Neg : goal.type_expr-returns-in_ok-new-in-Neg
-type_expr-returns-in_ok-new-in-Neg t c = gives-same (view-Neg _ _ _ _ _ _ c.in-Neg.is c.deref.ensures) (goes _ _ typed_tree_of typed_tree_of c.in_ok-operand-in-Neg.operand _ c.in_ok-operand-in-Neg.ensures (record { given = ap Ok (sym (c.negation.ensures ∙ ap (λ b. negation c.in-Neg.count (typed_tree_of b)) c.in_ok-new-in-Neg.ensures.ok)) }))
+type_expr-returns-in_ok-new-in-Neg t c = gives-same (view-Neg _ _ _ _ _ _ c.in-Neg.is c.deref.ensures) (goes _ _ typed_tree_of typed_tree_of c.in_ok-operand-in-Neg.operand _ c.in_ok-operand-in-Neg.ensures (record { given = ap Ok (sym (c.negate.ensures ∙ ap (λ b. negation c.in-Neg.count (typed_tree_of b)) c.in_ok-new-in-Neg.ensures.ok)) }))
 
 pub type_expr-returns-in_ok-type_steps-in-Path : goal.type_expr-returns-in_ok-type_steps-in-Path
-type_expr-returns-in_ok-type_steps-in-Path t c = gives-same (view-Path _ _ _ _ _ _ c.in-Path.is c.deref-in-Path.ensures.value) (goes _ _ place_of typed_tree_of c.in_ok-place-in-Path.place _ c.in_ok-place-in-Path.ensures (goes _ _ (λ (v : Vec TypedStep Global). typed_steps_seen v.items) typed_tree_of c.in_ok-type_steps-in-Path.field-0 _ c.in_ok-type_steps-in-Path.ensures (record { given = ap Ok (sym c.location.ensures) })))
+type_expr-returns-in_ok-type_steps-in-Path t c = gives-same (view-Path _ _ _ _ _ _ c.in-Path.is c.deref-in-Path.ensures.value) (goes _ _ place_of typed_tree_of c.in_ok-place-in-Path.place _ c.in_ok-place-in-Path.ensures (goes _ _ (λ (v : Vec TypedStep Global). typed_steps_seen v.items) typed_tree_of c.in_ok-type_steps-in-Path.field-0 _ c.in_ok-type_steps-in-Path.ensures (record { given = ap Ok (sym c.path.ensures) })))
 
 pub type_expr-returns-in_ok-new-in-Filter : goal.type_expr-returns-in_ok-new-in-Filter
 type_expr-returns-in_ok-new-in-Filter t c = gives-same (view-Filter _ _ _ _ _ _ _ c.in-Filter.is c.deref-in-Filter.ensures c.deref-in-Filter-2.ensures.value) (goes _ _ typed_tree_of typed_tree_of c.in_ok-base-in-Filter.base _ c.in_ok-base-in-Filter.ensures (goes _ _ (λ (v : Vec TypedExpr Global). typed_seen v.items) typed_tree_of c.in_ok-predicates-in-Filter.predicates _ c.in_ok-predicates-in-Filter.ensures
-    (record { given = ap Ok (sym (c.selection.ensures ∙ ap (λ b. selection (typed_tree_of b) (typed_seen c.in_ok-predicates-in-Filter.predicates.items)) c.in_ok-new-in-Filter.ensures.ok)) })))
+    (record { given = ap Ok (sym (c.filter.ensures ∙ ap (λ b. selection (typed_tree_of b) (typed_seen c.in_ok-predicates-in-Filter.predicates.items)) c.in_ok-new-in-Filter.ensures.ok)) })))
 
 pub type_expr-returns-in-Variable : goal.type_expr-returns-in-Variable
 type_expr-returns-in-Variable t c = gives-same (view-Variable _ _ _ _ c.in-Variable.is) c.type_variable.ensures

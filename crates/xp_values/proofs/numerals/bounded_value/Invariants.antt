@@ -1,6 +1,6 @@
 use Rattle.std.proofs.Common.{◌≡◌, ◌≤◌, take}
-use Rattle.xp_values.specs.declared.numbers.TheConstants.{MAX_WHOLE}
-use Rattle.xp_values.specs.Numerals.{decimal_value}
+use Rattle.xp_tree.specs.declared.numbers.TheConstants.{MAX_WHOLE}
+use Rattle.xp_tree.specs.Decimals.{decimal_value}
 use Rattle.xp_values.proofs.numerals.bounded_value.Given as goal
 
 abbrev pub invariant-loop-digit : goal.invariant-loop-digit

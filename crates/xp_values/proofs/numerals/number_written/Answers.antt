@@ -1,4 +1,4 @@
--- Zeros behind the point leave the whole number, in its range or not.
+-- Zeros after the point leave the whole number, in its range or not.
 use Rattle.std.proofs.Common.{sym, ap, ◌∙◌, rules, w64}
 use Rattle.std.specs.Prelude.{FitsSigned}
 use Rattle.std.proofs.lemmas.Int.{to_z-of_z}

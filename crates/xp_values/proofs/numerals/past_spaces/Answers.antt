@@ -1,4 +1,4 @@
--- The first byte that isn't whitespace begins what stands behind it.
+-- The first byte that isn't whitespace begins what stands after it.
 use Rattle.std.proofs.Common.{sym, ◌∙◌, arith}
 use Rattle.xp_values.specs.Numerals.{is_space}
 use Rattle.xp_values.proofs.NumeralLemmas.{cut_at, cut_none}

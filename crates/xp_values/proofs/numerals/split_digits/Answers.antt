@@ -1,4 +1,4 @@
--- The first byte that is no digit begins what stands behind the digits.
+-- The first byte that is no digit begins what stands after the digits.
 use Rattle.std.proofs.Common.{sym, ◌∙◌}
 use Rattle.xp_values.specs.Numerals.{is_digit}
 use Rattle.xp_values.proofs.NumeralLemmas.{CutAt, cut_at, cut_none}

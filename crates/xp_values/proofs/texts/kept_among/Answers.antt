@@ -1,4 +1,4 @@
--- The positions from a number on are those behind the ones before it.
+-- The positions from a number on are those after the ones before it.
 use Rattle.std.proofs.Common.{◌≡◌, rules, w64}
 use Rattle.std.specs.Prelude.{FitsSigned}
 use Rattle.std.proofs.lemmas.Int.{to_z-of_z}

@@ -12,4 +12,4 @@ pub returns-in-Whole : goal.returns-in-Whole
 returns-in-Whole c =
     let arm = c.in-Whole in
     let fits : FitsSigned w64 arm.from = search rules in
-    rw arm.is (rw (to_z-of_z w64 arm.from fits) at c.kept_behind.ensures)
+    rw arm.is (rw (to_z-of_z w64 arm.from fits) at c.kept_after.ensures)

@@ -1,6 +1,6 @@
 use Rattle.std.proofs.Common.{refl}
 use Rattle.std.proofs.lemmas.List.{take-map}
-use Rattle.xp_types.specs.Scope.{variable_in}
+use Rattle.xp_types.specs.inner.ScopeTables.{variable_in}
 use Rattle.xp_types.proofs.env.Env.cut_vars.Goals as goal
 
 pub returns : goal.returns

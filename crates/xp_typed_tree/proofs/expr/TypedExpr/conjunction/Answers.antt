@@ -1,5 +1,0 @@
-use Rattle.xp_typed_tree.proofs.TypedViewLemmas.{of-And}
-use Rattle.xp_typed_tree.proofs.expr.TypedExpr.conjunction.Goals as goal
-
-pub returns : goal.returns
-returns c = of-And c.args.operands

@@ -1,5 +1,0 @@
-use Rattle.xp_typed_tree.proofs.TypedViewLemmas.{of-Or}
-use Rattle.xp_typed_tree.proofs.expr.TypedExpr.disjunction.Goals as goal
-
-pub returns : goal.returns
-returns c = of-Or c.args.operands

@@ -1,5 +1,0 @@
-use Rattle.xp_typed_tree.proofs.TypedViewLemmas.{of-Negate}
-use Rattle.xp_typed_tree.proofs.expr.TypedExpr.negation.Goals as goal
-
-pub returns : goal.returns
-returns c = of-Negate c.args.count c.args.operand

@@ -1,0 +1,2 @@
+pub mod ChainParts
+pub mod ScopeTables
