@@ -14,10 +14,10 @@ use xp_eval::{Context, Lets, Recorder, Steps, eval};
 use xp_syntax::{Expr, parse_expr, print_expr};
 use xp_typed_tree::Typed;
 use xp_types::{Env, check};
-use xp_values::{Value, to_text};
+use xp_values::{EvalError, Value, to_text};
 
-/// A text that is longer than 65,536 bytes is refused.
-pub(crate) fn is_short(text: &str) -> Result<(), Fault>
+/// Refuses a text that is longer than an expression may be.
+pub(crate) fn refuse_long(text: &str) -> Result<(), Fault>
     ensures { IfOk result (λ u. length text.now ≤ MAX_EXPRESSION_BYTES) }
 {
     if text.len() > MAX_EXPRESSION_BYTES {
@@ -26,11 +26,11 @@ pub(crate) fn is_short(text: &str) -> Result<(), Fault>
     Ok(())
 }
 
-/// The expression that a text of at most 65,536 bytes spells.
+/// The expression that a text spells.
 fn parsed(alloc: Global, text: &str) -> Result<Expr, Fault>
     ensures { IfOk result (λ e. Spells 64 text.now (tree_of e)) }
 {
-    is_short(text)?;
+    refuse_long(text)?;
     let expr = parse_expr(alloc, text)?;
     Ok(expr)
 }
@@ -52,11 +52,21 @@ pub(crate) fn unabbreviated(alloc: Global, text: &str) -> Result<Text, Fault> {
     Ok(printed)
 }
 
-/// What an evaluation came to, and how many visits it took.
+/// What a call came to, and how many visits it took.
 #[derive(Drop)]
-pub(crate) struct Evaluated {
-    pub(crate) result: Result<Value, Fault>,
+pub(crate) struct Counted<T> {
+    pub(crate) result: Result<T, Fault>,
     pub(crate) visits: u64,
+}
+
+impl<T> Counted<T> {
+    /// The result of a call that counted its visits from none.
+    pub(crate) fn new<L: Ledger>(result: Result<T, EvalError>, steps: &Steps<L>) -> Counted<T> {
+        Counted {
+            result: result.map_err(Fault::from),
+            visits: steps.taken(),
+        }
+    }
 }
 
 /// An expression evaluated in a context; what it reads goes to the recorder.
@@ -67,12 +77,12 @@ pub(crate) fn evaluate(
     at: &Context,
     lets: &Lets,
     reads: &mut Recorder,
-) -> Evaluated {
-    counted::<Brand>(alloc, tree, expr, at, lets, reads, Blank::new(1))
+) -> Counted<Value> {
+    evaluate_counted::<Brand>(alloc, tree, expr, at, lets, reads, Blank::new(1))
 }
 
 /// An expression evaluated in a context, its visits being counted by a ledger.
-fn counted<L: Ledger>(
+fn evaluate_counted<L: Ledger>(
     alloc: Global,
     tree: &Tree,
     expr: &Typed,
@@ -80,21 +90,23 @@ fn counted<L: Ledger>(
     lets: &Lets,
     reads: &mut Recorder,
     blank: Blank,
-) -> Evaluated
+) -> Counted<Value>
     requires name { blank.name ≡ L.name }
     requires parts { blank.parts ≡ L.parts }
     requires some { 0 < L.parts }
 {
     let mut steps: Steps<L> = Steps::start(blank);
     let result = eval(alloc, tree, expr, at, lets, reads, &mut steps);
-    Evaluated {
-        result: result.map_err(Fault::from),
-        visits: steps.taken(),
-    }
+    Counted::new(result, &steps)
 }
 
 /// An expression without variables evaluated at a node, which is the context alone.
-pub(crate) fn evaluate_at(alloc: Global, tree: &Tree, expr: &Typed, node: NodeId) -> Evaluated {
+pub(crate) fn evaluate_at(
+    alloc: Global,
+    tree: &Tree,
+    expr: &Typed,
+    node: NodeId,
+) -> Counted<Value> {
     let mut reads = Recorder::new(alloc);
     evaluate(
         alloc,

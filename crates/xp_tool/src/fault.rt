@@ -19,7 +19,7 @@ pub(crate) enum Fault {
     #[error("syntax fault {} {}", syntax_word(&.0.kind), .0.offset)]
     Syntax(SyntaxFault),
     /// The expression has this first fault of types.
-    #[error("type fault {} {}", type_word(&.0.kind), .0.offset)]
+    #[error("type fault {} {}", .0.kind.name(), .0.offset)]
     Type(TypeFault),
     /// The expression has a thing that is left out by name: where, and its name.
     #[error("type fault Refused {offset} {}", .thing.as_str())]
@@ -28,7 +28,7 @@ pub(crate) enum Fault {
     #[error("document refused")]
     DocumentRefused,
     /// The evaluation met this fault first.
-    #[error("evaluation fault {}", evaluation_word(.0))]
+    #[error("evaluation fault {}", .0.name())]
     Evaluation(EvalFault),
     /// Standard input was not read whole.
     #[error("read fault")]
@@ -46,28 +46,6 @@ pub(crate) fn syntax_word(kind: &SyntaxKind) -> &'static str {
         SyntaxKind::BadToken => "BadToken",
         SyntaxKind::Unexpected => "Unexpected",
         SyntaxKind::TooNested => "TooNested",
-    }
-}
-
-/// The name of a kind of type faults.
-pub(crate) fn type_word(kind: &TypeKind) -> &'static str {
-    match kind {
-        TypeKind::UnknownFunction => "UnknownFunction",
-        TypeKind::Arity => "Arity",
-        TypeKind::NodeSetWanted => "NodeSetWanted",
-        TypeKind::UnknownVariable => "UnknownVariable",
-        TypeKind::UnknownPrefix => "UnknownPrefix",
-        TypeKind::Refused { .. } => "Refused",
-        TypeKind::NumberTooLarge => "NumberTooLarge",
-    }
-}
-
-/// The name of a fault of evaluation.
-pub(crate) fn evaluation_word(fault: &EvalFault) -> &'static str {
-    match fault {
-        EvalFault::NotWhole => "NotWhole",
-        EvalFault::NumberRange => "NumberRange",
-        EvalFault::TextLimit => "TextLimit",
     }
 }
 

@@ -11,10 +11,8 @@ mod fault;
 mod matching;
 mod request;
 #[cfg(test)]
-mod samples;
+mod tests;
 mod tool;
-#[cfg(test)]
-mod vectors;
 
 use crate::fault::Fault;
 use crate::tool::{conclude, run};
@@ -37,7 +35,7 @@ fn main(rt: HostRuntime) -> ExitCode {
     }
 }
 
-/// The words behind the program's name; they are refused where one is not UTF-8.
+/// The words after the program's name; they are refused where one is not UTF-8.
 fn words_of(rt: &HostRuntime) -> Result<Vec<String>, Fault> {
     let words = env::args(rt).map_err(|_| Fault::Usage)?;
     Ok(words.skip(1).collect(rt.alloc())?)

@@ -2,7 +2,7 @@
 
 ghost use Rattle.std.specs.Prelude.{◌≡◌, ◌<◌, true};
 
-use crate::evaluation::is_short;
+use crate::evaluation::{Counted, refuse_long};
 use crate::fault::Fault;
 use doc_tree::{NodeId, NodeList, Tree};
 use std::alloc::Global;
@@ -14,21 +14,14 @@ use xp_typed_tree::TypedPattern;
 use xp_types::{Env, check_pattern};
 use xslt_match::matches;
 
-/// The pattern that a text of at most 65,536 bytes spells, with its types, in that scope.
+/// The pattern that a text spells, with its types, in that scope.
 pub(crate) fn pattern_checked(alloc: Global, text: &str, env: &Env) -> Result<TypedPattern, Fault>
     requires { env.now.in_pattern ≡ true }
 {
-    is_short(text)?;
+    refuse_long(text)?;
     let pattern = parse_pattern(alloc, text)?;
     let typed = check_pattern(alloc, pattern, env)?;
     Ok(typed)
-}
-
-/// Whether a node matches a pattern, and how many visits that took.
-#[derive(Drop)]
-pub(crate) struct Matched {
-    pub(crate) result: Result<bool, Fault>,
-    pub(crate) visits: u64,
 }
 
 /// A node matched against a pattern; what is read goes to the recorder. A number at which no node lives matches nothing.
@@ -39,12 +32,12 @@ pub(crate) fn match_node(
     n: NodeId,
     lets: &Lets,
     reads: &mut Recorder,
-) -> Matched {
-    counted_match::<Brand>(alloc, tree, pattern, n, lets, reads, Blank::new(1))
+) -> Counted<bool> {
+    match_counted::<Brand>(alloc, tree, pattern, n, lets, reads, Blank::new(1))
 }
 
 /// A node matched against a pattern, the visits being counted by a ledger.
-fn counted_match<L: Ledger>(
+fn match_counted<L: Ledger>(
     alloc: Global,
     tree: &Tree,
     pattern: &TypedPattern,
@@ -52,23 +45,17 @@ fn counted_match<L: Ledger>(
     lets: &Lets,
     reads: &mut Recorder,
     blank: Blank,
-) -> Matched
+) -> Counted<bool>
     requires name { blank.name ≡ L.name }
     requires parts { blank.parts ≡ L.parts }
     requires some { 0 < L.parts }
 {
     let mut steps: Steps<L> = Steps::start(blank);
     if !tree.contains(n) {
-        return Matched {
-            result: Ok(false),
-            visits: 0,
-        };
+        return Counted::new(Ok(false), &steps);
     }
     let result = matches(alloc, tree, pattern, n, lets, reads, &mut steps);
-    Matched {
-        result: result.map_err(Fault::from),
-        visits: steps.taken(),
-    }
+    Counted::new(result, &steps)
 }
 
 /// The nodes that match a pattern without variables, in document order.

@@ -24,7 +24,7 @@ pub(crate) enum Request<'w> {
     Print { expression: &'w str },
 }
 
-/// What the words behind the program's name ask for.
+/// What the words after the program's name ask for.
 pub(crate) fn request_of(words: &[String]) -> Result<Request<'_>, Fault> {
     match words {
         [expression] => Ok(Request::Value {

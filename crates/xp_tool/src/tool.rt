@@ -1,7 +1,7 @@
 //! The tool's one call, over a shelf and sinks.
 
 use crate::document::load_document;
-use crate::evaluation::{Evaluated, checked, evaluate_at, told, unabbreviated};
+use crate::evaluation::{Counted, checked, evaluate_at, told, unabbreviated};
 use crate::fault::Fault;
 use crate::matching::{matching_nodes, pattern_checked};
 use crate::request::{Request, request_of};
@@ -12,7 +12,7 @@ use std::alloc::Global;
 use xp_types::Env;
 use xp_values::Value;
 
-/// Writes the answer to what the words behind the program's name ask for.
+/// Writes the answer to what the words after the program's name ask for.
 ///
 /// The document is read from the shelf's standard input. The expression is checked first, so that one with a fault
 /// asks for no document.
@@ -36,7 +36,7 @@ fn answer_to<S: Shelf>(alloc: Global, request: Request<'_>, shelf: &mut S) -> Re
             told(alloc, &tree, &evaluated.result?)
         }
         Request::Visits { expression } => {
-            let (_, Evaluated { result, visits }) = evaluate_over(alloc, expression, shelf)?;
+            let (_, Counted { result, visits }) = evaluate_over(alloc, expression, shelf)?;
             result?;
             let count = format!(in alloc; "{visits}")?;
             Ok(Text::from(count))
@@ -55,7 +55,7 @@ fn evaluate_over<S: Shelf>(
     alloc: Global,
     expression: &str,
     shelf: &mut S,
-) -> Result<(Tree, Evaluated), Fault> {
+) -> Result<(Tree, Counted<Value>), Fault> {
     let expr = checked(alloc, expression, &Env::new(alloc, false))?;
     let tree = load_document(alloc, shelf)?;
     let evaluated = evaluate_at(alloc, &tree, &expr, tree.root());

@@ -1,13 +1,11 @@
 //! The values of expressions and the matches of patterns, what is read for them and how many visits they take, computed
 //! outside this project.
 //!
-//! A line names the context node, the expression, its value, behind `reads` the cells and lets that are read, and
-//! behind `visits` how many there are.
+//! A line names the context node, the expression, its value, after `reads` the cells and lets that are read, and
+//! after `visits` how many there are.
 
-use crate::samples::{
-    a_long_text, a_note, matches_are, matching_nodes_are, patterns_are, three_bs, two_texts,
-    values_are,
-};
+use crate::tests::rows::{Question, table_holds};
+use crate::tests::samples::{a_long_text, a_note, three_bs, two_texts};
 use std::test::Fail;
 
 /// Worked examples: paths, numbers, comparisons and faults.
@@ -173,7 +171,7 @@ a: -5 mod -2 => number -1\n\
 a: 5 mod 0 = 5 mod 0 => truth false\n\
 a: 5 mod 0 != 5 mod 0 => truth true\n";
 
-/// Axes and unions; positions on an axis that runs backwards, and in document order behind parentheses.
+/// Axes and unions; positions on an axis that runs backwards, and in document order after parentheses.
 const AXES_AND_UNIONS: &str = "\
 a: //b/ancestor::* => nodes a c\n\
 a: //@x/following::node() => nodes c b2 b3\n\
@@ -320,106 +318,107 @@ a: number('9007199254740992.5') => evaluation fault NotWhole\n";
 #[test]
 fn paths_and_numbers(rt: HostRuntime) -> Result<(), Fail> {
     let sample = three_bs(&rt, rt.alloc())?;
-    values_are(&rt, &sample, PATHS_AND_NUMBERS)
+    table_holds(&rt, &sample, Question::Value, PATHS_AND_NUMBERS)
 }
 
 #[test]
 fn first_faults(rt: HostRuntime) -> Result<(), Fail> {
     let sample = three_bs(&rt, rt.alloc())?;
-    values_are(&rt, &sample, FIRST_FAULTS)
+    table_holds(&rt, &sample, Question::Value, FIRST_FAULTS)
 }
 
 #[test]
 fn refused_things(rt: HostRuntime) -> Result<(), Fail> {
     let sample = three_bs(&rt, rt.alloc())?;
-    values_are(&rt, &sample, REFUSED_THINGS)
+    table_holds(&rt, &sample, Question::Value, REFUSED_THINGS)
 }
 
 #[test]
 fn type_faults(rt: HostRuntime) -> Result<(), Fail> {
     let sample = three_bs(&rt, rt.alloc())?;
-    values_are(&rt, &sample, TYPE_FAULTS)
+    table_holds(&rt, &sample, Question::Value, TYPE_FAULTS)
 }
 
 #[test]
 fn first_of_several(rt: HostRuntime) -> Result<(), Fail> {
     let sample = three_bs(&rt, rt.alloc())?;
-    values_are(&rt, &sample, FIRST_OF_SEVERAL)
+    table_holds(&rt, &sample, Question::Value, FIRST_OF_SEVERAL)
 }
 
 #[test]
 fn patterns(rt: HostRuntime) -> Result<(), Fail> {
-    patterns_are(&rt, rt.alloc(), PATTERNS)
+    let sample = three_bs(&rt, rt.alloc())?;
+    table_holds(&rt, &sample, Question::Pattern, PATTERNS)
 }
 
 #[test]
 fn greatest_texts(rt: HostRuntime) -> Result<(), Fail> {
     let sample = a_long_text(&rt, rt.alloc())?;
-    values_are(&rt, &sample, GREATEST_TEXTS)
+    table_holds(&rt, &sample, Question::Value, GREATEST_TEXTS)
 }
 
 #[test]
 fn functions_on_texts(rt: HostRuntime) -> Result<(), Fail> {
     let sample = three_bs(&rt, rt.alloc())?;
-    values_are(&rt, &sample, FUNCTIONS_ON_TEXTS)
+    table_holds(&rt, &sample, Question::Value, FUNCTIONS_ON_TEXTS)
 }
 
 #[test]
 fn axes_and_unions(rt: HostRuntime) -> Result<(), Fail> {
     let sample = three_bs(&rt, rt.alloc())?;
-    values_are(&rt, &sample, AXES_AND_UNIONS)
+    table_holds(&rt, &sample, Question::Value, AXES_AND_UNIONS)
 }
 
 #[test]
 fn string_values(rt: HostRuntime) -> Result<(), Fail> {
     let sample = two_texts(&rt, rt.alloc())?;
-    values_are(&rt, &sample, STRING_VALUES)
+    table_holds(&rt, &sample, Question::Value, STRING_VALUES)
 }
 
 #[test]
 fn reads_of_expressions(rt: HostRuntime) -> Result<(), Fail> {
     let sample = three_bs(&rt, rt.alloc())?;
-    values_are(&rt, &sample, READS)
+    table_holds(&rt, &sample, Question::Value, READS)
 }
 
 #[test]
 fn reads_of_texts(rt: HostRuntime) -> Result<(), Fail> {
     let sample = two_texts(&rt, rt.alloc())?;
-    values_are(&rt, &sample, READS_OF_TEXTS)
+    table_holds(&rt, &sample, Question::Value, READS_OF_TEXTS)
 }
 
 #[test]
 fn reads_of_variables(rt: HostRuntime) -> Result<(), Fail> {
     let sample = a_note(&rt, rt.alloc())?;
-    values_are(&rt, &sample, READS_OF_VARIABLES)
+    table_holds(&rt, &sample, Question::Value, READS_OF_VARIABLES)
 }
 
 #[test]
 fn matches_of_elements(rt: HostRuntime) -> Result<(), Fail> {
     let sample = three_bs(&rt, rt.alloc())?;
-    matches_are(&rt, &sample, MATCHES)
+    table_holds(&rt, &sample, Question::Match, MATCHES)
 }
 
 #[test]
 fn matches_of_texts(rt: HostRuntime) -> Result<(), Fail> {
     let sample = two_texts(&rt, rt.alloc())?;
-    matches_are(&rt, &sample, MATCHES_OF_TEXTS)
+    table_holds(&rt, &sample, Question::Match, MATCHES_OF_TEXTS)
 }
 
 #[test]
 fn matches_with_variables(rt: HostRuntime) -> Result<(), Fail> {
     let sample = a_note(&rt, rt.alloc())?;
-    matches_are(&rt, &sample, MATCHES_WITH_VARIABLES)
+    table_holds(&rt, &sample, Question::Match, MATCHES_WITH_VARIABLES)
 }
 
 #[test]
 fn matching_nodes(rt: HostRuntime) -> Result<(), Fail> {
     let sample = three_bs(&rt, rt.alloc())?;
-    matching_nodes_are(&rt, &sample, MATCHING_NODES)
+    table_holds(&rt, &sample, Question::Nodes, MATCHING_NODES)
 }
 
 #[test]
 fn greatest_numbers(rt: HostRuntime) -> Result<(), Fail> {
     let sample = three_bs(&rt, rt.alloc())?;
-    values_are(&rt, &sample, GREATEST_NUMBERS)
+    table_holds(&rt, &sample, Question::Value, GREATEST_NUMBERS)
 }
