@@ -41,7 +41,7 @@ module _ (T : Table) (wanted : List ℕ) (n : ℕ) where
   unfolding in_language
   language_first = refl
 
--- a tag that is cut behind as many bytes as the wanted language has, or at its end
+-- a tag that is cut after as many bytes as the wanted language has, or at its end
 pub split_same : (k m : ℕ) (xs : List ℕ) → m ≡ min k (length xs) → (take m xs ≡ take k xs) × (drop m xs ≡ drop k xs)
 split_same k m xs is =
     ⊎_elim (λ (h : (leb k (length xs) ≡ true) × (k ≤ length xs)).

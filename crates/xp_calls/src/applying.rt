@@ -18,9 +18,8 @@ use crate::arguments::{
 use crate::caller::Caller;
 use crate::joining::join;
 use crate::language::in_language;
-use doc_axes::one_node;
 use doc_tree::NodeId;
-use sch_base::Text;
+use sch_base::{ItemList, Text};
 use std::alloc::{AllocError, Global};
 use std::sync::ledger::Ledger;
 use xp_meaning::Context;
@@ -222,7 +221,7 @@ fn count(nodes: &[NodeId]) -> Value
 fn node_set_of(alloc: Global, n: NodeId) -> Result<Value, EvalError>
     ensures { Gives result (Ok (values.NodeSet (n ∷ []))) }
 {
-    let nodes = one_node(alloc, n)?;
+    let nodes = ItemList::of_one(alloc, n)?;
     Ok(Value::NodeSet(nodes))
 }
 

@@ -81,7 +81,7 @@ fn is_language(tag: &str, wanted: &str) -> bool
     front.eq_ignore_ascii_case(wanted) && ends_or_goes_on(rest)
 }
 
-/// Whether a tag ends here, or goes on behind a hyphen.
+/// Whether a tag ends here, or goes on after a hyphen.
 fn ends_or_goes_on(rest: &[u8]) -> bool
     ensures { result ≡ ends_or_goes_on rest.now }
 {

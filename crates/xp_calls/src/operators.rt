@@ -1,4 +1,4 @@
-//! The operators of expressions as operators on values (XPath 1.0, sections 3.4 and 3.5).
+//! Minus signs before numbers (XPath 1.0, section 3.5).
 
 ghost use Rattle.std.specs.Prelude.{◌≡◌};
 ghost use Rattle.xp_meaning.specs.Operators.{negated};

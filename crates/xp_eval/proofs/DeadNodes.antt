@@ -26,7 +26,7 @@ either_way : (b : Bool) → cond {A = List ℕ} b [] [] ≡ []
 either_way true = refl
 either_way false = refl
 
--- nothing stands behind a number that isn't there, and it stands behind nothing
+-- nothing stands after a number that isn't there, and it stands after nothing
 after_none : (n : ℕ) (xs : List ℕ) → mem n xs ≡ false → after n xs ≡ []
 after_none n [] h = refl
 after_none n (x ∷ xs) h =

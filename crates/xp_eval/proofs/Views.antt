@@ -28,7 +28,7 @@ use Rattle.xp_meaning.specs.Operators.{negated}
 use Rattle.xp_meaning.specs.Paths.{filtered, path}
 use Rattle.xp_meaning.specs.Functions.{applied}
 use Rattle.xp_meaning.specs.Evaluation.{Lets, meaning, meanings, some_true, all_true, compared, combined, values, start_nodes, comparands_meant, combinands_meant, steps_meant, slot_value}
-use Rattle.xp_eval.specs.Wants.{wanted_by}
+use Rattle.xp_eval.specs.inner.Wants.{wanted_by}
 
 -- what follows a part of a value follows the value
 bind_mapped : {F A B C : Type 0} (m : Evaluation F A) (part : A → B) (next : B → Evaluation F C) →

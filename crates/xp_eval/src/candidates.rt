@@ -1,6 +1,6 @@
 //! The candidates of steps: the nodes on an axis that pass a test (XPath 1.0, sections 2.2 and 2.3).
 
-ghost use Rattle.std.specs.Prelude.{◌≡◌, ◌∷◌, [], ◌++◌, ℕ, true, filter, IfOk, OnOk, if◌then◌else◌};
+ghost use Rattle.std.specs.Prelude.{◌≡◌, ℕ, true, filter, IfOk};
 ghost use Rattle.doc_tree.specs.Lists.{mem};
 ghost use Rattle.doc_tree.specs.Table.{is_live};
 ghost use Rattle.doc_axes.specs.Axes.{axis_nodes};
@@ -67,24 +67,7 @@ fn passing(
 {
     let mut found = ItemList::new(alloc);
     for n in nodes {
-        push_passing(&mut found, tree, axis, test, *n)?;
+        found.push_if(*n, passes(tree, *n, axis, test))?;
     }
     Ok(found)
-}
-
-/// Puts a live node at the end of the list, if it passes the test.
-fn push_passing(
-    list: &mut NodeList,
-    tree: &Tree,
-    axis: Axis,
-    test: &NodeTest,
-    n: NodeId,
-) -> Result<(), AllocError>
-    requires { is_live tree.now.nodes n ≡ true }
-    ensures { OnOk result (list.new ≡ list.old ++ (if passes tree.now.nodes axis test.now n then n ∷ [] else [])) }
-{
-    if passes(tree, n, axis, test) {
-        list.push(n)?;
-    }
-    Ok(())
 }

@@ -1,12 +1,12 @@
 //! The choice of nodes by the values of predicates (XPath 1.0, section 2.4), and of sets of nodes.
 
-ghost use Rattle.std.specs.Prelude.{◌≡◌, ◌++◌, length, flat_map, IfOk, OnOk};
+ghost use Rattle.std.specs.Prelude.{◌≡◌, length, flat_map, IfOk};
 ghost use Rattle.doc_axes.specs.Sets.{in_order};
 ghost use Rattle.xp_meaning.specs.Conversions.{nodes_of};
-ghost use Rattle.xp_eval.specs.Wants.{wanted_by};
-ghost use Rattle.xp_meaning.specs.Paths.{chosen, holds_at};
+ghost use Rattle.xp_eval.specs.inner.Wants.{wanted_by};
+ghost use Rattle.xp_meaning.specs.Paths.{holds_at};
 
-use doc_axes::{in_document_order, push_all};
+use doc_axes::in_document_order;
 use doc_tree::{NodeId, NodeList, Tree};
 use sch_base::ItemList;
 use std::alloc::{AllocError, Global};
@@ -16,7 +16,7 @@ use xp_typed_tree::Function;
 use xp_values::{Num, Value, to_truth};
 
 /// Whether a predicate holds at a position: a number where it is the position, another value by its truth.
-fn holds_at(position: u32, value: &Value) -> bool
+pub(crate) fn holds_at(position: u32, value: &Value) -> bool
     ensures { result ≡ holds_at position value.now }
 {
     match value {
@@ -24,21 +24,6 @@ fn holds_at(position: u32, value: &Value) -> bool
         Value::Number(Num::NaN) => false,
         _ => to_truth(value),
     }
-}
-
-/// Puts the node at the end of the list, if the predicate's value lets it stay.
-pub(crate) fn push_chosen(
-    list: &mut NodeList,
-    position: u32,
-    n: NodeId,
-    value: &Value,
-) -> Result<(), AllocError>
-    ensures { OnOk result (list.new ≡ list.old ++ chosen position n value.now) }
-{
-    if holds_at(position, value) {
-        list.push(n)?;
-    }
-    Ok(())
 }
 
 /// How many nodes there are, as the size of a context. A list with more nodes than a size counts, which no tree has, is
@@ -58,7 +43,7 @@ pub(crate) fn union_of(alloc: Global, tree: &Tree, values: &[Value]) -> Result<N
 {
     let mut all = ItemList::new(alloc);
     for value in values {
-        push_all(&mut all, nodes_of(value))?;
+        all.push_all(nodes_of(value))?;
     }
     in_document_order(alloc, tree, &all)
 }

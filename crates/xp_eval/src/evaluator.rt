@@ -14,10 +14,10 @@ ghost use Rattle.xp_meaning.specs.Functions.{applied};
 ghost use Rattle.xp_meaning.specs.Paths.{kept, filtered, step_at, step_from, path};
 ghost use Rattle.xp_meaning.specs.Evaluation.{meaning, meanings, some_true, all_true, compared, combined, values, start_nodes, comparands_meant, combinands_meant, steps_meant};
 ghost use Rattle.xp_eval.specs.Steps.{step_meant};
-ghost use Rattle.xp_eval.specs.Wants.{wanted_by};
+ghost use Rattle.xp_eval.specs.inner.Wants.{wanted_by};
 
-use crate::choosing::{nodes_in, push_chosen, size_of, union_of, wanted_by};
-use doc_axes::{in_document_order, one_node, push_all};
+use crate::choosing::{holds_at, nodes_in, size_of, union_of, wanted_by};
+use doc_axes::in_document_order;
 use doc_tree::{NodeId, NodeList};
 use sch_base::{ItemList, Text};
 use std::alloc::{AllocError, Global};
@@ -276,8 +276,8 @@ impl Evaluator<'_> {
         ensures { Ran (start_nodes self.now.caller.tree.now.nodes self.now.lets.now (place_of start.now) at.now) (shown result) reads.old reads.new steps.old steps.new }
     {
         match start {
-            TypedStart::Root => Ok(one_node(self.caller.alloc, self.caller.tree.root())?),
-            TypedStart::Here => Ok(one_node(self.caller.alloc, at.node)?),
+            TypedStart::Root => Ok(ItemList::of_one(self.caller.alloc, self.caller.tree.root())?),
+            TypedStart::Here => Ok(ItemList::of_one(self.caller.alloc, at.node)?),
             TypedStart::From(base) => self.operand_nodes(base, at, reads, steps),
         }
     }
@@ -316,7 +316,7 @@ impl Evaluator<'_> {
         let mut selected = ItemList::new(self.caller.alloc);
         for n in nodes {
             let found = self.step_at(step, current, *n, reads, steps)?;
-            push_all(&mut selected, found.as_slice())?;
+            selected.push_all(found.as_slice())?;
         }
         let set = in_document_order(self.caller.alloc, self.caller.tree, &selected)?;
         Ok(set)
@@ -381,7 +381,7 @@ impl Evaluator<'_> {
                 current,
             };
             let value = self.evaluate(predicate, &at, reads, steps)?;
-            push_chosen(&mut kept, position, *n, &value)?;
+            kept.push_if(*n, holds_at(position, &value))?;
         }
         Ok(kept)
     }

@@ -9,7 +9,6 @@ ghost use Rattle.xp_meaning.specs.Results.{shown};
 ghost use Rattle.xp_meaning.specs.Evaluation.{slot_value};
 
 use crate::evaluator::Evaluator;
-use doc_axes::copied_nodes;
 use sch_base::{ItemList, Text};
 use std::alloc::{AllocError, Global};
 use xp_outcome::Recorder;
@@ -43,7 +42,7 @@ fn copy_value(alloc: Global, value: &Value) -> Result<Value, AllocError>
     ensures { IfOk result (λ v. v ≡ value.now) }
 {
     match value {
-        Value::NodeSet(nodes) => Ok(Value::NodeSet(copied_nodes(alloc, nodes.as_slice())?)),
+        Value::NodeSet(nodes) => Ok(Value::NodeSet(ItemList::copy_of(alloc, nodes.as_slice())?)),
         Value::Truth(truth) => Ok(Value::Truth(*truth)),
         Value::Number(number) => Ok(Value::Number(*number)),
         Value::Chars(text) => Ok(Value::Chars(Text::copy(alloc, text.as_str())?)),

@@ -89,7 +89,7 @@ module _ (T : Table) (L : Lets) (a b : TypedTree) (c : Context) (xs ys : List �
       (one_more T (wanted Count) (λ i v. as_it_is T v) c 0 (meaning T L (union (typed a (typed b no_typed)))) [] _ [] union_answer
       (no_more T (wanted Count) (λ i v. as_it_is T v) c 1))
 
--- the nodes of two sets, of which one stands behind the other
+-- the nodes of two sets, of which one stands after the other
 joined : (T : Table) (xs ys : List ℕ) → in_order T (xs ++ (ys ++ [])) ≡ filter (λ m. mem m xs || mem m ys) (order T)
 joined T xs ys =
     ap (λ zs. in_order T (xs ++ zs)) (append-nil ys) ∙ filter-same (λ m. mem m (xs ++ ys)) (λ m. mem m xs || mem m ys) (order T) (λ m _. mem-append_is m xs ys)

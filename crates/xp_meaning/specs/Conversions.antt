@@ -1,4 +1,4 @@
--- Conversions and comparisons in evaluation (XPath 1.0 sections 3.4, 3.5 and 4): they take the string-values that they
+-- Conversions and comparisons in evaluation (XPath 1.0, sections 3.4, 3.5 and 4): they take the string-values that they
 -- need, and then convert.
 use Rattle.std.specs.Prelude.{ℕ, Bool, List, [], ◌∷◌, ◌++◌, Result, Ok, pos, if◌then◌else◌}
 use Rattle.doc_tree.specs.Table.{Table}
@@ -55,7 +55,7 @@ sum_from T total [] = Ok total
 sum_from T total (n ∷ ns) =
     then_of (text_to_number (string_value_of T n)) (λ number. then_of (arith ops.Add total number) (λ sum. sum_from T sum ns))
 
--- the sum of the numbers of some nodes, whose string-values are all taken first (XPath 1.0 section 4.4)
+-- the sum of the numbers of some nodes, whose string-values are all taken first (XPath 1.0, section 4.4)
 unfoldable pub sum_in : Table → List ℕ → Evaluation EvalFault Num
 sum_in T ns = taking T ns (given (sum_from T (Whole (pos 0)) ns))
 

@@ -1,4 +1,4 @@
--- Evaluation (XPath 1.0 sections 2, 3 and 4): what each expression gives in a context, by what its parts give. Each
+-- Evaluation (XPath 1.0, sections 2, 3 and 4): what each expression gives in a context, by what its parts give. Each
 -- part that is evaluated is one visit; evaluation goes from left to right and stops at the first fault.
 use Rattle.std.specs.Prelude.{ℕ, Bool, true, false, List, [], ◌∷◌, Option, None, Some, Result, Ok, Err, flat_map, if◌then◌else◌}
 use Rattle.doc_tree.specs.Table.{Table}
@@ -32,12 +32,12 @@ pub record Operand (O : Type 0) : Type 0 where
   pub operator : O
   pub meaning : Meaning
 
--- whether some operand is true; those behind it aren't evaluated (section 3.4)
+-- whether some operand is true; those after it aren't evaluated (section 3.4)
 abbrev pub some_true : List Meaning → Context → Evaluation EvalFault Bool
 some_true [] c = done false
 some_true (m ∷ ms) c = bind (m c) (λ v. if to_truth v then done true else some_true ms c)
 
--- whether all operands are true; those behind a false one aren't evaluated
+-- whether all operands are true; those after a false one aren't evaluated
 abbrev pub all_true : List Meaning → Context → Evaluation EvalFault Bool
 all_true [] c = done true
 all_true (m ∷ ms) c = bind (m c) (λ v. if to_truth v then all_true ms c else done false)

@@ -1,4 +1,4 @@
--- The functions (XPath 1.0 section 4; XSLT 1.0 section 12.4).
+-- The functions (XPath 1.0, section 4; XSLT 1.0, section 12.4).
 use Rattle.std.specs.Prelude.{ℕ, zero, suc, pos, Bool, true, false, not, List, [], ◌∷◌, length, Option, None, Some, Result, Ok, option_map, slice_get, flat_map}
 use Rattle.doc_tree.specs.Table.{Table}
 use Rattle.xp_typed_tree.specs.declared.function.Function.{Function}

@@ -1,4 +1,4 @@
--- The language of a node (XPath 1.0 section 4.3, `lang`; XML 1.0 section 2.12).
+-- The language of a node (XPath 1.0, section 4.3, `lang`; XML 1.0, section 2.12).
 use Rattle.std.specs.Prelude.{ℕ, ◌==◌, Bool, true, false, ◌&&◌, bytes_eq, List, [], ◌∷◌, length, take, drop, find, codes, Option, None, Some, if◌then◌else◌}
 use Rattle.std.specs.Str.{str_eq_ignore_ascii_case}
 use Rattle.doc_tree.specs.cell.Cell.TheVariants.{Attrs, Value}
@@ -10,7 +10,7 @@ use Rattle.doc_axes.specs.NodeTests.{named}
 use Rattle.xp_outcome.specs.Evaluation.{Evaluation, done, bind, reading, cell}
 use Rattle.xp_values.specs.declared.values.EvalFault.{EvalFault}
 
--- a tag ends, or goes on behind a hyphen
+-- a tag ends, or goes on after a hyphen
 abbrev pub ends_or_goes_on : List ℕ → Bool
 ends_or_goes_on [] = true
 ends_or_goes_on (b ∷ rest) = b == 45

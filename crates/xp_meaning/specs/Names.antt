@@ -1,4 +1,4 @@
--- The names of nodes (XPath 1.0 section 4.1).
+-- The names of nodes (XPath 1.0, section 4.1).
 use Rattle.std.specs.Prelude.{ℕ, List, [], Option, None, Some}
 use Rattle.doc_tree.specs.QNames.{qname_of}
 use Rattle.doc_tree.specs.Table.{Table, Name, name_of}
@@ -11,7 +11,7 @@ abbrev pub uri_in : Option Name → List ℕ
 uri_in None = []
 uri_in (Some name) = name.uri
 
--- a name as it is written (Namespaces in XML 1.0 section 4)
+-- a name as it is written (Namespaces in XML 1.0, section 4)
 abbrev pub written_in : Option Name → List ℕ
 written_in None = []
 written_in (Some name) = qname_of name

@@ -1,4 +1,4 @@
--- The operators of expressions as operators on values (XPath 1.0 sections 3.4 and 3.5).
+-- The operators of expressions as operators on values (XPath 1.0, sections 3.4 and 3.5).
 use Rattle.std.specs.Prelude.{ℕ, zero, suc, pos, Result, Ok}
 use Rattle.xp_tree.specs.declared.operators.ArithOp.TheVariants as operations
 use Rattle.xp_values.specs.declared.numbers.Num.{Num}

@@ -1,4 +1,4 @@
--- Steps, predicates and location paths (XPath 1.0 sections 2, 2.1 and 2.4).
+-- Steps, predicates and location paths (XPath 1.0, sections 2, 2.1 and 2.4).
 use Rattle.std.specs.Prelude.{ℕ, pos, ◌+◌, Bool, List, [], ◌∷◌, length, filter, if◌then◌else◌}
 use Rattle.doc_tree.specs.declared.axes.Axis.{Axis}
 use Rattle.doc_tree.specs.declared.axes.NodeTest.{NodeTest}

@@ -32,7 +32,7 @@ kids_of_parent (Some p) = cell (Kids p) ∷ []
 abbrev pub sibling_reads : Table → ℕ → List Read
 sibling_reads T n = if is_attribute (kind_of T n) then [] else kids_of_parent (parent_of T n)
 
--- what a step along an axis from a node reads (axes: XPath 1.0 section 2.2)
+-- what a step along an axis from a node reads (axes: XPath 1.0, section 2.2)
 abbrev pub axis_reads : Table → Axis → ℕ → List Read
 axis_reads T Ancestor n = []
 axis_reads T AncestorOrSelf n = []
@@ -47,7 +47,7 @@ axis_reads T Preceding n = cell (Shape 0) ∷ []
 axis_reads T PrecedingSibling n = sibling_reads T n
 axis_reads T SelfNode n = []
 
--- where a string-value is read (XPath 1.0 section 5): of the root and elements in Text, of the other kinds in Value
+-- where a string-value is read (XPath 1.0, section 5): of the root and elements in Text, of the other kinds in Value
 abbrev pub text_read : Table → ℕ → Read
 text_read T n = cell (if holds_kids (kind_of T n) then Text n else Value n)
 

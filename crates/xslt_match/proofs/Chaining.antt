@@ -20,7 +20,7 @@ use Rattle.xp_outcome.proofs.Runs.{next_item, no_item, ran_alike}
 use Rattle.xp_values.specs.declared.values.EvalFault.{EvalFault}
 use Rattle.xp_meaning.proofs.Exits.{ran_ticked}
 use Rattle.xp_meaning.specs.Evaluation.{Lets}
-use Rattle.xslt_match.specs.Ends.{ends_elsewhere}
+use Rattle.xslt_match.specs.inner.Ends.{ends_elsewhere}
 use Rattle.xslt_match.specs.Matching.{leads, reaches, led_to, standing, survivors, chains, path_matches, some_path, matching}
 use Rattle.xslt_match.proofs.Filters.{eqb-turned, or-false, or-left}
 use Rattle.xslt_match.proofs.StepsAlong.{not_led, none_last}
@@ -96,7 +96,7 @@ pub alive-next : (T : Table) (s : TypedPatternStepTree) (alive given left tested
 alive-next T s alive given left tested now same slice is =
     ap (λ ms. filter (λ k. list_any (λ m. leads T s m k) ms) left) (sym same) ∙ ap (filter (λ k. list_any (λ m. leads T s m k) given)) (sym slice) ∙ sym is
 
--- a pattern's next step, and those behind it
+-- a pattern's next step, and those after it
 pub typed-next : (later : List TypedPatternStep) (step : TypedPatternStep) (rest : List TypedPatternStep) → later ≡ step ∷ rest → PatternStepsTyped (map pattern_step_seen later) →
     PatternStepsTyped (pattern_step_seen step ∷ map pattern_step_seen rest)
 typed-next later step rest is typed = subst (λ ys. PatternStepsTyped (map pattern_step_seen ys)) is typed
@@ -109,7 +109,7 @@ ends-last T n (x ∷ []) last = refl
 ends-last T n (x ∷ y ∷ front) last = ends-last T n (y ∷ front) last
 
 module _ (T : Table) (L : Lets) (n : ℕ) where
-  -- the next path pattern, behind others of which some match or none
+  -- the next path pattern, after others of which some match or none
   pub paths-next : (paths : List TypedPath) (i : ℕ) (path : TypedPath) (matched : Bool) → i < length paths → path ≡ get_or paths i path →
       bind (some_path T L n (paths_seen (drop i paths))) (λ later. done (matched || later))
       ≡ bind (path_matches T L n (path_seen path)) (λ here. bind (some_path T L n (paths_seen (drop (i + 1) paths))) (λ later. done ((matched || here) || later)))

@@ -21,7 +21,7 @@ use Rattle.doc_axes.proofs.AxisLemmas.{ancestor_or_self_axis}
 use Rattle.xp_typed_tree.specs.TypedTree.{TypedPatternStepTree}
 use Rattle.xp_typed_tree.specs.WellTyped.{is_pattern_axis, PatternStepsTyped}
 use Rattle.xslt_match.specs.Matching.{is_anywhere, is_candidate, leads, led_to, reaches, starts, standing}
-use Rattle.xslt_match.specs.Leading.{is_beside, fits, holder, looks_at, looks_there, OnOneWay}
+use Rattle.xslt_match.specs.inner.Leading.{is_beside, fits, holder, looks_at, looks_there, OnOneWay}
 use Rattle.xslt_match.proofs.Filters.{iff, and-false, and-true, or-false, eqb-turned, any-same, any-none, any-either, any-swap, filter-swap, filter-narrow, any-one, mem-out, Found, found, kept-passes, kept-listed, any-given, Given, given}
 
 -- a test of the nodes that a step leads to from some nodes, by each of these
@@ -69,9 +69,9 @@ typed_at (x ∷ xs) y ys h = typed_at xs y ys h.2
 
 -- the nodes from which the last steps lead on to n
 pub record Going (T : Table) (steps rest : List TypedPatternStepTree) (nodes : List ℕ) (n : ℕ) : Type 0 where
-  pub behind : List TypedPatternStepTree
-  pub parted : steps ≡ rest ++ behind
-  pub lead_on : nodes ≡ filter (λ k. reaches T behind (k ∷ []) n) (order T)
+  pub passed : List TypedPatternStepTree
+  pub parted : steps ≡ rest ++ passed
+  pub lead_on : nodes ≡ filter (λ k. reaches T passed (k ∷ []) n) (order T)
 
 plain-kid : (o : Option Kind) → can_be_kid o ≡ true → is_attribute_kind o ≡ false
 plain-kid None h = refl
@@ -339,31 +339,31 @@ module _ (T : Table) (form : WellFormed T) (ord : Ordered T) (up : HasWaysUp T) 
       PatternStepsTyped steps → Going T steps rest nodes n →
       rest ≡ front ++ s ∷ [] → holders ≡ filter_map (holder T s) nodes → OnOneWay T holders
   holders_way steps rest front s nodes holders n typed g e eh =
-      let parted : steps ≡ (front ++ s ∷ []) ++ g.behind = g.parted ∙ ap (λ l. l ++ g.behind) e in
-      let later : PatternStepsTyped (s ∷ g.behind) = typed_at front s g.behind (subst PatternStepsTyped parted typed) in
+      let parted : steps ≡ (front ++ s ∷ []) ++ g.passed = g.parted ∙ ap (λ l. l ++ g.passed) e in
+      let later : PatternStepsTyped (s ∷ g.passed) = typed_at front s g.passed (subst PatternStepsTyped parted typed) in
       λ a b ha hb. one_way (length (ancestors T n)) a b n (omega arith) (on a later.2 (sym (ap (mem a) eh) ∙ ha)) (on b later.2 (sym (ap (mem b) eh) ∙ hb))
     where
-      on : (p : ℕ) → PatternStepsTyped g.behind → mem p (filter_map (holder T s) nodes) ≡ true → mem p (above T n) ≡ true
+      on : (p : ℕ) → PatternStepsTyped g.passed → mem p (filter_map (holder T s) nodes) ≡ true → mem p (above T n) ≡ true
       on p later h =
           let f : Given (holder T s) p nodes = given (holder T s) p nodes h in
-          let r : reaches T g.behind (f.source ∷ []) n ≡ true =
-          kept-passes (λ k. reaches T g.behind (k ∷ []) n) f.source (order T) (sym (ap (mem f.source) g.lead_on) ∙ f.listed) in
-          above_above (length (ancestors T n)) p f.source n (omega arith) (holder_above s f.source p f.gives) (reach_above g.behind f.source n later r)
+          let r : reaches T g.passed (f.source ∷ []) n ≡ true =
+          kept-passes (λ k. reaches T g.passed (k ∷ []) n) f.source (order T) (sym (ap (mem f.source) g.lead_on) ∙ f.listed) in
+          above_above (length (ancestors T n)) p f.source n (omega arith) (holder_above s f.source p f.gives) (reach_above g.passed f.source n later r)
 
-  -- one step more is behind
+  -- one step more is passed
   pub going_on : (steps rest front : List TypedPatternStepTree) (s : TypedPatternStepTree) (nodes holders ends way next : List ℕ) (n : ℕ) →
       PatternStepsTyped steps → Going T steps rest nodes n →
       rest ≡ front ++ s ∷ [] → holders ≡ filter_map (holder T s) nodes → ((m : ℕ) → list_any (looks_at T s.join m) ends ≡ list_any (looks_at T s.join m) holders) →
       way ≡ starts T false n → next ≡ filter (λ m. list_any (looks_at T s.join m) ends) way → Going T steps front next n
   going_on steps rest front s nodes holders ends way next n typed g e eh same ew en =
-      let parted : steps ≡ (front ++ s ∷ []) ++ g.behind = g.parted ∙ ap (λ l. l ++ g.behind) e in
-      let later : PatternStepsTyped (s ∷ g.behind) = typed_at front s g.behind (subst PatternStepsTyped parted typed) in
+      let parted : steps ≡ (front ++ s ∷ []) ++ g.passed = g.parted ∙ ap (λ l. l ++ g.passed) e in
+      let later : PatternStepsTyped (s ∷ g.passed) = typed_at front s g.passed (subst PatternStepsTyped parted typed) in
       record {
-        behind = s ∷ g.behind;
-        parted = parted ∙ append_assoc front (s ∷ []) g.behind;
+        passed = s ∷ g.passed;
+        parted = parted ∙ append_assoc front (s ∷ []) g.passed;
         lead_on = en
             ∙ (filter-same (λ m. list_any (looks_at T s.join m) ends) (λ m. list_any (looks_at T s.join m) holders) way (λ m h. same m)
-            ∙ step_along s g.behind n nodes holders way later g.lead_on eh ew);
+            ∙ step_along s g.passed n nodes holders way later g.lead_on eh ew);
       }
 
   -- the nodes that stand at a step are those from which the later steps lead on and to which the step leads

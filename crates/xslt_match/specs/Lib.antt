@@ -1,4 +1,3 @@
 pub mod Positional
 pub mod Matching
-pub mod Leading
-pub mod Ends
+pub mod inner

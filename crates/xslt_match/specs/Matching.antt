@@ -30,7 +30,7 @@ is_anywhere joins.DoubleSlash = true
 abbrev pub is_candidate : Table → TypedPatternStepTree → ℕ → ℕ → Bool
 is_candidate T s m k = on_axis T s.axis m k && passes T s.axis s.test k
 
--- a step leads from a node to its candidates there, and behind `//` to its candidates at the nodes of the node's axis
+-- a step leads from a node to its candidates there, and after `//` to its candidates at the nodes of the node's axis
 -- descendant-or-self
 abbrev pub leads : Table → TypedPatternStepTree → ℕ → ℕ → Bool
 leads T s m k =
@@ -82,7 +82,7 @@ chains T L n (s ∷ ss) ms alive =
 abbrev pub path_matches : Table → Lets → ℕ → TypedPathTree → Evaluation EvalFault Bool
 path_matches T L n p = chains T L n p.steps (starts T p.from_root n) (starts T p.from_root n)
 
--- all path patterns are tested, also behind one that matches, since the first fault is the answer
+-- all path patterns are tested, also after one that matches, since the first fault is the answer
 abbrev pub some_path : Table → Lets → ℕ → List TypedPathTree → Evaluation EvalFault Bool
 some_path T L n [] = done false
 some_path T L n (p ∷ ps) = bind (path_matches T L n p) (λ b. bind (some_path T L n ps) (λ c. done (b || c)))

@@ -6,14 +6,15 @@ ghost use Rattle.xp_outcome.specs.Running.{Ran};
 ghost use Rattle.xp_meaning.specs.Results.{shown};
 ghost use Rattle.xp_typed_tree.specs.TypedView.{path_seen, pattern_step_seen};
 ghost use Rattle.xp_typed_tree.specs.WellTyped.{PatternStepsTyped};
-ghost use Rattle.xslt_match.specs.Ends.{ends_elsewhere};
+ghost use Rattle.xslt_match.specs.inner.Ends.{ends_elsewhere};
 ghost use Rattle.xslt_match.specs.Matching.{chains, path_matches, starts};
 
 use crate::leading::{led_to, starts, way_to};
 use crate::matching::Matcher;
 use crate::testing::is_among;
-use doc_axes::{copied_nodes, passes};
+use doc_axes::passes;
 use doc_tree::{NodeId, Tree};
+use sch_base::ItemList;
 use std::sync::ledger::Ledger;
 use xp_eval::Caller;
 use xp_outcome::{Recorder, Steps};
@@ -62,8 +63,8 @@ impl Matcher<'_> {
             (shown result) reads.old reads.new steps.old steps.new }
     {
         let Caller { alloc, tree } = self.evaluator.caller;
-        let mut nodes = copied_nodes(alloc, first)?;
-        let mut alive = copied_nodes(alloc, first)?;
+        let mut nodes = ItemList::copy_of(alloc, first)?;
+        let mut alive = ItemList::copy_of(alloc, first)?;
         let mut later = path_steps;
         while let Some((step, rest)) = later.split_first() {
             nodes = self.standing(step, rest, nodes.as_slice(), way)?;

@@ -12,7 +12,7 @@ ghost use Rattle.doc_tree.specs.Walks.{above, order};
 ghost use Rattle.doc_axes.specs.Axes.{backwards, is_attribute_kind};
 ghost use Rattle.xp_typed_tree.specs.TypedView.{pattern_step_seen};
 ghost use Rattle.xp_typed_tree.specs.WellTyped.{is_pattern_axis, PatternStepsTyped};
-ghost use Rattle.xslt_match.specs.Leading.{is_beside, fits, holder, looks_at, looks_there, OnOneWay};
+ghost use Rattle.xslt_match.specs.inner.Leading.{is_beside, fits, holder, looks_at, looks_there, OnOneWay};
 ghost use Rattle.xslt_match.specs.Matching.{leads, reaches, standing, starts};
 
 use crate::matching::Matcher;
@@ -235,8 +235,7 @@ fn origins(
         v ≡ filter (λ k. reaches tree.now.nodes (map pattern_step_seen steps.now) (k ∷ []) n) (order tree.now.nodes)) }
 {
     tree.laws();
-    let mut nodes = ItemList::new(alloc);
-    nodes.push(n)?;
+    let mut nodes = ItemList::of_one(alloc, n)?;
     let mut rest = steps;
     while let Some((last, earlier)) = rest.split_last() {
         let parents = holders(alloc, tree, last, nodes.as_slice())?;

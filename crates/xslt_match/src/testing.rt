@@ -1,6 +1,6 @@
 //! The tests of the nodes that stand at a step of a path pattern, by the step's predicates.
 
-ghost use Rattle.std.specs.Prelude.{◌≡◌, [], ◌∷◌, ◌++◌, if◌then◌else◌, OnOk};
+ghost use Rattle.std.specs.Prelude.{◌≡◌};
 ghost use Rattle.doc_tree.specs.Lists.{mem};
 ghost use Rattle.doc_tree.specs.Table.{parent_of};
 ghost use Rattle.xp_outcome.specs.Running.{Ran};
@@ -12,7 +12,6 @@ use crate::matching::Matcher;
 use crate::positional::some_positional;
 use doc_tree::{NodeId, NodeList};
 use sch_base::ItemList;
-use std::alloc::AllocError;
 use std::sync::ledger::Ledger;
 use xp_eval::Context;
 use xp_outcome::{Recorder, Steps};
@@ -34,7 +33,7 @@ impl Matcher<'_> {
         let mut left = ItemList::new(self.evaluator.caller.alloc);
         for k in nodes {
             let stays = self.survives(step, *k, reads, steps)?;
-            push_if(&mut left, *k, stays)?;
+            left.push_if(*k, stays)?;
         }
         Ok(left)
     }
@@ -87,16 +86,6 @@ impl Matcher<'_> {
             None => Ok(false),
         }
     }
-}
-
-/// Puts the node at the end of the list, if it stays.
-fn push_if(list: &mut NodeList, n: NodeId, stays: bool) -> Result<(), AllocError>
-    ensures { OnOk result (list.new ≡ list.old ++ (if stays then n ∷ [] else [])) }
-{
-    if stays {
-        list.push(n)?;
-    }
-    Ok(())
 }
 
 /// Whether a node is among some nodes.

@@ -19,7 +19,7 @@ use Rattle.xp_meaning.proofs.Choices.{came_before, same_ok}
 use Rattle.xslt_match.specs.Matching.{step_of, is_anywhere, is_candidate, leads, led_to, reaches}
 use Rattle.xslt_match.proofs.Filters.{and-true, or-false, Found, found}
 use Rattle.xslt_match.proofs.StepsAlong.{reaches_from}
-use Rattle.xslt_match_laws.specs.Reading.{behind, as_steps}
+use Rattle.xslt_match_laws.specs.Reading.{after_join, as_steps}
 use Rattle.xslt_match_laws.proofs.Gathering.{answered-done, mem-filter, both, parts, in-filter, any-at, Drawn, given, drawn}
 use Rattle.xslt_match_laws.proofs.Choosing.{candidates-are, found-is, selected-candidate}
 
@@ -145,7 +145,7 @@ pub record Origin (T : Table) (L : Lets) (n : ℕ) (s : TypedPatternStepTree) (m
   pub looks : Looks T s.join node at
   pub selects : Selects T L n s at k
 
--- a pattern's step from some nodes, and the steps behind it
+-- a pattern's step from some nodes, and the steps after it
 pub record Walked (T : Table) (L : Lets) (n : ℕ) (s : TypedPatternStepTree) (rest : TypedSteps) (ms ns : List ℕ) : Type 0 where
   pub to : List ℕ
   pub go : (path T (steps_meant T L rest) n to).answer ≡ Ok ns
@@ -171,7 +171,7 @@ module _ (T : Table) (L : Lets) (n : ℕ) (s : TypedPatternStepTree) where
       from : (k : ℕ) → Drawn (at_each T n (step_of T L s)) (whole_set T n) ms k → Origin T L n s ms k
       from k d = record { node = d.at; listed = d.listed; at = d.at; looks = itself d.at; selects = record { nodes = d.value; answer = d.answer; among = d.drawn } }
 
-  -- the step behind `descendant-or-self::node()`
+  -- the step after `descendant-or-self::node()`
   further : (rest : TypedSteps) (ms ns : List ℕ) → ((m x : ℕ) → Looks T s.join m x → Looks T joins.DoubleSlash m x) → ((m x : ℕ) → Looks T joins.DoubleSlash m x → Looks T s.join m x) →
       (path T (steps_meant T L (typed_step axes.DescendantOrSelf tests.Any no_typed (typed_step s.axis s.test s.predicates rest))) n ms).answer ≡ Ok ns →
       Walked T L n s rest ms ns
@@ -195,10 +195,10 @@ module _ (T : Table) (L : Lets) (n : ℕ) (s : TypedPatternStepTree) where
           let q = parts (mem d.at (order T)) (on_axis T axes.DescendantOrSelf u.at d.at) (sym (anywhere-is T n u.at u.value u.answer d.at) ∙ u.drawn) in
           record { node = u.at; listed = u.listed; at = d.at; looks = looked u.at d.at (q.1, q.0); selects = record { nodes = d.value; answer = d.answer; among = d.drawn } }
 
-  walked : (rest : TypedSteps) (ms ns : List ℕ) → (path T (steps_meant T L (behind s.join (typed_step s.axis s.test s.predicates rest))) n ms).answer ≡ Ok ns → Walked T L n s rest ms ns
+  walked : (rest : TypedSteps) (ms ns : List ℕ) → (path T (steps_meant T L (after_join s.join (typed_step s.axis s.test s.predicates rest))) n ms).answer ≡ Ok ns → Walked T L n s rest ms ns
   walked rest ms ns is = by s.join refl is
     where
-      by : (j : Join) → s.join ≡ j → (path T (steps_meant T L (behind j (typed_step s.axis s.test s.predicates rest))) n ms).answer ≡ Ok ns → Walked T L n s rest ms ns
+      by : (j : Join) → s.join ≡ j → (path T (steps_meant T L (after_join j (typed_step s.axis s.test s.predicates rest))) n ms).answer ≡ Ok ns → Walked T L n s rest ms ns
       by joins.Nothing e h = at-once rest ms ns (λ m x l. subst (λ j. Looks T j m x) e l) (λ m. subst (λ j. Looks T j m m) (sym e) refl) h
       by joins.Slash e h = at-once rest ms ns (λ m x l. subst (λ j. Looks T j m x) e l) (λ m. subst (λ j. Looks T j m m) (sym e) refl) h
       by joins.DoubleSlash e h = further rest ms ns (λ m x l. subst (λ j. Looks T j m x) e l) (λ m x l. subst (λ j. Looks T j m x) (sym e) l) h

@@ -6,15 +6,15 @@ use Rattle.xp_tree.specs.declared.pattern.Join.{Join}
 use Rattle.xp_tree.specs.declared.pattern.Join.TheVariants as joins
 use Rattle.xp_typed_tree.specs.TypedTree.{TypedTree, TypedTrees, TypedPlace, TypedSteps, TypedPatternStepTree, TypedPathTree, union, location, at_root, at_context, no_more_steps, typed_step, no_typed, typed}
 
--- behind `//` a step stands behind `descendant-or-self::node()`
-abbrev pub behind : Join → TypedSteps → TypedSteps
-behind joins.Nothing steps = steps
-behind joins.Slash steps = steps
-behind joins.DoubleSlash steps = typed_step axes.DescendantOrSelf tests.Any no_typed steps
+-- after `//` a step stands after `descendant-or-self::node()`
+abbrev pub after_join : Join → TypedSteps → TypedSteps
+after_join joins.Nothing steps = steps
+after_join joins.Slash steps = steps
+after_join joins.DoubleSlash steps = typed_step axes.DescendantOrSelf tests.Any no_typed steps
 
 abbrev pub as_steps : List TypedPatternStepTree → TypedSteps
 as_steps [] = no_more_steps
-as_steps (s ∷ ss) = behind s.join (typed_step s.axis s.test s.predicates (as_steps ss))
+as_steps (s ∷ ss) = after_join s.join (typed_step s.axis s.test s.predicates (as_steps ss))
 
 abbrev pub as_place : Bool → TypedPlace
 as_place true = at_root

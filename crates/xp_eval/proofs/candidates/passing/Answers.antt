@@ -3,7 +3,7 @@ use Rattle.doc_tree.specs.Lists.{mem}
 use Rattle.doc_tree.proofs.ListLemmas.{mem-get}
 use Rattle.xp_eval.proofs.candidates.passing.Goals as goal
 
-pub push_passing-requires : goal.push_passing-requires
-push_passing-requires c =
+pub passes-requires : goal.passes-requires
+passes-requires c =
     c.requires c.n-item.result
     (subst (λ m. mem m c.args.nodes.now ≡ true) (sym c.n-item.is) (mem-get c.args.nodes.now c.loop-n.n-index c.n-item.result c.loop-n-test.true))

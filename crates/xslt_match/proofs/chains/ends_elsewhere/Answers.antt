@@ -1,7 +1,7 @@
 use Rattle.std.proofs.Common.{◌∙◌, ap, sym, map}
 use Rattle.std.specs.Prelude.{not}
 use Rattle.xp_typed_tree.specs.TypedView.{pattern_step_seen}
-use Rattle.xslt_match.specs.Ends.{ends_elsewhere}
+use Rattle.xslt_match.specs.inner.Ends.{ends_elsewhere}
 use Rattle.xslt_match.proofs.Chaining.{ends-last}
 use Rattle.xslt_match.proofs.chains.ends_elsewhere.Goals as goal
 

@@ -2,7 +2,7 @@
 use Rattle.std.proofs.Common.{◌≡◌, ℕ, true, ◌||◌, IfSome, sym, ap, ◌∙◌, subst}
 use Rattle.doc_tree.specs.Lists.{mem}
 use Rattle.doc_tree.specs.Walks.{above}
-use Rattle.xslt_match.specs.Leading.{looks_there}
+use Rattle.xslt_match.specs.inner.Leading.{looks_there}
 use Rattle.xslt_match.proofs.StepsAlong.{deeper_below, deeper_above}
 use Rattle.xslt_match.proofs.leading.deeper.Goals as goal
 

@@ -2,7 +2,7 @@ use Rattle.std.proofs.Common.{◌≡◌, ℕ, true, take, IfSome}
 use Rattle.std.specs.List.{list_any}
 use Rattle.doc_tree.specs.Lists.{mem}
 use Rattle.doc_tree.specs.Walks.{above}
-use Rattle.xslt_match.specs.Leading.{looks_there}
+use Rattle.xslt_match.specs.inner.Leading.{looks_there}
 use Rattle.xslt_match.proofs.leading.deepest.Given as goal
 
 abbrev pub invariant-loop-p : goal.invariant-loop-p

@@ -4,7 +4,7 @@ use Rattle.std.proofs.lemmas.Result.{IfOk-weaker}
 use Rattle.std.specs.List.{list_any}
 use Rattle.doc_tree.specs.Lists.{mem}
 use Rattle.doc_tree.specs.Walks.{above}
-use Rattle.xslt_match.specs.Leading.{looks_at}
+use Rattle.xslt_match.specs.inner.Leading.{looks_at}
 use Rattle.xslt_match.proofs.leading.ends_of.Goals as goal
 
 pub returns-in-DoubleSlash : goal.returns-in-DoubleSlash

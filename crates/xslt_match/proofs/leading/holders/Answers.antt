@@ -2,7 +2,7 @@
 use Rattle.std.proofs.Common.{◌≡◌, ℕ, ◌+◌, ◌++◌, ◌∷◌, [], List, Option, take, get_or, sym, ap, ◌∙◌, append-nil}
 use Rattle.std.specs.List.{filter_map, cons_option}
 use Rattle.xp_typed_tree.specs.TypedView.{pattern_step_seen}
-use Rattle.xslt_match.specs.Leading.{holder}
+use Rattle.xslt_match.specs.inner.Leading.{holder}
 use Rattle.xslt_match.proofs.Filters.{given_more}
 use Rattle.xslt_match.proofs.leading.holders.Goals as goal
 use Rattle.xslt_match.proofs.leading.holders.Goals.{in-Some+in_ok-push, in_default}

@@ -1,6 +1,6 @@
 use Rattle.std.proofs.Common.{◌≡◌, filter, take}
 use Rattle.std.specs.List.{list_any}
-use Rattle.xslt_match.specs.Leading.{looks_at}
+use Rattle.xslt_match.specs.inner.Leading.{looks_at}
 use Rattle.xslt_match.proofs.leading.looking_at.Given as goal
 
 abbrev pub invariant-loop-m : goal.invariant-loop-m

@@ -1,10 +1,10 @@
--- One step more stands behind, from where it leads on.
+-- One step more is passed, from where it leads on.
 use Rattle.std.proofs.Common.{◌≡◌, ℕ, List, [], ◌∷◌, ◌++◌, map, sym, ap, ◌∙◌, append-nil}
 use Rattle.std.proofs.lemmas.List.{map-append}
 use Rattle.std.specs.List.{list_any, filter_map}
 use Rattle.xp_typed_tree.specs.TypedView.{pattern_step_seen}
 use Rattle.xp_typed_tree.specs.TypedTree.{TypedPatternStepTree}
-use Rattle.xslt_match.specs.Leading.{holder, looks_at}
+use Rattle.xslt_match.specs.inner.Leading.{holder, looks_at}
 use Rattle.xslt_match.proofs.StepsAlong.{start, going_on, holders_way}
 use Rattle.xslt_match.proofs.leading.origins.Goals as goal
 
@@ -13,10 +13,9 @@ loop-last-init c =
     let T = c.args.tree.now.nodes in
     let laws = c.laws.ensures in
     record {
-      behind = [];
+      passed = [];
       parted = sym (append-nil (map pattern_step_seen c.args.steps.now));
-      lead_on = c.in_ok-push.ensures.pushed ∙ (ap (λ l. l ++ c.args.n ∷ []) c.new-nodes.ensures
-          ∙ start T laws.well_formed laws.ordered laws.ways_up c.args.n c.requires.lives);
+      lead_on = c.in_ok-nodes.ensures ∙ start T laws.well_formed laws.ordered laws.ways_up c.args.n c.requires.lives;
     }
 
 pub loop-last-preserved : goal.loop-last-preserved
@@ -32,8 +31,8 @@ loop-last-preserved c =
     let same : (m : ℕ) → list_any (looks_at T s.join m) c.as_slice-in-Some.result.now ≡ list_any (looks_at T s.join m) c.in_ok-parents.parents =
     λ m. ap (list_any (looks_at T s.join m)) c.as_slice-in-Some.ensures ∙ c.in_ok-ends.ensures m in
     going_on T laws.well_formed laws.ordered laws.ways_up (map pattern_step_seen c.args.steps.now) (map pattern_step_seen c.loop-last.rest.now) front s
-    c.loop-last.nodes c.in_ok-parents.parents c.as_slice-in-Some.result.now c.args.way.now c.in_ok-nodes.nodes c.args.n c.requires.typed c.loop-last.invariant rest holders same
-    c.requires.way c.in_ok-nodes.ensures
+    c.loop-last.nodes c.in_ok-parents.parents c.as_slice-in-Some.result.now c.args.way.now c.in_ok-nodes-2.nodes c.args.n c.requires.typed c.loop-last.invariant rest holders same
+    c.requires.way c.in_ok-nodes-2.ensures
 
 pub ends_of-requires : goal.ends_of-requires
 ends_of-requires c =

@@ -1,5 +1,5 @@
 use Rattle.std.specs.Prelude.{flat_map}
-use Rattle.std.proofs.Common.{ℕ, ◌+◌, ◌∷◌, [], ◌++◌, List, drop, length, refl, sym, ◌∙◌, ap}
+use Rattle.std.proofs.Common.{if◌then◌else◌, ℕ, ◌+◌, ◌∷◌, [], ◌++◌, List, drop, length, refl, sym, ◌∙◌, ap}
 use Rattle.doc_axes.specs.Sets.{in_order}
 use Rattle.xp_typed_tree.specs.TypedView.{typed_tree_of, typed_seen}
 use Rattle.xp_outcome.specs.Evaluation.{done, bind}
@@ -12,7 +12,7 @@ use Rattle.xp_meaning.specs.Paths.{Meaning, chosen, placed, kept, filtered, step
 use Rattle.xp_meaning.specs.Functions.{applied}
 use Rattle.xp_meaning.specs.Evaluation.{meaning, meanings}
 use Rattle.xp_eval.specs.Steps.{step_meant}
-use Rattle.xp_eval.specs.Wants.{wanted_by}
+use Rattle.xp_eval.specs.inner.Wants.{wanted_by}
 use Rattle.xp_eval.proofs.Loops.{some_true-next, some_true-end, all_true-next, all_true-end, filtered-next, filtered-end, compared-next, compared-end, combined-next, combined-end, path-next, path-end}
 use Rattle.xp_eval.proofs.Runs.{onto_goes, onto_stops, chosen_yes, chosen_no, gather_goes, gather_stops, gather_ends, gather_begins, gather_begins_alone, ran_given_fault, ran_given_ok, placed_is}
 use Rattle.xp_eval.proofs.Views.{view-Or, view-And, view-Compare, view-Arith, view-Negate, view-Union, view-Path, view-Filter, view-Variable, view-Literal, view-Number, view-Call, view-Root, view-Here, view-From}
@@ -168,7 +168,7 @@ step_set-returns-in_err-push_all g t c =
 
 pub step_set-loop-n-preserved : goal.step_set-loop-n-preserved
 step_set-loop-n-preserved g t c =
-    gather_goes (λ (_ : ℕ) (n : ℕ). step_at c.args.self.now.caller.tree.now.nodes (step_meant c.args.self.now.caller.tree.now.nodes c.args.self.now.lets.now c.args.step.now) c.args.current n) (λ (_ : ℕ) (_ : ℕ) (ms : List ℕ). ms) (λ ms. done (in_order c.args.self.now.caller.tree.now.nodes ms)) c.loop-n.selected (c.loop-n.n-index + 1) (drop c.loop-n.n-index c.args.nodes.now) c.n-item.result (drop (c.loop-n.n-index + 1) c.args.nodes.now) (next_item c.args.nodes.now c.loop-n.n-index c.n-item.result c.loop-n-test.true c.n-item.is) (c.in_ok-push_all.ensures ∙ ap (λ ms. c.loop-n.selected ++ ms) c.as_slice.ensures) c.loop-n.invariant c.in_ok-found.ensures
+    gather_goes (λ (_ : ℕ) (n : ℕ). step_at c.args.self.now.caller.tree.now.nodes (step_meant c.args.self.now.caller.tree.now.nodes c.args.self.now.lets.now c.args.step.now) c.args.current n) (λ (_ : ℕ) (_ : ℕ) (ms : List ℕ). ms) (λ ms. done (in_order c.args.self.now.caller.tree.now.nodes ms)) c.loop-n.selected (c.loop-n.n-index + 1) (drop c.loop-n.n-index c.args.nodes.now) c.n-item.result (drop (c.loop-n.n-index + 1) c.args.nodes.now) (next_item c.args.nodes.now c.loop-n.n-index c.n-item.result c.loop-n-test.true c.n-item.is) (c.in_ok-push_all.ensures.pushed ∙ ap (λ ms. c.loop-n.selected ++ ms) c.as_slice.ensures) c.loop-n.invariant c.in_ok-found.ensures
 
 pub step_set-returns-in_err-set : goal.step_set-returns-in_err-set
 step_set-returns-in_err-set g t c =
@@ -210,33 +210,33 @@ pub keep-returns-in_err-value : goal.keep-returns-in_err-value
 keep-returns-in_err-value g t c =
     exit_same _ _ c.from_residual-in_err-value.ensures.1 (gather_stops (λ position n. meaning c.args.self.now.caller.tree.now.nodes c.args.self.now.lets.now (typed_tree_of c.args.predicate.now) (placed c.args.current (length c.args.nodes.now) position n)) chosen done c.loop-n.kept (c.loop-n.n-index + 1) (drop c.loop-n.n-index c.args.nodes.now) c.n-item.result (drop (c.loop-n.n-index + 1) c.args.nodes.now) (next_item c.args.nodes.now c.loop-n.n-index c.n-item.result c.loop-n-test.true c.n-item.is) _ c.loop-n.invariant.rest (ran_alike (ap (λ a. meaning c.args.self.now.caller.tree.now.nodes c.args.self.now.lets.now (typed_tree_of c.args.predicate.now) a) (placed_is c.args.current _ _ _ _ c.n-item.result c.in_ok-size.ensures (ap (λ k. k + 1) c.loop-n.invariant.place))) c.in_err-value.ensures))
 
-pub keep-returns-in_err-push_chosen : goal.keep-returns-in_err-push_chosen
-keep-returns-in_err-push_chosen g t c =
-    exit_memory _ c.from_residual-in_err-push_chosen.ensures.1 (onto_late (gather_goes (λ position n. meaning c.args.self.now.caller.tree.now.nodes c.args.self.now.lets.now (typed_tree_of c.args.predicate.now) (placed c.args.current (length c.args.nodes.now) position n)) chosen done c.loop-n.kept (c.loop-n.n-index + 1) (drop c.loop-n.n-index c.args.nodes.now) c.n-item.result (drop (c.loop-n.n-index + 1) c.args.nodes.now) (next_item c.args.nodes.now c.loop-n.n-index c.n-item.result c.loop-n-test.true c.n-item.is) refl c.loop-n.invariant.rest (ran_alike (ap (λ a. meaning c.args.self.now.caller.tree.now.nodes c.args.self.now.lets.now (typed_tree_of c.args.predicate.now) a) (placed_is c.args.current _ _ _ _ c.n-item.result c.in_ok-size.ensures (ap (λ k. k + 1) c.loop-n.invariant.place))) c.in_ok-value.ensures)))
+pub keep-returns-in_err-push_if : goal.keep-returns-in_err-push_if
+keep-returns-in_err-push_if g t c =
+    exit_memory _ c.from_residual-in_err-push_if.ensures.1 (onto_late (gather_goes (λ position n. meaning c.args.self.now.caller.tree.now.nodes c.args.self.now.lets.now (typed_tree_of c.args.predicate.now) (placed c.args.current (length c.args.nodes.now) position n)) chosen done c.loop-n.kept (c.loop-n.n-index + 1) (drop c.loop-n.n-index c.args.nodes.now) c.n-item.result (drop (c.loop-n.n-index + 1) c.args.nodes.now) (next_item c.args.nodes.now c.loop-n.n-index c.n-item.result c.loop-n-test.true c.n-item.is) refl c.loop-n.invariant.rest (ran_alike (ap (λ a. meaning c.args.self.now.caller.tree.now.nodes c.args.self.now.lets.now (typed_tree_of c.args.predicate.now) a) (placed_is c.args.current _ _ _ _ c.n-item.result c.in_ok-size.ensures (ap (λ k. k + 1) c.loop-n.invariant.place))) c.in_ok-value.ensures)))
 
 pub keep-loop-n-preserved : goal.keep-loop-n-preserved
 keep-loop-n-preserved g t c =
-    record { rest = gather_goes (λ position n. meaning c.args.self.now.caller.tree.now.nodes c.args.self.now.lets.now (typed_tree_of c.args.predicate.now) (placed c.args.current (length c.args.nodes.now) position n)) chosen done c.loop-n.kept (c.loop-n.n-index + 1) (drop c.loop-n.n-index c.args.nodes.now) c.n-item.result (drop (c.loop-n.n-index + 1) c.args.nodes.now) (next_item c.args.nodes.now c.loop-n.n-index c.n-item.result c.loop-n-test.true c.n-item.is) (c.in_ok-push_chosen.ensures ∙ ap (λ k. c.loop-n.kept ++ chosen k c.n-item.result c.in_ok-value.value) (ap (λ k. k + 1) c.loop-n.invariant.place)) c.loop-n.invariant.rest (ran_alike (ap (λ a. meaning c.args.self.now.caller.tree.now.nodes c.args.self.now.lets.now (typed_tree_of c.args.predicate.now) a) (placed_is c.args.current _ _ _ _ c.n-item.result c.in_ok-size.ensures (ap (λ k. k + 1) c.loop-n.invariant.place))) c.in_ok-value.ensures); place = ap (λ k. k + 1) c.loop-n.invariant.place }
+    record { rest = gather_goes (λ position n. meaning c.args.self.now.caller.tree.now.nodes c.args.self.now.lets.now (typed_tree_of c.args.predicate.now) (placed c.args.current (length c.args.nodes.now) position n)) chosen done c.loop-n.kept (c.loop-n.n-index + 1) (drop c.loop-n.n-index c.args.nodes.now) c.n-item.result (drop (c.loop-n.n-index + 1) c.args.nodes.now) (next_item c.args.nodes.now c.loop-n.n-index c.n-item.result c.loop-n-test.true c.n-item.is) (c.in_ok-push_if.ensures.pushed ∙ ap (λ b. c.loop-n.kept ++ (if b then c.n-item.result ∷ [] else [])) c.holds_at.ensures ∙ ap (λ k. c.loop-n.kept ++ chosen k c.n-item.result c.in_ok-value.value) (ap (λ k. k + 1) c.loop-n.invariant.place)) c.loop-n.invariant.rest (ran_alike (ap (λ a. meaning c.args.self.now.caller.tree.now.nodes c.args.self.now.lets.now (typed_tree_of c.args.predicate.now) a) (placed_is c.args.current _ _ _ _ c.n-item.result c.in_ok-size.ensures (ap (λ k. k + 1) c.loop-n.invariant.place))) c.in_ok-value.ensures); place = ap (λ k. k + 1) c.loop-n.invariant.place }
 
 pub keep-returns : goal.keep-returns
 keep-returns g t c =
     onto_done (gather_ends (λ position n. meaning c.args.self.now.caller.tree.now.nodes c.args.self.now.lets.now (typed_tree_of c.args.predicate.now) (placed c.args.current (length c.args.nodes.now) position n)) chosen done c.loop-n.kept (c.loop-n.n-index + 1) (drop c.loop-n.n-index c.args.nodes.now) (no_item c.args.nodes.now c.loop-n.n-index c.loop-n-test.false) c.loop-n.invariant.rest)
 
-pub start_nodes-returns-in_err-one_node-in-Root : goal.start_nodes-returns-in_err-one_node-in-Root
-start_nodes-returns-in_err-one_node-in-Root g t c =
+pub start_nodes-returns-in_err-of_one-in-Root : goal.start_nodes-returns-in_err-of_one-in-Root
+start_nodes-returns-in_err-of_one-in-Root g t c =
     exit_memory _ c.from_residual.ensures.1 (ran_late _ _ _)
 
-pub start_nodes-returns-in_err-one_node-in-Here : goal.start_nodes-returns-in_err-one_node-in-Here
-start_nodes-returns-in_err-one_node-in-Here g t c =
-    exit_memory _ c.from_residual-in_err-one_node-in-Here.ensures.1 (ran_late _ _ _)
+pub start_nodes-returns-in_err-of_one-in-Here : goal.start_nodes-returns-in_err-of_one-in-Here
+start_nodes-returns-in_err-of_one-in-Here g t c =
+    exit_memory _ c.from_residual-in_err-of_one-in-Here.ensures.1 (ran_late _ _ _)
 
-pub start_nodes-returns-in_ok-one_node-in-Root : goal.start_nodes-returns-in_ok-one_node-in-Root
-start_nodes-returns-in_ok-one_node-in-Root g t c =
-    ran_alike (view-Root c.args.self.now.caller.tree.now.nodes c.args.self.now.lets.now c.args.start.now c.args.at.now c.in-Root.is) (ran_done_at _ _ _ (c.in_ok-one_node-in-Root.ensures ∙ ap (λ n. n ∷ []) c.root.ensures))
+pub start_nodes-returns-in_ok-of_one-in-Root : goal.start_nodes-returns-in_ok-of_one-in-Root
+start_nodes-returns-in_ok-of_one-in-Root g t c =
+    ran_alike (view-Root c.args.self.now.caller.tree.now.nodes c.args.self.now.lets.now c.args.start.now c.args.at.now c.in-Root.is) (ran_done_at _ _ _ (c.in_ok-of_one-in-Root.ensures ∙ ap (λ n. n ∷ []) c.root.ensures))
 
-pub start_nodes-returns-in_ok-one_node-in-Here : goal.start_nodes-returns-in_ok-one_node-in-Here
-start_nodes-returns-in_ok-one_node-in-Here g t c =
-    ran_alike (view-Here c.args.self.now.caller.tree.now.nodes c.args.self.now.lets.now c.args.start.now c.args.at.now c.in-Here.is) (ran_done_at _ _ _ c.in_ok-one_node-in-Here.ensures)
+pub start_nodes-returns-in_ok-of_one-in-Here : goal.start_nodes-returns-in_ok-of_one-in-Here
+start_nodes-returns-in_ok-of_one-in-Here g t c =
+    ran_alike (view-Here c.args.self.now.caller.tree.now.nodes c.args.self.now.lets.now c.args.start.now c.args.at.now c.in-Here.is) (ran_done_at _ _ _ c.in_ok-of_one-in-Here.ensures)
 
 pub start_nodes-returns-in-From : goal.start_nodes-returns-in-From
 start_nodes-returns-in-From g t c =

@@ -8,7 +8,7 @@ use Rattle.xp_meaning.specs.Conversions.{as_wanted}
 use Rattle.xp_meaning.specs.Paths.{chosen, placed, kept, filtered, step_at, step_from, path}
 use Rattle.xp_meaning.specs.Evaluation.{meaning, meanings, some_true, all_true, compared, combined, values, comparands_meant, combinands_meant, steps_meant}
 use Rattle.xp_eval.specs.Steps.{step_meant}
-use Rattle.xp_eval.specs.Wants.{wanted_by}
+use Rattle.xp_eval.specs.inner.Wants.{wanted_by}
 use Rattle.xp_eval.proofs.evaluator.Evaluator.+evaluation.Given as goal
 
 abbrev pub invariant-some_true-loop-operand : goal.invariant-some_true-loop-operand

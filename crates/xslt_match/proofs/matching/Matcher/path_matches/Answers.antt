@@ -3,7 +3,7 @@ use Rattle.xp_outcome.proofs.Runs.{ran_alike, ran_done, ran_late}
 use Rattle.xp_meaning.proofs.Exits.{exit_memory}
 use Rattle.xp_typed_tree.specs.TypedView.{pattern_step_seen}
 use Rattle.xp_typed_tree.specs.WellTyped.{PatternStepsTyped}
-use Rattle.xslt_match.specs.Ends.{ends_elsewhere}
+use Rattle.xslt_match.specs.inner.Ends.{ends_elsewhere}
 use Rattle.xslt_match.specs.Matching.{chains}
 use Rattle.xslt_match.proofs.Chaining.{chains_elsewhere}
 use Rattle.xslt_match.proofs.matching.Matcher.path_matches.Goals as goal

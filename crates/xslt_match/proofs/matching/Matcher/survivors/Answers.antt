@@ -28,7 +28,7 @@ pub loop-k-preserved : goal.loop-k-preserved
 loop-k-preserved g c =
     gather_goes (λ _ k. survives c.args.self.now.evaluator.caller.tree.now.nodes c.args.self.now.evaluator.lets.now (pattern_step_seen c.args.step.now) c.args.self.now.node k) (λ _ k b. if b then k ∷ [] else []) done c.loop-k.left (c.loop-k.k-index + 1) (drop c.loop-k.k-index c.args.nodes.now)
     c.k-item.result (drop (c.loop-k.k-index + 1) c.args.nodes.now) (next_item c.args.nodes.now c.loop-k.k-index c.k-item.result c.loop-k-test.true c.k-item.is)
-    c.in_ok-push_if.ensures c.loop-k.invariant c.in_ok-stays.ensures
+    c.in_ok-push_if.ensures.pushed c.loop-k.invariant c.in_ok-stays.ensures
 
 pub returns : goal.returns
 returns g c =

@@ -24,11 +24,11 @@ fits T s k = is_beside s.axis (is_attribute T k) && passes T s.axis s.test k
 abbrev pub holder : Table → TypedPatternStepTree → ℕ → Option ℕ
 holder T s k = if fits T s k then parent_of T k else None
 
--- whether a step from m looks for candidates at p: at m itself, or behind `//` at m and below it
+-- whether a step from m looks for candidates at p: at m itself, or after `//` at m and below it
 abbrev pub looks_at : Table → Join → ℕ → ℕ → Bool
 looks_at T join m p = if is_anywhere join then mem m (above T p) else m == p
 
--- the same of a node that may be missing, for a step behind `//` or not
+-- the same of a node that may be missing, for a step after `//` or not
 abbrev pub looks_there : Table → Bool → ℕ → Option ℕ → Bool
 looks_there T anywhere m None = false
 looks_there T anywhere m (Some p) = if anywhere then mem m (above T p) else m == p
