@@ -1,4 +1,4 @@
--- What completes the state behind a token completes, with that token, the state before it.
+-- What completes the state after a token completes, with that token, the state before it.
 use Rattle.std.proofs.Common.{◌≡◌, ℕ, suc, ◌+◌, ◌≤◌, ◌⊎◌, Bool, true, false, List, [], ◌∷◌, length, refl, ◌∙◌, ap, inl, inr, arith}
 use Rattle.xp_tree.specs.declared.terms.Level.TheVariants as level
 use Rattle.xp_tree.specs.declared.terms.Operator.{Operator}
@@ -10,7 +10,7 @@ use Rattle.xp_grammar.specs.declared.token.NodeType.{NodeType}
 use Rattle.xp_grammar.specs.declared.token.NodeType.TheVariants as node_type
 use Rattle.xp_grammar.specs.declared.token.Token.TheVariants as token
 use Rattle.xp_grammar.specs.Grammar.{no_sign, sign, IsAxis, no_axis, at_sign, named_axis, star_test, prefix_test, named_test, typed_test, target_test, root_alone, from_root, from_anywhere, from_here, from_filter, dot_step, parent_step, tested_step, slash_steps, double_slash_steps, predicate, filter, a_variable, a_literal, a_number, in_parens, a_call, no_argument, arguments, no_more_arguments, one_more_argument}
-use Rattle.xp_grammar.specs.Machine.{Bracket, in_paren, in_predicate, in_arguments, Ending, full, bare, at_root, Mode, want, need_step, need_colons, need_test, type_open, type_inner, type_close, function_open, after, first_of_two, test_turn, axis_turn, step_turn, sign_turn, operand_turn, no_argument_turn, paren_turn, bracket_turn, comma_turn, end_turn, slash_turn, predicate_turn, colons_turn, type_open_turn, type_close_turn, target_turn, function_turn, turn, load}
+use Rattle.xp_grammar.specs.inner.Machine.{Bracket, in_paren, in_predicate, in_arguments, Ending, full, bare, at_root, Mode, want, need_step, need_colons, need_test, type_open, type_inner, type_close, function_open, after, first_of_two, test_turn, axis_turn, step_turn, sign_turn, operand_turn, no_argument_turn, paren_turn, bracket_turn, comma_turn, end_turn, slash_turn, predicate_turn, colons_turn, type_open_turn, type_close_turn, target_turn, function_turn, turn, load}
 use Rattle.xp_grammar.proofs.Completes.{SomeChain, SomePath, SomePrimary, Closer, closer, AfterPath, Bare, Full, Ends, Operand, StepsThen, TestThen, NoArguments, TypeThen, WantThen, AfterThen, Rest, RestOf, one_of, nothing_more, bare_of, full_of, whole_of, with_operator}
 
 back_test : (limit : ℕ) (k : List Bracket) (p : Placed) (s : List Placed) (t : Token) → p.token ≡ t →

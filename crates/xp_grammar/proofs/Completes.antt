@@ -13,7 +13,7 @@ use Rattle.xp_grammar.specs.declared.token.NodeType.TheVariants as node_type
 use Rattle.xp_grammar.specs.declared.token.Token.TheVariants as token
 use Rattle.xp_grammar.specs.Parts.{level_of}
 use Rattle.xp_grammar.specs.Grammar.{tighter, IsSigns, no_sign, sign, IsTest, IsChain, chained, IsOperand, tighter_chain, signed, one_path, IsOperands, no_more, one_more, IsPath, IsSteps, IsMoreSteps, no_more_steps, IsPredicates, no_predicate, IsPrimary, IsMoreArguments}
-use Rattle.xp_grammar.specs.Machine.{Bracket, in_paren, in_predicate, in_arguments, Ending, full, bare, at_root, Mode, want, need_step, need_colons, need_test, type_open, type_inner, type_close, function_open, after, Move, first_of_two, signs_after, load}
+use Rattle.xp_grammar.specs.inner.Machine.{Bracket, in_paren, in_predicate, in_arguments, Ending, full, bare, at_root, Mode, want, need_step, need_colons, need_test, type_open, type_inner, type_close, function_open, after, Move, first_of_two, signs_after, load}
 
 -- parts of an expression, with some tree
 abbrev pub SomeChain : ℕ → Level → ℕ → List Placed → List Placed → Type 0
@@ -50,7 +50,7 @@ SomeTest s u = (t : StepTest) × IsTest s u t
 pub data Closer (t : Token) (P : List Placed → Type 0) : List Placed → Type 0 where
   closer : (q : Placed) (m : List Placed) → q.token ≡ t → P m → Closer t P (q ∷ m)
 
--- behind an operand of Prod: the rests of the chains round it, and then what P says
+-- after an operand of Prod: the rests of the chains round it, and then what P says
 pub record Tails (limit d : ℕ) (P : List Placed → Type 0) (s : List Placed) : Type 0 where
   pub m1 : List Placed
   pub m2 : List Placed
@@ -66,20 +66,20 @@ pub record Tails (limit d : ℕ) (P : List Placed → Type 0) (s : List Placed) 
   pub ors : SomeOperands limit level.Or d m5 m6
   pub ends : P m6
 
--- behind a path
+-- after a path
 pub record AfterPath (limit d : ℕ) (P : List Placed → Type 0) (s : List Placed) : Type 0 where
   pub w : List Placed
   pub unions : SomeOperands limit level.Union d s w
   pub tails : Tails limit d P w
 
--- behind an operand that no predicate follows, and behind one that predicates may follow
+-- after an operand that no predicate follows, and after one that predicates may follow
 abbrev pub Bare : ℕ → ℕ → (List Placed → Type 0) → List Placed → Type 0
 Bare limit d P s = (m : List Placed) × SomeMoreSteps limit d s m × AfterPath limit d P m
 
 abbrev pub Full : ℕ → ℕ → (List Placed → Type 0) → List Placed → Type 0
 Full limit d P s = (m : List Placed) × SomePredicates limit d s m × Bare limit d P m
 
--- behind a whole expression
+-- after a whole expression
 abbrev pub Ends : ℕ → List Bracket → List Placed → Type 0
 Ends limit [] s = s ≡ []
 Ends limit (in_paren ∷ k) s = Closer token.CloseParen (Full limit (length k) (Ends limit k)) s
@@ -87,7 +87,7 @@ Ends limit (in_predicate ∷ k) s = Closer token.CloseBracket (Full limit (lengt
 Ends limit (in_arguments ∷ k) s = (m : List Placed) × SomeMoreArguments limit (suc (length k)) s m
     × Closer token.CloseParen (Full limit (length k) (Ends limit k)) m
 
--- an operand behind j signs, and what follows it
+-- an operand after j signs, and what follows it
 pub record Operand (limit : ℕ) (signs : Bool) (j d : ℕ) (P : List Placed → Type 0) (s : List Placed) : Type 0 where
   pub count : ℕ
   pub m : List Placed

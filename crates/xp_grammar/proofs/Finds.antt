@@ -9,7 +9,7 @@ use Rattle.xp_grammar.specs.declared.token.Token.TheVariants as token
 use Rattle.xp_grammar.specs.declared.fault.SyntaxKind.TheVariants as kind
 use Rattle.xp_grammar.specs.Grammar.{IsChain, no_axis, named_test, tested_step, no_predicate, no_more_steps, no_more_arguments}
 use Rattle.xp_grammar.specs.Faults.{Begins, IsFirstFault, unexpected_token, too_nested, unexpected_end, bad_token}
-use Rattle.xp_grammar.specs.Machine.{Bracket, in_paren, in_predicate, in_arguments, Ending, full, bare, at_root, Mode, want, need_step, need_colons, need_test, type_open, type_inner, type_close, function_open, after, Move, turn, load, allowed, next, Halt, goes, halt, IsPending, IsLimited}
+use Rattle.xp_grammar.specs.inner.Machine.{Bracket, in_paren, in_predicate, in_arguments, Ending, full, bare, at_root, Mode, want, need_step, need_colons, need_test, type_open, type_inner, type_close, function_open, after, Move, turn, load, allowed, next, Halt, goes, halt, IsPending, IsLimited}
 use Rattle.xp_grammar.proofs.Steps.{step_on}
 use Rattle.xp_grammar.proofs.Drives.{drive_chain}
 use Rattle.xp_grammar.proofs.Completes.{closer, Full, Ends, StepsThen, TestThen, WantThen, AfterThen, Rest, RestOf, nothing_more, bare_of, full_of, whole_of}

@@ -3,3 +3,10 @@ pub mod Drives
 pub mod Completes
 pub mod Back
 pub mod Finds
+pub mod Bottoms
+pub mod Runs
+pub mod Frames
+pub mod PatternDrives
+pub mod PatternCompletes
+pub mod PatternBack
+pub mod PatternFinds

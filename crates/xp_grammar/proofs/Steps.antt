@@ -12,7 +12,7 @@ use Rattle.xp_grammar.specs.declared.token.NodeType.{NodeType}
 use Rattle.xp_grammar.specs.declared.token.Token.TheVariants as token
 use Rattle.xp_grammar.specs.Parts.{level_of}
 use Rattle.xp_grammar.specs.Grammar.{tighter}
-use Rattle.xp_grammar.specs.Machine.{Bracket, Ending, full, bare, at_root, Mode, want, need_step, need_colons, need_test, type_open, after, Move, moves, turn, load, allowed, next, goes, halt, signs_after, end_turn, start}
+use Rattle.xp_grammar.specs.inner.Machine.{Bracket, Ending, full, bare, at_root, Mode, want, need_step, need_colons, need_test, type_open, after, Move, moves, turn, load, allowed, next, goes, halt, signs_after, end_turn, start}
 
 -- the machine goes on at a token
 pub step_on : (limit : ℕ) (m : Mode) (k : List Bracket) (p : Placed) (s : List Placed) (mv : Move) (t : Token) →
@@ -24,7 +24,7 @@ step_on limit m k p s mv t is turns room =
     (ap (next limit m k) is ∙ ap (allowed limit) turns
     ∙ ap (λ b. if b then Some mv else None) (le-leb (load mv.mode mv.stack) limit room))
 
--- the same behind the name of the level within
+-- the same after the name of the level within
 abbrev pub within : Level → Bool → ℕ → Bool → Option Level → Mode
 within n signs count closes None = start n signs count closes
 within n signs count closes (Some inner) = start inner signs count closes

@@ -1,4 +1,5 @@
 pub mod Parts
 pub mod Grammar
+pub mod PatternGrammar
 pub mod Faults
-pub mod Machine
+pub mod inner

@@ -1,4 +1,4 @@
-//! The grammar of XPath 1.0 expressions: tokens, derivations and first faults.
+//! The grammars of XPath 1.0 expressions and of XSLT 1.0 match patterns: tokens, derivations and first faults.
 #![tactic(auto)]
 
 mod fault;
@@ -6,5 +6,5 @@ mod laws;
 mod token;
 
 pub use fault::{SyntaxFault, SyntaxKind};
-pub use laws::each_spelling_begins;
+pub use laws::{each_pattern_begins, each_spelling_begins};
 pub use token::{NodeType, Placed, Token, Word};

@@ -14,13 +14,13 @@ use Rattle.xp_grammar.specs.declared.token.Placed.{Placed}
 use Rattle.xp_grammar.specs.declared.token.Token.TheVariants as token
 use Rattle.xp_grammar.specs.Parts.{offset_at, level_of, joined, with_signs}
 use Rattle.xp_grammar.specs.Grammar.{tighter, IsSigns, no_sign, sign, IsChain, chained, IsOperand, tighter_chain, signed, one_path, IsOperands, no_more, one_more}
-use Rattle.xp_grammar.specs.Machine.{Bracket, Ending, Mode, want, after, load, halt, start, signs_after}
+use Rattle.xp_grammar.specs.inner.Machine.{Bracket, Ending, Mode, want, after, load, halt, start, signs_after}
 use Rattle.xp_grammar.proofs.Steps.{step_on, same_start, operator_start, after_operator}
 use Rattle.xp_grammar.proofs.Drives.{Signs, drive_signs, plus_zero}
 use Rattle.xp_parse.specs.declared.stop.Stop.{Stop}
 use Rattle.xp_parse.specs.declared.stop.Stop.TheVariants as stop
-use Rattle.xp_parse.specs.Places.{Took, NoOperatorOf}
-use Rattle.xp_parse.specs.Parsing.{rank, Quiet, Settled, IsNoMemory, Fails, FreshSign, Fresh, OperandFails, ChainRead, OperandRead, PathRead, OperandsRead, SignsRead, operands_onto, OperandsSoFar, weight}
+use Rattle.xp_parse.specs.inner.Places.{Took, NoOperatorOf}
+use Rattle.xp_parse.specs.inner.Parsing.{rank, Quiet, Settled, IsNoMemory, Fails, FreshSign, Fresh, OperandFails, ChainRead, OperandRead, PathRead, OperandsRead, SignsRead, operands_onto, OperandsSoFar, weight}
 use Rattle.xp_parse.proofs.Failing.{took_shorter, stuck_after}
 
 -- want of memory promises nothing

@@ -7,13 +7,13 @@ use Rattle.xp_grammar.specs.declared.token.NodeType.{NodeType}
 use Rattle.xp_grammar.specs.declared.token.NodeType.TheVariants as node_type
 use Rattle.xp_grammar.specs.declared.token.Token.TheVariants as token
 use Rattle.xp_grammar.specs.Grammar.{IsSigns, no_sign, sign}
-use Rattle.xp_grammar.specs.Machine.{Bracket, Mode, want, type_inner, Move, turn, load, halt, IsPending, colons_turn, type_open_turn, type_close_turn, target_turn, function_turn, first_of_two}
+use Rattle.xp_grammar.specs.inner.Machine.{Bracket, Mode, want, type_inner, Move, turn, load, halt, IsPending, colons_turn, type_open_turn, type_close_turn, target_turn, function_turn, first_of_two}
 use Rattle.xp_grammar.proofs.Steps.{step_on}
 use Rattle.xp_grammar.proofs.Drives.{drive_signs}
 use Rattle.xp_parse.specs.declared.stop.Stop.{Stop}
 use Rattle.xp_parse.specs.declared.stop.Stop.TheVariants as stop
-use Rattle.xp_parse.specs.Places.{IsFirst, Took, Refused}
-use Rattle.xp_parse.specs.Parsing.{Stuck, SignsFail}
+use Rattle.xp_parse.specs.inner.Places.{IsFirst, Took, Refused}
+use Rattle.xp_parse.specs.inner.Parsing.{Stuck, SignsFail}
 
 -- one sign more
 pub signs_on : (i : ℕ) (s here next : List Placed) → IsSigns i s here → (f : IsFirst (token.Operator operator.Minus) here) →

@@ -7,3 +7,9 @@ pub mod Chains
 pub mod Paths
 pub mod Primaries
 pub mod Wholes
+pub mod Insides
+pub mod PlaceFails
+pub mod PathSteps
+pub mod IdKeys
+pub mod PathPatterns
+pub mod PatternWholes

@@ -9,12 +9,12 @@ use Rattle.xp_grammar.specs.declared.token.NodeType.TheVariants as node_type
 use Rattle.xp_grammar.specs.declared.token.Token.TheVariants as token
 use Rattle.xp_grammar.specs.Parts.{name_test, type_test}
 use Rattle.xp_grammar.specs.Grammar.{IsTest, star_test, prefix_test, named_test, typed_test, target_test}
-use Rattle.xp_grammar.specs.Machine.{Bracket, Mode, need_test, type_open, type_inner, type_close, moves, turn, load, IsPending}
+use Rattle.xp_grammar.specs.inner.Machine.{Bracket, Mode, need_test, type_open, type_inner, type_close, moves, turn, load, IsPending}
 use Rattle.xp_grammar.proofs.Steps.{step_on}
 use Rattle.xp_parse.specs.declared.stop.Stop.{Stop}
 use Rattle.xp_parse.specs.declared.stop.Stop.TheVariants as stop
-use Rattle.xp_parse.specs.Places.{IsFirst, Took, Refused}
-use Rattle.xp_parse.specs.Parsing.{Stuck, Fails, TestRead, TypeRead, TargetRead, IsTestMode, TestStops, stops_here, stops_behind, TestFails}
+use Rattle.xp_parse.specs.inner.Places.{IsFirst, Took, Refused}
+use Rattle.xp_parse.specs.inner.Parsing.{Stuck, Fails, TestRead, TypeRead, TargetRead, IsTestMode, TestStops, stops_here, stops_behind, TestFails}
 use Rattle.std.specs.Prelude.{Result, MatchResult}
 use Rattle.std.proofs.lemmas.Result.{MatchResult-weaker}
 use Rattle.xp_parse.proofs.Failing.{took_shorter, first_token, no_end, stuck_after, none_but_open, none_but_close, none_in_type}

@@ -21,13 +21,13 @@ use Rattle.xp_grammar.specs.declared.token.NodeType.{NodeType}
 use Rattle.xp_grammar.specs.declared.token.Token.TheVariants as token
 use Rattle.xp_grammar.specs.Parts.{offset_at, level_of, with_steps, with_predicates, everywhere}
 use Rattle.xp_grammar.specs.Grammar.{IsAxis, no_axis, at_sign, named_axis, IsTest, IsChain, IsPath, root_alone, from_root, from_anywhere, from_here, from_filter, IsSteps, dot_step, parent_step, tested_step, IsMoreSteps, no_more_steps, slash_steps, double_slash_steps, IsPredicates, no_predicate, predicate, IsFilter, filter}
-use Rattle.xp_grammar.specs.Machine.{Bracket, in_predicate, Ending, full, bare, at_root, Mode, want, need_step, need_test, need_colons, type_open, after, Move, turn, end_turn, step_turn, slash_turn, predicate_turn, first_of_two, load, halt, IsPending}
+use Rattle.xp_grammar.specs.inner.Machine.{Bracket, in_predicate, Ending, full, bare, at_root, Mode, want, need_step, need_test, need_colons, type_open, after, Move, turn, end_turn, step_turn, slash_turn, predicate_turn, first_of_two, load, halt, IsPending}
 use Rattle.xp_grammar.proofs.Steps.{step_on, TakesTests, TakesSteps, test_takes, root_takes, want_takes}
 use Rattle.xp_grammar.proofs.Drives.{drive_test, drive_predicates, drive_filter, drive_primary, plus_zero}
 use Rattle.xp_parse.specs.declared.stop.Stop.{Stop}
 use Rattle.xp_parse.specs.declared.stop.Stop.TheVariants as stop
-use Rattle.xp_parse.specs.Places.{IsFirst, Took, Refused, NotAt, is_step_token, is_at_step}
-use Rattle.xp_parse.specs.Parsing.{rank, Quiet, Settled, Stuck, Fails, FreshSign, Fresh, OperandFails, ChainRead, PathRead, steps_onto, StepsRead, IsClosed, MoreStepsRead, StepRead, TestedRead, PredicatesRead, PrimaryRead, FilterRead, TookNone, Leads, StepsSoFar, trees_onto, PredicatesSoFar}
+use Rattle.xp_parse.specs.inner.Places.{IsFirst, Took, Refused, NotAt, is_step_token, is_at_step}
+use Rattle.xp_parse.specs.inner.Parsing.{rank, Quiet, Settled, Stuck, Fails, FreshSign, Fresh, OperandFails, ChainRead, PathRead, steps_onto, StepsRead, IsClosed, MoreStepsRead, StepRead, TestedRead, PredicatesRead, PrimaryRead, FilterRead, TookNone, Leads, StepsSoFar, trees_onto, PredicatesSoFar}
 use Rattle.xp_parse.proofs.Failing.{took_shorter, took_on, stuck_after, stuck_over, stuck_not_at, none_but_colons}
 use Rattle.xp_parse.proofs.Chains.{no_memory, fails_after}
 

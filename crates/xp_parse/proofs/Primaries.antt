@@ -15,13 +15,13 @@ use Rattle.xp_grammar.specs.declared.token.Token.{Token}
 use Rattle.xp_grammar.specs.declared.token.Token.TheVariants as token
 use Rattle.xp_grammar.specs.Parts.{offset_at}
 use Rattle.xp_grammar.specs.Grammar.{IsChain, IsPrimary, a_variable, a_literal, a_number, in_parens, a_call, IsArguments, no_argument, arguments, IsMoreArguments, no_more_arguments, one_more_argument}
-use Rattle.xp_grammar.specs.Machine.{Bracket, in_paren, in_arguments, Ending, Mode, want, function_open, after, turn, end_turn, step_turn, operand_turn, no_argument_turn, first_of_two, load, halt}
+use Rattle.xp_grammar.specs.inner.Machine.{Bracket, in_paren, in_arguments, Ending, Mode, want, function_open, after, turn, end_turn, step_turn, operand_turn, no_argument_turn, first_of_two, load, halt}
 use Rattle.xp_grammar.proofs.Steps.{after_comma}
 use Rattle.xp_grammar.proofs.Drives.{plus_zero}
 use Rattle.xp_parse.specs.declared.stop.Stop.{Stop}
 use Rattle.xp_parse.specs.declared.stop.Stop.TheVariants as stop
-use Rattle.xp_parse.specs.Places.{IsFirst, Took, Refused, NotAt, IsNoPath, is_step_token, is_at_step}
-use Rattle.xp_parse.specs.Parsing.{Quiet, Settled, FailsInCall, OperandFails, ChainRead, PrimaryRead, ArgumentsRead, MoreArgumentsRead, trees_onto, ArgumentsSoFar}
+use Rattle.xp_parse.specs.inner.Places.{IsFirst, Took, Refused, NotAt, IsNoPath, is_step_token, is_at_step}
+use Rattle.xp_parse.specs.inner.Parsing.{Quiet, Settled, FailsInCall, OperandFails, ChainRead, PrimaryRead, ArgumentsRead, MoreArgumentsRead, trees_onto, ArgumentsSoFar}
 use Rattle.xp_parse.proofs.Failing.{took_shorter, took_on, stuck_after, stuck_at_end, stuck_at_first, stuck_over, stuck_not_at, none_but_function_open}
 use Rattle.xp_parse.proofs.Paths.{fresh_start, stuck_unclosed, refused_as, no_operator, snoc_trees, onto_trees, placed_at, no_step_turn}
 

@@ -1,5 +1,6 @@
 -- The first fault of a whole expression.
 use Rattle.std.proofs.Common.{◌≡◌, ℕ, Bool, true, false, List, [], ◌∷◌, refl, sym, ◌∙◌, ap, subst}
+use Rattle.sch_base.specs.declared.limits.TheConstants.{MAX_NESTING}
 use Rattle.xp_tree.specs.Tree.{Tree}
 use Rattle.xp_tree.specs.declared.terms.Level.TheVariants as level
 use Rattle.xp_grammar.specs.declared.token.Placed.{Placed}
@@ -9,15 +10,16 @@ use Rattle.xp_grammar.specs.declared.fault.SyntaxKind.TheVariants as kind
 use Rattle.xp_grammar.specs.Parts.{offset_at}
 use Rattle.xp_grammar.specs.Grammar.{IsChain}
 use Rattle.xp_grammar.specs.Faults.{IsFirstFault}
-use Rattle.xp_grammar.specs.Machine.{want, after, halt}
+use Rattle.xp_grammar.specs.inner.Machine.{want, after, halt}
 use Rattle.xp_grammar.proofs.Finds.{fault_at_token, fault_over_limit, fault_at_end, fault_no_token}
 use Rattle.xp_parse.specs.declared.stop.Stop.{Stop}
 use Rattle.xp_parse.specs.declared.stop.Stop.TheVariants as stop
 use Rattle.xp_parse.specs.declared.error.ParseError.{ParseError}
 use Rattle.xp_parse.specs.declared.error.ParseError.TheVariants as error
-use Rattle.xp_parse.specs.Places.{IsFirst}
-use Rattle.xp_parse.specs.Parsing.{Stuck, OperandFails, ChainRead}
-use Rattle.xp_parse.specs.Whole.{Faults, OnlyIfNoMemory, IsWhole, at_end_fault, stopped_fault}
+use Rattle.xp_parse.specs.inner.Places.{IsFirst}
+use Rattle.xp_parse.specs.inner.Parsing.{Stuck, OperandFails, ChainRead}
+use Rattle.xp_parse.specs.Whole.{Faults, IsWhole}
+use Rattle.xp_parse.specs.inner.Stopped.{OnlyIfNoMemory, at_end_fault, stopped_fault}
 use Rattle.xp_parse.proofs.Paths.{no_operator, fresh_start}
 use Rattle.xp_parse.proofs.Primaries.{unclosed_top}
 
@@ -38,28 +40,28 @@ pub end_is : (rest : List Placed) (whole : Bool) (end : ℕ) (f : SyntaxFault) (
 end_is rest whole end f why is none fault =
     ap error.Fault fault ∙ ap (λ v. stopped_fault stop.Unexpected v whole end) (sym none) ∙ ap (λ w. stopped_fault w rest whole end) (sym is)
 
-end_fault : (tokens : List Placed) (whole : Bool) (end : ℕ) → Stuck 64 (want true 0 false) [] tokens [] stop.Unexpected →
-    IsFirstFault 64 tokens whole end (at_end_fault whole end).kind (at_end_fault whole end).offset
-end_fault tokens true end s = fault_at_end 64 tokens end s.mode s.stack s.reaches (s.cause.at_end refl)
-end_fault tokens false end s = fault_no_token 64 tokens end s.mode s.stack s.reaches
+end_fault : (tokens : List Placed) (whole : Bool) (end : ℕ) → Stuck MAX_NESTING (want true 0 false) [] tokens [] stop.Unexpected →
+    IsFirstFault MAX_NESTING tokens whole end (at_end_fault whole end).kind (at_end_fault whole end).offset
+end_fault tokens true end s = fault_at_end MAX_NESTING tokens end s.mode s.stack s.reaches (s.cause.at_end refl)
+end_fault tokens false end s = fault_no_token MAX_NESTING tokens end s.mode s.stack s.reaches
 
 -- where the machine stands is the first fault
-stuck_fault : (tokens rest : List Placed) (whole : Bool) (end : ℕ) (why : Stop) → OnlyIfNoMemory why (Stuck 64 (want true 0 false) [] tokens rest why) →
-    Faults 64 tokens whole end (stopped_fault why rest whole end)
+stuck_fault : (tokens rest : List Placed) (whole : Bool) (end : ℕ) (why : Stop) → OnlyIfNoMemory why (Stuck MAX_NESTING (want true 0 false) [] tokens rest why) →
+    Faults MAX_NESTING tokens whole end (stopped_fault why rest whole end)
 stuck_fault tokens rest whole end stop.Memory x = tt
 stuck_fault tokens rest whole end stop.TooNested x =
     let s = x tt in
     let q = s.cause in
-    subst (λ o. IsFirstFault 64 tokens whole end kind.TooNested o) (sym (ap offset_at q.is))
-    (fault_over_limit 64 tokens whole end s.mode s.stack q.placed q.rest (s.reaches ∙ ap (halt 64 s.mode s.stack) q.is) q.limited)
+    subst (λ o. IsFirstFault MAX_NESTING tokens whole end kind.TooNested o) (sym (ap offset_at q.is))
+    (fault_over_limit MAX_NESTING tokens whole end s.mode s.stack q.placed q.rest (s.reaches ∙ ap (halt MAX_NESTING s.mode s.stack) q.is) q.limited)
 stuck_fault tokens [] whole end stop.Unexpected x = end_fault tokens whole end (x tt)
 stuck_fault tokens (p ∷ rest) whole end stop.Unexpected x =
     let s = x tt in
-    fault_at_token 64 tokens whole end s.mode s.stack p rest s.reaches (s.cause.at_token p rest refl)
+    fault_at_token MAX_NESTING tokens whole end s.mode s.stack p rest s.reaches (s.cause.at_token p rest refl)
 
 -- a whole expression with more behind it
-pub more_behind : (tokens rest : List Placed) (e : Tree) (t : Token) → ChainRead 64 level.Or 0 tokens rest e → IsFirst t rest →
-    Stuck 64 (want true 0 false) [] tokens rest stop.Unexpected
+pub more_behind : (tokens rest : List Placed) (e : Tree) (t : Token) → ChainRead MAX_NESTING level.Or 0 tokens rest e → IsFirst t rest →
+    Stuck MAX_NESTING (want true 0 false) [] tokens rest stop.Unexpected
 more_behind tokens rest e t r f = record {
   mode = after r.reads.ending;
   stack = [];
@@ -70,40 +72,40 @@ more_behind tokens rest e t r f = record {
   };
 }
 
-pub cut_behind : (tokens rest : List Placed) (whole : Bool) (end : ℕ) (e : Tree) → ChainRead 64 level.Or 0 tokens rest e → rest ≡ [] → whole ≡ false →
-    Faults 64 tokens whole end (stopped_fault stop.Unexpected rest whole end)
+pub cut_behind : (tokens rest : List Placed) (whole : Bool) (end : ℕ) (e : Tree) → ChainRead MAX_NESTING level.Or 0 tokens rest e → rest ≡ [] → whole ≡ false →
+    Faults MAX_NESTING tokens whole end (stopped_fault stop.Unexpected rest whole end)
 cut_behind tokens rest whole end e r none cut =
-    let to : halt 64 (want true 0 false) [] tokens ≡ halt 64 (after r.reads.ending) [] [] =
-    r.reads.halts true 0 false [] refl ∙ ap (halt 64 (after r.reads.ending) []) none in
-    let fault : Faults 64 tokens false end (stopped_fault stop.Unexpected [] false end) = fault_no_token 64 tokens end (after r.reads.ending) [] to in
-    subst (λ b. Faults 64 tokens b end (stopped_fault stop.Unexpected rest b end)) (sym cut)
-    (subst (λ v. Faults 64 tokens false end (stopped_fault stop.Unexpected v false end)) (sym none) fault)
+    let to : halt MAX_NESTING (want true 0 false) [] tokens ≡ halt MAX_NESTING (after r.reads.ending) [] [] =
+    r.reads.halts true 0 false [] refl ∙ ap (halt MAX_NESTING (after r.reads.ending) []) none in
+    let fault : Faults MAX_NESTING tokens false end (stopped_fault stop.Unexpected [] false end) = fault_no_token MAX_NESTING tokens end (after r.reads.ending) [] to in
+    subst (λ b. Faults MAX_NESTING tokens b end (stopped_fault stop.Unexpected rest b end)) (sym cut)
+    (subst (λ v. Faults MAX_NESTING tokens false end (stopped_fault stop.Unexpected v false end)) (sym none) fault)
 
-pub whole_read : (tokens rest : List Placed) (whole : Bool) (e : Tree) → ChainRead 64 level.Or 0 tokens rest e → rest ≡ [] → whole ≡ true → IsWhole whole tokens e
+pub whole_read : (tokens rest : List Placed) (whole : Bool) (e : Tree) → ChainRead MAX_NESTING level.Or 0 tokens rest e → rest ≡ [] → whole ≡ true → IsWhole MAX_NESTING whole tokens e
 whole_read tokens rest whole e r none all = record {
   to_the_end = all;
-  spells = subst (λ u. IsChain 64 level.Or 0 tokens u e) none r.derives;
+  spells = subst (λ u. IsChain MAX_NESTING level.Or 0 tokens u e) none r.derives;
 }
 
 -- the same for an answer that is that fault
-answered : (tokens s : List Placed) (whole : Bool) (end : ℕ) (out fault : ParseError) → s ≡ tokens → out ≡ fault → Faults 64 s whole end fault →
-    Faults 64 tokens whole end out
+answered : (tokens s : List Placed) (whole : Bool) (end : ℕ) (out fault : ParseError) → s ≡ tokens → out ≡ fault → Faults MAX_NESTING s whole end fault →
+    Faults MAX_NESTING tokens whole end out
 answered tokens s whole end out fault is same x =
-    subst (λ t. Faults 64 t whole end out) is (subst (λ o. Faults 64 s whole end o) (sym same) x)
+    subst (λ t. Faults MAX_NESTING t whole end out) is (subst (λ o. Faults MAX_NESTING s whole end o) (sym same) x)
 
-pub failed : (tokens s rest : List Placed) (whole : Bool) (end : ℕ) (why : Stop) (out : ParseError) → s ≡ tokens → OperandFails 64 level.Or 0 s rest why →
-    out ≡ stopped_fault why rest whole end → Faults 64 tokens whole end out
+pub failed : (tokens s rest : List Placed) (whole : Bool) (end : ℕ) (why : Stop) (out : ParseError) → s ≡ tokens → OperandFails MAX_NESTING level.Or 0 s rest why →
+    out ≡ stopped_fault why rest whole end → Faults MAX_NESTING tokens whole end out
 failed tokens s rest whole end why out is f same =
     answered tokens s whole end out (stopped_fault why rest whole end) is same
     (stuck_fault s rest whole end why (λ nm. (f.from true 0 false (fresh_start level.Or s (λ t. tt))).stuck nm [] refl))
 
-pub more_failed : (tokens s rest : List Placed) (whole : Bool) (end : ℕ) (out : ParseError) (e : Tree) (t : Token) → s ≡ tokens → ChainRead 64 level.Or 0 s rest e →
-    IsFirst t rest → out ≡ stopped_fault stop.Unexpected rest whole end → Faults 64 tokens whole end out
+pub more_failed : (tokens s rest : List Placed) (whole : Bool) (end : ℕ) (out : ParseError) (e : Tree) (t : Token) → s ≡ tokens → ChainRead MAX_NESTING level.Or 0 s rest e →
+    IsFirst t rest → out ≡ stopped_fault stop.Unexpected rest whole end → Faults MAX_NESTING tokens whole end out
 more_failed tokens s rest whole end out e t is r f same =
     answered tokens s whole end out (stopped_fault stop.Unexpected rest whole end) is same
     (stuck_fault s rest whole end stop.Unexpected (λ _. more_behind s rest e t r f))
 
-pub cut_failed : (tokens s rest : List Placed) (whole : Bool) (end : ℕ) (out : ParseError) (e : Tree) → s ≡ tokens → ChainRead 64 level.Or 0 s rest e → rest ≡ [] → whole ≡ false →
-    out ≡ stopped_fault stop.Unexpected rest whole end → Faults 64 tokens whole end out
+pub cut_failed : (tokens s rest : List Placed) (whole : Bool) (end : ℕ) (out : ParseError) (e : Tree) → s ≡ tokens → ChainRead MAX_NESTING level.Or 0 s rest e → rest ≡ [] → whole ≡ false →
+    out ≡ stopped_fault stop.Unexpected rest whole end → Faults MAX_NESTING tokens whole end out
 cut_failed tokens s rest whole end out e is r none cut same =
     answered tokens s whole end out (stopped_fault stop.Unexpected rest whole end) is same (cut_behind s rest whole end e r none cut)

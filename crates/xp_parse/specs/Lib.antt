@@ -1,3 +1,2 @@
-pub mod Places
-pub mod Parsing
 pub mod Whole
+pub mod inner

@@ -1,39 +1,30 @@
--- Whole expressions, and their first faults.
-use Rattle.std.specs.Prelude.{◌≡◌, ℕ, Bool, true, false, List, [], ◌∷◌}
+-- Whole expressions (XPath 1.0, section 3) and whole patterns (XSLT 1.0, section 5.2), and their first faults.
+use Rattle.std.specs.Prelude.{◌≡◌, ℕ, Bool, true, List}
 use Rattle.xp_tree.specs.Tree.{Tree}
+use Rattle.xp_tree.specs.PatternTree.{PathTree}
 use Rattle.xp_grammar.specs.declared.token.Placed.{Placed}
-use Rattle.xp_grammar.specs.declared.fault.SyntaxFault.{SyntaxFault}
-use Rattle.xp_grammar.specs.declared.fault.SyntaxKind.TheVariants as kind
-use Rattle.xp_grammar.specs.Parts.{offset_at}
 use Rattle.xp_grammar.specs.Grammar.{Derives}
-use Rattle.xp_grammar.specs.Faults.{IsFirstFault}
-use Rattle.xp_parse.specs.declared.stop.Stop.{Stop}
-use Rattle.xp_parse.specs.declared.stop.Stop.TheVariants as stop
+use Rattle.xp_grammar.specs.PatternGrammar.{DerivesPattern}
+use Rattle.xp_grammar.specs.Faults.{IsFirstFault, IsFirstPatternFault}
 use Rattle.xp_parse.specs.declared.error.ParseError.{ParseError}
 use Rattle.xp_parse.specs.declared.error.ParseError.TheVariants as error
-use Rattle.xp_parse.specs.Parsing.{IsNoMemory}
 
 -- the tokens are the whole text, and spell an expression with this tree
-pub record IsWhole (whole : Bool) (tokens : List Placed) (e : Tree) : Type 0 where
+pub record IsWhole (limit : ℕ) (whole : Bool) (tokens : List Placed) (e : Tree) : Type 0 where
   pub to_the_end : whole ≡ true
-  pub spells : Derives 64 tokens e
+  pub spells : Derives limit tokens e
 
--- the answer is the first fault, unless memory ran out
+-- the tokens are the whole text, and spell a pattern with these trees
+pub record IsWholePattern (limit : ℕ) (whole : Bool) (tokens : List Placed) (paths : List PathTree) : Type 0 where
+  pub to_the_end : whole ≡ true
+  pub spells : DerivesPattern limit tokens paths
+
+-- the answer is the first fault of the tokens as an expression, unless memory ran out
 abbrev pub Faults : ℕ → List Placed → Bool → ℕ → ParseError → Type 0
 Faults limit tokens whole end error.Memory = Unit {0}
 Faults limit tokens whole end (error.Fault f) = IsFirstFault limit tokens whole end f.kind f.offset
 
-abbrev pub OnlyIfNoMemory : Stop → Type 0 → Type 0
-OnlyIfNoMemory why P = IsNoMemory why → P
-
--- the fault where the tokens end: at the end of the text, or where no token can be read
-abbrev pub at_end_fault : Bool → ℕ → SyntaxFault
-at_end_fault true end = record { kind = kind.Unexpected; offset = end }
-at_end_fault false end = record { kind = kind.BadToken; offset = end }
-
--- the fault of a parser that stopped at these tokens
-abbrev pub stopped_fault : Stop → List Placed → Bool → ℕ → ParseError
-stopped_fault stop.Memory rest whole end = error.Memory
-stopped_fault stop.TooNested rest whole end = error.Fault (record { kind = kind.TooNested; offset = offset_at rest })
-stopped_fault stop.Unexpected [] whole end = error.Fault (at_end_fault whole end)
-stopped_fault stop.Unexpected (p ∷ s) whole end = error.Fault (record { kind = kind.Unexpected; offset = p.offset })
+-- the answer is the first fault of the tokens as a pattern, unless memory ran out
+abbrev pub PatternFaults : ℕ → List Placed → Bool → ℕ → ParseError → Type 0
+PatternFaults limit tokens whole end error.Memory = Unit {0}
+PatternFaults limit tokens whole end (error.Fault f) = IsFirstPatternFault limit tokens whole end f.kind f.offset

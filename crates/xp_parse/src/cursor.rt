@@ -3,14 +3,14 @@
 ghost use Rattle.std.specs.Prelude.{◌≡◌, ◌∷◌, [], List, MatchOption};
 ghost use Rattle.xp_grammar.specs.declared.token.Placed.{Placed};
 ghost use Rattle.xp_grammar.specs.Parts.{offset_at};
-ghost use Rattle.xp_parse.specs.Places.{IsFirst};
+ghost use Rattle.xp_parse.specs.inner.Places.{IsFirst};
 
 use std::marker::Model;
 use xp_grammar::{Placed, Token};
 
 /// The tokens that are left, seen by contracts as their list.
 #[derive(Drop)]
-pub struct Cursor<'t, 'a> {
+pub(crate) struct Cursor<'t, 'a> {
     tokens: &'t [Placed<'a>],
     at: usize,
 }
@@ -26,14 +26,14 @@ impl<'t, 'a> Model for Cursor<'t, 'a> {
 
 impl<'t, 'a> Cursor<'t, 'a> {
     /// At the first of these tokens.
-    pub fn new(tokens: &'t [Placed<'a>]) -> Cursor<'t, 'a>
+    pub(crate) fn new(tokens: &'t [Placed<'a>]) -> Cursor<'t, 'a>
         ensures { result ≡ tokens.now }
     {
         Cursor { tokens, at: 0 }
     }
 
     /// The token at the place, None at the end.
-    pub fn token(&self) -> Option<&'t Token<'a>>
+    pub(crate) fn token(&self) -> Option<&'t Token<'a>>
         ensures { MatchOption result (self.now ≡ []) (λ t. IsFirst t.now self.now) }
     {
         match self.tokens.get(self.at) {
@@ -43,7 +43,7 @@ impl<'t, 'a> Cursor<'t, 'a> {
     }
 
     /// Where the token at the place stands, 0 at the end.
-    pub fn offset(&self) -> u32
+    pub(crate) fn offset(&self) -> u32
         ensures { result ≡ offset_at self.now }
     {
         match self.tokens.get(self.at) {
@@ -53,7 +53,7 @@ impl<'t, 'a> Cursor<'t, 'a> {
     }
 
     /// Goes on to the next token.
-    pub fn advance(&mut self)
+    pub(crate) fn advance(&mut self)
         ensures { (p : Placed) (rest : List Placed) → self.old ≡ p ∷ rest → self.new ≡ rest }
     {
         if self.at < self.tokens.len() {

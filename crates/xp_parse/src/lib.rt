@@ -1,10 +1,14 @@
-//! The parser of XPath 1.0 expressions over their tokens.
+//! The parser of XPath 1.0 expressions and of XSLT 1.0 match patterns over their tokens.
 #![tactic(auto)]
 
 mod cursor;
 mod error;
 mod join;
+mod mark;
 mod parser;
+mod pattern;
+mod pattern_calls;
+mod pattern_steps;
 mod primary;
 mod steps;
 mod stop;
@@ -12,9 +16,5 @@ mod stopped;
 mod whole;
 mod words;
 
-pub use cursor::Cursor;
 pub use error::ParseError;
-pub use parser::Parser;
-pub use stop::Stop;
-pub use stopped::fault_of;
-pub use whole::parse_tokens;
+pub use whole::{parse_pattern_tokens, parse_tokens};

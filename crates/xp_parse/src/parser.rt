@@ -4,12 +4,13 @@ ghost use Rattle.std.specs.Prelude.{◌≡◌, ◌≤◌, ℕ, suc, true, MatchR
 ghost use Rattle.xp_tree.specs.declared.terms.Level.TheVariants as level;
 ghost use Rattle.xp_tree.specs.View.{tree_of};
 ghost use Rattle.xp_grammar.specs.declared.token.Token.TheVariants as token;
-ghost use Rattle.xp_parse.specs.Places.{IsFirst, IsNoPath, is_at_step};
-ghost use Rattle.xp_parse.specs.Parsing.{ChainRead, OperandRead, PathRead, OperandsRead, SignsRead, OperandFails, Fails, SignsFail, Settled, Quiet, rank};
-ghost use Rattle.xp_grammar.specs.Machine.{Ending, after};
+ghost use Rattle.xp_parse.specs.inner.Places.{IsFirst, IsNoPath, is_at_step};
+ghost use Rattle.xp_parse.specs.inner.Parsing.{ChainRead, OperandRead, PathRead, OperandsRead, SignsRead, OperandFails, Fails, SignsFail, Settled, Quiet, rank};
+ghost use Rattle.xp_grammar.specs.inner.Machine.{Ending, after};
 
 use crate::cursor::Cursor;
 use crate::join::{joined, with_signs, with_steps};
+use crate::mark::Mark;
 use crate::steps::everywhere;
 use crate::stop::Stop;
 use sch_base::MAX_NESTING;
@@ -19,18 +20,18 @@ use xp_tree::{Expr, Level, Operand};
 
 /// Reads expressions from their tokens.
 #[derive(Drop)]
-pub struct Parser<'t, 'a> {
-    pub alloc: Global,
-    pub rest: Cursor<'t, 'a>,
+pub(crate) struct Parser<'t, 'a> {
+    pub(crate) alloc: Global,
+    pub(crate) rest: Cursor<'t, 'a>,
 }
 
 impl<'t, 'a> Parser<'t, 'a> {
     /// An operand of a chain of the level, where this many brackets are open.
     #[cycle(parser)]
     pub(crate) fn operand(&mut self, level: Level, depth: usize) -> Result<Expr, Stop>
-        requires { depth ≤ 64 }
-        ensures { MatchResult result (λ e. OperandRead 64 level depth self.old.rest self.new.rest (tree_of e))
-            (OperandFails 64 level depth self.old.rest self.new.rest) }
+        requires { depth ≤ MAX_NESTING }
+        ensures { MatchResult result (λ e. OperandRead MAX_NESTING level depth self.old.rest self.new.rest (tree_of e))
+            (OperandFails MAX_NESTING level depth self.old.rest self.new.rest) }
     {
         match level {
             Level::Or => self.chain(Level::And, depth),
@@ -45,10 +46,10 @@ impl<'t, 'a> Parser<'t, 'a> {
 
     /// A chain of the level.
     #[cycle(parser)]
-    pub fn chain(&mut self, level: Level, depth: usize) -> Result<Expr, Stop>
-        requires { depth ≤ 64 }
-        ensures { MatchResult result (λ e. ChainRead 64 level depth self.old.rest self.new.rest (tree_of e))
-            (OperandFails 64 level depth self.old.rest self.new.rest) }
+    pub(crate) fn chain(&mut self, level: Level, depth: usize) -> Result<Expr, Stop>
+        requires { depth ≤ MAX_NESTING }
+        ensures { MatchResult result (λ e. ChainRead MAX_NESTING level depth self.old.rest self.new.rest (tree_of e))
+            (OperandFails MAX_NESTING level depth self.old.rest self.new.rest) }
     {
         let offset = self.rest.offset();
         let first = self.operand(level, depth)?;
@@ -59,10 +60,10 @@ impl<'t, 'a> Parser<'t, 'a> {
     /// The later operands of a chain.
     #[cycle(parser)]
     fn operands(&mut self, level: Level, depth: usize) -> Result<Vec<Operand>, Stop>
-        requires { depth ≤ 64 }
+        requires { depth ≤ MAX_NESTING }
         ensures { (e : Ending) → Settled e self.old.rest → Quiet (suc (rank level)) self.old.rest → MatchResult result
-            (λ found. OperandsRead 64 level depth e self.old.rest self.new.rest found.items)
-            (Fails 64 (after e) depth self.old.rest self.new.rest) }
+            (λ found. OperandsRead MAX_NESTING level depth e self.old.rest self.new.rest found.items)
+            (Fails MAX_NESTING (after e) depth self.old.rest self.new.rest) }
     {
         let mut found = Vec::new(self.alloc);
         while let Some(operator) = self.rest.operator_of(level) {
@@ -77,9 +78,9 @@ impl<'t, 'a> Parser<'t, 'a> {
     /// An operand of a product, behind its signs.
     #[cycle(parser)]
     fn signed(&mut self, depth: usize) -> Result<Expr, Stop>
-        requires { depth ≤ 64 }
-        ensures { MatchResult result (λ e. OperandRead 64 level.Prod depth self.old.rest self.new.rest (tree_of e))
-            (OperandFails 64 level.Prod depth self.old.rest self.new.rest) }
+        requires { depth ≤ MAX_NESTING }
+        ensures { MatchResult result (λ e. OperandRead MAX_NESTING level.Prod depth self.old.rest self.new.rest (tree_of e))
+            (OperandFails MAX_NESTING level.Prod depth self.old.rest self.new.rest) }
     {
         let offset = self.rest.offset();
         let count = self.signs(depth)?;
@@ -89,12 +90,12 @@ impl<'t, 'a> Parser<'t, 'a> {
 
     /// The minus signs at the place.
     fn signs(&mut self, depth: usize) -> Result<u32, Stop>
-        requires { depth ≤ 64 }
-        ensures { MatchResult result (SignsRead 64 depth self.old.rest self.new.rest)
-            (SignsFail 64 depth self.old.rest self.new.rest) }
+        requires { depth ≤ MAX_NESTING }
+        ensures { MatchResult result (SignsRead MAX_NESTING depth self.old.rest self.new.rest)
+            (SignsFail MAX_NESTING depth self.old.rest self.new.rest) }
     {
         let mut count = 0;
-        while self.rest.at_minus() {
+        while self.rest.is_at(Mark::Minus) {
             if depth + count as usize >= MAX_NESTING {
                 return Err(Stop::TooNested);
             }
@@ -107,9 +108,9 @@ impl<'t, 'a> Parser<'t, 'a> {
     /// A path, or an expression that is no path with the steps behind it (XPath 1.0, sections 2 and 3.3).
     #[cycle(parser)]
     fn path(&mut self, depth: usize) -> Result<Expr, Stop>
-        requires { depth ≤ 64 }
-        ensures { MatchResult result (λ e. PathRead 64 depth self.old.rest self.new.rest (tree_of e))
-            (OperandFails 64 level.Union depth self.old.rest self.new.rest) }
+        requires { depth ≤ MAX_NESTING }
+        ensures { MatchResult result (λ e. PathRead MAX_NESTING depth self.old.rest self.new.rest (tree_of e))
+            (OperandFails MAX_NESTING level.Union depth self.old.rest self.new.rest) }
     {
         let Some(first) = self.rest.token() else {
             return Err(Stop::Unexpected);
@@ -125,10 +126,10 @@ impl<'t, 'a> Parser<'t, 'a> {
     /// A path that begins with `/`.
     #[cycle(parser)]
     fn from_root(&mut self, depth: usize) -> Result<Expr, Stop>
-        requires depth { depth ≤ 64 }
+        requires depth { depth ≤ MAX_NESTING }
         requires first { IsFirst token.Slash self.old.rest }
-        ensures { MatchResult result (λ e. PathRead 64 depth self.old.rest self.new.rest (tree_of e))
-            (OperandFails 64 level.Union depth self.old.rest self.new.rest) }
+        ensures { MatchResult result (λ e. PathRead MAX_NESTING depth self.old.rest self.new.rest (tree_of e))
+            (OperandFails MAX_NESTING level.Union depth self.old.rest self.new.rest) }
     {
         let offset = self.rest.offset();
         self.rest.advance();
@@ -143,10 +144,10 @@ impl<'t, 'a> Parser<'t, 'a> {
     /// A path that begins with `//`.
     #[cycle(parser)]
     fn from_anywhere(&mut self, depth: usize) -> Result<Expr, Stop>
-        requires depth { depth ≤ 64 }
+        requires depth { depth ≤ MAX_NESTING }
         requires first { IsFirst token.DoubleSlash self.old.rest }
-        ensures { MatchResult result (λ e. PathRead 64 depth self.old.rest self.new.rest (tree_of e))
-            (OperandFails 64 level.Union depth self.old.rest self.new.rest) }
+        ensures { MatchResult result (λ e. PathRead MAX_NESTING depth self.old.rest self.new.rest (tree_of e))
+            (OperandFails MAX_NESTING level.Union depth self.old.rest self.new.rest) }
     {
         let offset = self.rest.offset();
         self.rest.advance();
@@ -159,10 +160,10 @@ impl<'t, 'a> Parser<'t, 'a> {
     /// A path that begins with a step.
     #[cycle(parser)]
     fn from_here(&mut self, depth: usize) -> Result<Expr, Stop>
-        requires depth { depth ≤ 64 }
+        requires depth { depth ≤ MAX_NESTING }
         requires first { is_at_step self.old.rest ≡ true }
-        ensures { MatchResult result (λ e. PathRead 64 depth self.old.rest self.new.rest (tree_of e))
-            (OperandFails 64 level.Union depth self.old.rest self.new.rest) }
+        ensures { MatchResult result (λ e. PathRead MAX_NESTING depth self.old.rest self.new.rest (tree_of e))
+            (OperandFails MAX_NESTING level.Union depth self.old.rest self.new.rest) }
     {
         let offset = self.rest.offset();
         let steps = Vec::new(self.alloc);
@@ -173,10 +174,10 @@ impl<'t, 'a> Parser<'t, 'a> {
     /// An expression that is no path, with its predicates, and the steps behind it.
     #[cycle(parser)]
     fn from_filter(&mut self, depth: usize) -> Result<Expr, Stop>
-        requires depth { depth ≤ 64 }
+        requires depth { depth ≤ MAX_NESTING }
         requires first { IsNoPath self.old.rest }
-        ensures { MatchResult result (λ e. PathRead 64 depth self.old.rest self.new.rest (tree_of e))
-            (OperandFails 64 level.Union depth self.old.rest self.new.rest) }
+        ensures { MatchResult result (λ e. PathRead MAX_NESTING depth self.old.rest self.new.rest (tree_of e))
+            (OperandFails MAX_NESTING level.Union depth self.old.rest self.new.rest) }
     {
         let offset = self.rest.offset();
         let base = self.filter(depth)?;

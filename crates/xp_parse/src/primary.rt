@@ -5,11 +5,12 @@ ghost use Rattle.xp_tree.specs.declared.terms.Level.TheVariants as level;
 ghost use Rattle.xp_tree.specs.View.{tree_of};
 ghost use Rattle.xp_grammar.specs.declared.token.Token.TheVariants as token;
 ghost use Rattle.xp_grammar.specs.Parts.{offset_at};
-ghost use Rattle.xp_grammar.specs.Machine.{Ending, want, after};
-ghost use Rattle.xp_parse.specs.Places.{IsFirst, IsNoPath};
-ghost use Rattle.xp_parse.specs.Parsing.{FailsInCall, OperandFails, FilterRead, PrimaryRead, ArgumentsRead, MoreArgumentsRead, Settled, Quiet};
+ghost use Rattle.xp_grammar.specs.inner.Machine.{Ending, want, after};
+ghost use Rattle.xp_parse.specs.inner.Places.{IsFirst, IsNoPath};
+ghost use Rattle.xp_parse.specs.inner.Parsing.{FailsInCall, OperandFails, FilterRead, PrimaryRead, ArgumentsRead, MoreArgumentsRead, Settled, Quiet};
 
 use crate::join::with_predicates;
+use crate::mark::Mark;
 use crate::parser::Parser;
 use crate::stop::Stop;
 use sch_base::{MAX_NESTING, Text};
@@ -20,10 +21,10 @@ impl<'t, 'a> Parser<'t, 'a> {
     /// A primary expression with its predicates.
     #[cycle(parser)]
     pub(crate) fn filter(&mut self, depth: usize) -> Result<Expr, Stop>
-        requires depth { depth ≤ 64 }
+        requires depth { depth ≤ MAX_NESTING }
         requires first { IsNoPath self.old.rest }
-        ensures { MatchResult result (λ e. FilterRead 64 depth self.old.rest self.new.rest (tree_of e))
-            (OperandFails 64 level.Union depth self.old.rest self.new.rest) }
+        ensures { MatchResult result (λ e. FilterRead MAX_NESTING depth self.old.rest self.new.rest (tree_of e))
+            (OperandFails MAX_NESTING level.Union depth self.old.rest self.new.rest) }
     {
         let offset = self.rest.offset();
         let base = self.primary(depth)?;
@@ -34,10 +35,10 @@ impl<'t, 'a> Parser<'t, 'a> {
     /// A primary expression.
     #[cycle(parser)]
     fn primary(&mut self, depth: usize) -> Result<Expr, Stop>
-        requires depth { depth ≤ 64 }
+        requires depth { depth ≤ MAX_NESTING }
         requires first { IsNoPath self.old.rest }
-        ensures { MatchResult result (λ e. PrimaryRead 64 depth self.old.rest self.new.rest (tree_of e))
-            (OperandFails 64 level.Union depth self.old.rest self.new.rest) }
+        ensures { MatchResult result (λ e. PrimaryRead MAX_NESTING depth self.old.rest self.new.rest (tree_of e))
+            (OperandFails MAX_NESTING level.Union depth self.old.rest self.new.rest) }
     {
         let offset = self.rest.offset();
         let Some(first) = self.rest.token() else {
@@ -71,47 +72,47 @@ impl<'t, 'a> Parser<'t, 'a> {
     /// An expression in parentheses.
     #[cycle(parser)]
     fn in_parens(&mut self, depth: usize) -> Result<Expr, Stop>
-        requires depth { depth ≤ 64 }
+        requires depth { depth ≤ MAX_NESTING }
         requires first { IsFirst token.OpenParen self.old.rest }
-        ensures { MatchResult result (λ e. PrimaryRead 64 depth self.old.rest self.new.rest (tree_of e))
-            (OperandFails 64 level.Union depth self.old.rest self.new.rest) }
+        ensures { MatchResult result (λ e. PrimaryRead MAX_NESTING depth self.old.rest self.new.rest (tree_of e))
+            (OperandFails MAX_NESTING level.Union depth self.old.rest self.new.rest) }
     {
         if depth >= MAX_NESTING {
             return Err(Stop::TooNested);
         }
         self.rest.advance();
         let inner = self.chain(Level::Or, depth + 1)?;
-        self.rest.close_paren()?;
+        self.rest.take(Mark::CloseParen)?;
         Ok(inner)
     }
 
     /// A call of the function whose name stands at the place.
     #[cycle(parser)]
     fn call(&mut self, offset: u32, name: Text, depth: usize) -> Result<Expr, Stop>
-        requires depth { depth ≤ 64 }
+        requires depth { depth ≤ MAX_NESTING }
         requires first { IsFirst (token.Function name) self.old.rest }
         requires offset { offset ≡ offset_at self.old.rest }
-        ensures { MatchResult result (λ e. PrimaryRead 64 depth self.old.rest self.new.rest (tree_of e))
-            (OperandFails 64 level.Union depth self.old.rest self.new.rest) }
+        ensures { MatchResult result (λ e. PrimaryRead MAX_NESTING depth self.old.rest self.new.rest (tree_of e))
+            (OperandFails MAX_NESTING level.Union depth self.old.rest self.new.rest) }
     {
         if depth >= MAX_NESTING {
             return Err(Stop::TooNested);
         }
         self.rest.advance();
-        self.rest.open_paren()?;
+        self.rest.take(Mark::OpenParen)?;
         let args = self.arguments(depth + 1)?;
-        self.rest.close_paren()?;
+        self.rest.take(Mark::CloseParen)?;
         Ok(Expr::call(offset, name, args))
     }
 
     /// The arguments of a call.
     #[cycle(parser)]
     fn arguments(&mut self, depth: usize) -> Result<Vec<Expr>, Stop>
-        requires { depth ≤ 64 }
-        ensures { MatchResult result (λ found. ArgumentsRead 64 depth self.old.rest self.new.rest found.items)
-            (FailsInCall 64 (want true 0 true) depth self.old.rest self.new.rest) }
+        requires { depth ≤ MAX_NESTING }
+        ensures { MatchResult result (λ found. ArgumentsRead MAX_NESTING depth self.old.rest self.new.rest found.items)
+            (FailsInCall MAX_NESTING (want true 0 true) depth self.old.rest self.new.rest) }
     {
-        if self.rest.at_close() {
+        if self.rest.is_at(Mark::CloseParen) {
             return Ok(Vec::new(self.alloc));
         }
         let first = self.chain(Level::Or, depth)?;
@@ -121,14 +122,14 @@ impl<'t, 'a> Parser<'t, 'a> {
     /// The arguments behind the first one.
     #[cycle(parser)]
     fn more_arguments(&mut self, first: Expr, depth: usize) -> Result<Vec<Expr>, Stop>
-        requires { depth ≤ 64 }
+        requires { depth ≤ MAX_NESTING }
         ensures { (e : Ending) → Settled e self.old.rest → Quiet 0 self.old.rest → MatchResult result
-            (λ found. MoreArgumentsRead 64 depth e (tree_of first) self.old.rest self.new.rest found.items)
-            (FailsInCall 64 (after e) depth self.old.rest self.new.rest) }
+            (λ found. MoreArgumentsRead MAX_NESTING depth e (tree_of first) self.old.rest self.new.rest found.items)
+            (FailsInCall MAX_NESTING (after e) depth self.old.rest self.new.rest) }
     {
         let mut found = Vec::new(self.alloc);
         found.push(first)?;
-        while self.rest.at_comma() {
+        while self.rest.is_at(Mark::Comma) {
             self.rest.advance();
             let argument = self.chain(Level::Or, depth)?;
             found.push(argument)?;

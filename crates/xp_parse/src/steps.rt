@@ -7,9 +7,10 @@ ghost use Rattle.xp_tree.specs.View.{step_of};
 ghost use Rattle.xp_grammar.specs.declared.token.NodeType.TheVariants as node_type;
 ghost use Rattle.xp_tree.specs.declared.terms.StepTest.TheVariants as test;
 ghost use Rattle.xp_grammar.specs.Parts.{everywhere, name_test, type_test};
-ghost use Rattle.xp_grammar.specs.Machine.{Ending, after, full, need_step, need_test, type_open, type_inner};
-ghost use Rattle.xp_parse.specs.Parsing.{Fails, StepsRead, MoreStepsRead, StepRead, TestedRead, TestRead, TypeRead, PredicatesRead, IsClosed, TestFails, TargetRead, Leads};
+ghost use Rattle.xp_grammar.specs.inner.Machine.{Ending, after, full, need_step, need_test, type_open, type_inner};
+ghost use Rattle.xp_parse.specs.inner.Parsing.{Fails, StepsRead, MoreStepsRead, StepRead, TestedRead, TestRead, TypeRead, PredicatesRead, IsClosed, TestFails, TargetRead, Leads};
 
+use crate::mark::Mark;
 use crate::parser::Parser;
 use crate::stop::Stop;
 use sch_base::{MAX_NESTING, Text};
@@ -67,9 +68,9 @@ impl<'t, 'a> Parser<'t, 'a> {
     /// A step and those behind it, put behind the steps that were found.
     #[cycle(parser)]
     pub(crate) fn steps(&mut self, mut found: Vec<Step>, depth: usize) -> Result<Vec<Step>, Stop>
-        requires { depth ≤ 64 }
-        ensures { MatchResult result (λ all. StepsRead 64 depth found.items self.old.rest self.new.rest all.items)
-            (Fails 64 need_step depth self.old.rest self.new.rest) }
+        requires { depth ≤ MAX_NESTING }
+        ensures { MatchResult result (λ all. StepsRead MAX_NESTING depth found.items self.old.rest self.new.rest all.items)
+            (Fails MAX_NESTING need_step depth self.old.rest self.new.rest) }
     {
         let first = self.step(depth)?;
         found.push(first)?;
@@ -83,10 +84,10 @@ impl<'t, 'a> Parser<'t, 'a> {
         mut found: Vec<Step>,
         depth: usize,
     ) -> Result<Vec<Step>, Stop>
-        requires { depth ≤ 64 }
+        requires { depth ≤ MAX_NESTING }
         ensures { (e : Ending) → IsClosed e self.old.rest → MatchResult result
-            (λ all. MoreStepsRead 64 depth e found.items self.old.rest self.new.rest all.items)
-            (Fails 64 (after e) depth self.old.rest self.new.rest) }
+            (λ all. MoreStepsRead MAX_NESTING depth e found.items self.old.rest self.new.rest all.items)
+            (Fails MAX_NESTING (after e) depth self.old.rest self.new.rest) }
     {
         while self.lead(&mut found)? {
             let step = self.step(depth)?;
@@ -120,9 +121,9 @@ impl<'t, 'a> Parser<'t, 'a> {
     /// A step.
     #[cycle(parser)]
     fn step(&mut self, depth: usize) -> Result<Step, Stop>
-        requires { depth ≤ 64 }
-        ensures { MatchResult result (StepRead 64 depth self.old.rest self.new.rest)
-            (Fails 64 need_step depth self.old.rest self.new.rest) }
+        requires { depth ≤ MAX_NESTING }
+        ensures { MatchResult result (StepRead MAX_NESTING depth self.old.rest self.new.rest)
+            (Fails MAX_NESTING need_step depth self.old.rest self.new.rest) }
     {
         let offset = self.rest.offset();
         let Some(first) = self.rest.token() else {
@@ -143,7 +144,7 @@ impl<'t, 'a> Parser<'t, 'a> {
             }
             Token::Axis(axis) => {
                 self.rest.advance();
-                self.rest.colons()?;
+                self.rest.take(Mark::DoubleColon)?;
                 self.tested(offset, *axis, depth)
             }
             Token::Star | Token::PrefixStar(_) | Token::Name(_) | Token::NodeType(_) => {
@@ -163,9 +164,9 @@ impl<'t, 'a> Parser<'t, 'a> {
     /// A node test with its predicates, as a step on the axis.
     #[cycle(parser)]
     fn tested(&mut self, offset: u32, axis: AxisName, depth: usize) -> Result<Step, Stop>
-        requires { depth ≤ 64 }
-        ensures { MatchResult result (TestedRead 64 depth offset axis self.old.rest self.new.rest)
-            (Fails 64 need_test depth self.old.rest self.new.rest) }
+        requires { depth ≤ MAX_NESTING }
+        ensures { MatchResult result (TestedRead MAX_NESTING depth offset axis self.old.rest self.new.rest)
+            (Fails MAX_NESTING need_test depth self.old.rest self.new.rest) }
     {
         let test_offset = self.rest.offset();
         let test = self.test()?;
@@ -174,7 +175,7 @@ impl<'t, 'a> Parser<'t, 'a> {
     }
 
     /// A node test.
-    pub fn test(&mut self) -> Result<StepTest, Stop>
+    pub(crate) fn test(&mut self) -> Result<StepTest, Stop>
         ensures { MatchResult result (TestRead self.old.rest self.new.rest)
             (TestFails need_test self.old.rest self.new.rest) }
     {
@@ -208,11 +209,11 @@ impl<'t, 'a> Parser<'t, 'a> {
         ensures { MatchResult result (TypeRead node_type self.old.rest self.new.rest)
             (TestFails (type_open node_type) self.old.rest self.new.rest) }
     {
-        self.rest.open_paren()?;
+        self.rest.take(Mark::OpenParen)?;
         match node_type {
             NodeType::Pi => self.target(),
             _ => {
-                self.rest.close_paren()?;
+                self.rest.take(Mark::CloseParen)?;
                 Ok(type_test(node_type))
             }
         }
@@ -234,7 +235,7 @@ impl<'t, 'a> Parser<'t, 'a> {
             Token::Literal(target) => {
                 self.rest.advance();
                 let target = Text::copy(self.alloc, target.as_str())?;
-                self.rest.close_paren()?;
+                self.rest.take(Mark::CloseParen)?;
                 Ok(StepTest::PiNamed { target })
             }
             _ => Err(Stop::Unexpected),
@@ -244,18 +245,18 @@ impl<'t, 'a> Parser<'t, 'a> {
     /// The predicates at the place.
     #[cycle(parser)]
     pub(crate) fn predicates(&mut self, depth: usize) -> Result<Vec<Expr>, Stop>
-        requires { depth ≤ 64 }
-        ensures { MatchResult result (λ found. PredicatesRead 64 depth self.old.rest self.new.rest found.items)
-            (Fails 64 (after full) depth self.old.rest self.new.rest) }
+        requires { depth ≤ MAX_NESTING }
+        ensures { MatchResult result (λ found. PredicatesRead MAX_NESTING depth self.old.rest self.new.rest found.items)
+            (Fails MAX_NESTING (after full) depth self.old.rest self.new.rest) }
     {
         let mut found = Vec::new(self.alloc);
-        while self.rest.at_bracket() {
+        while self.rest.is_at(Mark::OpenBracket) {
             if depth >= MAX_NESTING {
                 return Err(Stop::TooNested);
             }
             self.rest.advance();
             let predicate = self.chain(Level::Or, depth + 1)?;
-            self.rest.close_bracket()?;
+            self.rest.take(Mark::CloseBracket)?;
             found.push(predicate)?;
         }
         Ok(found)

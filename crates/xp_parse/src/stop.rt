@@ -7,7 +7,7 @@ use std::alloc::{AllocError, AllocFailed};
 
 /// Why the parser stopped at the first of the tokens that are left.
 #[derive(Clone, Copy, Debug, PartialEq, Eq)]
-pub enum Stop {
+pub(crate) enum Stop {
     /// The token, or the end, does not belong there.
     Unexpected,
     /// Only the limit of nesting refuses the token.

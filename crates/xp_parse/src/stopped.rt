@@ -1,7 +1,7 @@
 //! The fault where a parser stopped.
 
 ghost use Rattle.std.specs.Prelude.{◌≡◌};
-ghost use Rattle.xp_parse.specs.Whole.{at_end_fault, stopped_fault};
+ghost use Rattle.xp_parse.specs.inner.Stopped.{at_end_fault, stopped_fault};
 
 use crate::cursor::Cursor;
 use crate::error::ParseError;
@@ -26,7 +26,7 @@ fn fault_at_end(whole: bool, end: u32) -> SyntaxFault
 }
 
 /// The fault of a parser that stopped at these tokens.
-pub fn fault_of(rest: &Cursor, stop: Stop, whole: bool, end: u32) -> ParseError
+pub(crate) fn fault_of(rest: &Cursor, stop: Stop, whole: bool, end: u32) -> ParseError
     ensures { result ≡ stopped_fault stop rest.now whole end }
 {
     match stop {

@@ -1,17 +1,19 @@
-//! Whole expressions, and their first faults.
+//! Whole expressions and patterns, and their first faults.
 
 ghost use Rattle.std.specs.Prelude.{MatchResult};
+ghost use Rattle.xp_tree.specs.PatternTree.{pattern_of};
 ghost use Rattle.xp_tree.specs.View.{tree_of};
-ghost use Rattle.xp_parse.specs.Whole.{Faults, IsWhole};
+ghost use Rattle.xp_parse.specs.Whole.{Faults, IsWhole, IsWholePattern, PatternFaults};
 
 use crate::cursor::Cursor;
 use crate::error::ParseError;
 use crate::parser::Parser;
 use crate::stop::Stop;
 use crate::stopped::fault_of;
+use sch_base::MAX_NESTING;
 use std::alloc::Global;
 use xp_grammar::Placed;
-use xp_tree::{Expr, Level};
+use xp_tree::{Expr, Level, Pattern};
 
 /// The expression that the tokens are, or the first fault; the tokens were read up to a place, to the end of the text
 /// or to where no token can be read.
@@ -21,7 +23,7 @@ pub fn parse_tokens(
     whole: bool,
     end: u32,
 ) -> Result<Expr, ParseError>
-    ensures { MatchResult result (λ e. IsWhole whole tokens.now (tree_of e)) (Faults 64 tokens.now whole end) }
+    ensures { MatchResult result (λ e. IsWhole MAX_NESTING whole tokens.now (tree_of e)) (Faults MAX_NESTING tokens.now whole end) }
 {
     let mut parser = Parser {
         alloc,
@@ -32,6 +34,30 @@ pub fn parse_tokens(
         Ok(expr) => match parser.rest.token() {
             Some(_) => Err(fault_of(&parser.rest, Stop::Unexpected, whole, end)),
             None if whole => Ok(expr),
+            None => Err(fault_of(&parser.rest, Stop::Unexpected, whole, end)),
+        },
+    }
+}
+
+/// The pattern that the tokens are, or the first fault; the tokens were read up to a place, to the end of the text or
+/// to where no token can be read. Costs time linear in the number of tokens.
+pub fn parse_pattern_tokens(
+    alloc: Global,
+    tokens: &[Placed],
+    whole: bool,
+    end: u32,
+) -> Result<Pattern, ParseError>
+    ensures { MatchResult result (λ p. IsWholePattern MAX_NESTING whole tokens.now (pattern_of p)) (PatternFaults MAX_NESTING tokens.now whole end) }
+{
+    let mut parser = Parser {
+        alloc,
+        rest: Cursor::new(tokens),
+    };
+    match parser.pattern() {
+        Err(stop) => Err(fault_of(&parser.rest, stop, whole, end)),
+        Ok(paths) => match parser.rest.token() {
+            Some(_) => Err(fault_of(&parser.rest, Stop::Unexpected, whole, end)),
+            None if whole => Ok(Pattern { paths }),
             None => Err(fault_of(&parser.rest, Stop::Unexpected, whole, end)),
         },
     }

@@ -4,9 +4,10 @@ ghost use Rattle.std.specs.Prelude.{◌≡◌, MatchResult, MatchOption, IsTrue,
 ghost use Rattle.xp_grammar.specs.declared.token.Token.TheVariants as token;
 ghost use Rattle.xp_grammar.specs.Parts.{level_of};
 ghost use Rattle.xp_tree.specs.declared.terms.Operator.TheVariants as operator;
-ghost use Rattle.xp_parse.specs.Places.{Took, Refused, StandsFirst, IsOperatorOf, NoOperatorOf, is_step_token, is_at_step};
+ghost use Rattle.xp_parse.specs.inner.Places.{Took, Refused, StandsFirst, token_of, IsOperatorOf, NoOperatorOf, is_step_token, is_at_step};
 
 use crate::cursor::Cursor;
+use crate::mark::Mark;
 use crate::stop::Stop;
 use xp_grammar::Token;
 use xp_tree::{Level, Operator};
@@ -44,112 +45,29 @@ pub(crate) fn begins_step(token: &Token) -> bool
 }
 
 impl<'t, 'a> Cursor<'t, 'a> {
-    /// Takes `(`.
-    pub fn open_paren(&mut self) -> Result<(), Stop>
-        ensures { MatchResult result (λ _. Took token.OpenParen self.old self.new) (Refused token.OpenParen self.old self.new) }
+    /// Takes the mark.
+    pub(crate) fn take(&mut self, mark: Mark) -> Result<(), Stop>
+        ensures { MatchResult result (λ _. Took (token_of mark) self.old self.new) (Refused (token_of mark) self.old self.new) }
     {
-        let Some(first) = self.token() else {
+        if !self.is_at(mark) {
             return Err(Stop::Unexpected);
-        };
-        match first {
-            Token::OpenParen => {
-                self.advance();
-                Ok(())
-            }
-            _ => Err(Stop::Unexpected),
         }
+        self.advance();
+        Ok(())
     }
 
-    /// Takes `)`.
-    pub fn close_paren(&mut self) -> Result<(), Stop>
-        ensures { MatchResult result (λ _. Took token.CloseParen self.old self.new) (Refused token.CloseParen self.old self.new) }
-    {
-        let Some(first) = self.token() else {
-            return Err(Stop::Unexpected);
-        };
-        match first {
-            Token::CloseParen => {
-                self.advance();
-                Ok(())
-            }
-            _ => Err(Stop::Unexpected),
-        }
-    }
-
-    /// Takes `]`.
-    pub fn close_bracket(&mut self) -> Result<(), Stop>
-        ensures { MatchResult result (λ _. Took token.CloseBracket self.old self.new) (Refused token.CloseBracket self.old self.new) }
-    {
-        let Some(first) = self.token() else {
-            return Err(Stop::Unexpected);
-        };
-        match first {
-            Token::CloseBracket => {
-                self.advance();
-                Ok(())
-            }
-            _ => Err(Stop::Unexpected),
-        }
-    }
-
-    /// Takes `::`.
-    pub fn colons(&mut self) -> Result<(), Stop>
-        ensures { MatchResult result (λ _. Took token.DoubleColon self.old self.new) (Refused token.DoubleColon self.old self.new) }
-    {
-        let Some(first) = self.token() else {
-            return Err(Stop::Unexpected);
-        };
-        match first {
-            Token::DoubleColon => {
-                self.advance();
-                Ok(())
-            }
-            _ => Err(Stop::Unexpected),
-        }
-    }
-
-    /// Whether `[` stands at the place.
-    pub fn at_bracket(&self) -> bool
-        ensures { StandsFirst token.OpenBracket self.now result }
+    /// Whether the mark stands at the place.
+    pub(crate) fn is_at(&self, mark: Mark) -> bool
+        ensures { StandsFirst (token_of mark) self.now result }
     {
         match self.token() {
-            Some(first) => matches!(first, Token::OpenBracket),
-            None => false,
-        }
-    }
-
-    /// Whether `)` stands at the place.
-    pub(crate) fn at_close(&self) -> bool
-        ensures { StandsFirst token.CloseParen self.now result }
-    {
-        match self.token() {
-            Some(first) => matches!(first, Token::CloseParen),
-            None => false,
-        }
-    }
-
-    /// Whether `,` stands at the place.
-    pub(crate) fn at_comma(&self) -> bool
-        ensures { StandsFirst token.Comma self.now result }
-    {
-        match self.token() {
-            Some(first) => matches!(first, Token::Comma),
-            None => false,
-        }
-    }
-
-    /// Whether a minus sign stands at the place.
-    pub(crate) fn at_minus(&self) -> bool
-        ensures { StandsFirst (token.Operator operator.Minus) self.now result }
-    {
-        match self.token() {
-            Some(first) => matches!(first, Token::Operator(Operator::Minus)),
+            Some(first) => mark.is(first),
             None => false,
         }
     }
 
     /// Whether a step may begin at the place.
-    pub fn at_step(&self) -> bool
+    pub(crate) fn at_step(&self) -> bool
         ensures { result ≡ is_at_step self.now }
     {
         match self.token() {
@@ -159,7 +77,7 @@ impl<'t, 'a> Cursor<'t, 'a> {
     }
 
     /// The operator at the place, if its chains are those of the level.
-    pub fn operator_of(&self, level: Level) -> Option<Operator>
+    pub(crate) fn operator_of(&self, level: Level) -> Option<Operator>
         ensures { MatchOption result (NoOperatorOf level self.now) (λ o. IsOperatorOf level o self.now) }
     {
         let first = self.token()?;

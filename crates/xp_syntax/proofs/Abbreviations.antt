@@ -12,7 +12,7 @@ whole : (b : Bool) (s : List Placed) → Out b s s
 whole b [] = ended b
 whole b (p ∷ s) = kept b p s s (whole (ends_axis p.token) s)
 
--- behind tokens that stay
+-- after tokens that stay
 behind : (b : Bool) (before s t : List Placed) → Out (axis_named b before) s t → Out b (before ++ s) (before ++ t)
 behind b [] s t M = M
 behind b (p ∷ before) s t M = kept b p (before ++ s) (before ++ t) (behind (ends_axis p.token) before s t M)

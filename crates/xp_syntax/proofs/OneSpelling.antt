@@ -4,9 +4,9 @@ use Rattle.xp_tree.specs.Tree.{Tree}
 use Rattle.xp_tree.specs.PatternTree.{PathTree}
 use Rattle.xp_grammar.specs.Grammar.{Derives}
 use Rattle.xp_lexicon.specs.Laws.{TextsReadOnce}
-use Rattle.xp_one_tree.specs.OneTree.{OneTree}
-use Rattle.xp_one_pattern.specs.OnePattern.{OnePattern}
-use Rattle.xp_patterns.specs.PatternGrammar.{DerivesPattern}
+use Rattle.xp_grammar_laws.specs.OneTree.{OneTree}
+use Rattle.xp_grammar_laws.specs.OnePattern.{OnePattern}
+use Rattle.xp_grammar.specs.PatternGrammar.{DerivesPattern}
 use Rattle.xp_syntax.specs.Syntax.{Spells, SpellsPattern}
 
 pub one-spelling : TextsReadOnce → OneTree → (limit higher : ℕ) (text : List ℕ) (e f : Tree) → Spells limit text e → Spells higher text f → e ≡ f

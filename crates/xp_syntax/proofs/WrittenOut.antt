@@ -24,7 +24,7 @@ child_axis = token.Axis axis.Child ∷ token.DoubleColon ∷ []
 abbrev any_on : AxisName → List Token → List Token
 any_on a rest = token.Axis a ∷ token.DoubleColon ∷ (any_node ++ rest)
 
--- what `//` is short for, behind its first slash
+-- what `//` is short for, after its first slash
 abbrev all_between : List Token
 all_between = any_on axis.DescendantOrSelf (token.Slash ∷ [])
 
@@ -180,7 +180,7 @@ record StepOut (m t u : List Placed) (a : AxisName) (k : StepTest) : Type 0 wher
   passes : IsTest from left k
   place : offset_at m ≡ offset_at from
 
--- a node test behind an axis stays
+-- a node test after an axis stays
 behind_axis : {b : Bool} {s t u : List Placed} {k : StepTest} → b ≡ true → IsTest s u k → Out b s t →
     (left : List Placed) × (c : Bool) × Out c u left × IsTest t left k
 behind_axis {k = k} named T M =
@@ -228,7 +228,7 @@ any_step limit d offset a {s} {u} {rest} M =
     typed_test node (one_at offset token.OpenParen) (one_at offset token.CloseParen) s node_type.Node refl refl refl in
     tested_step d (placed_at offset (any_on a []) ++ s) any s s u a test.Node no_trees rest (axis_at offset a any) T (no_predicate d s) M
 
--- all of it between two slashes, behind the first one
+-- all of it between two slashes, after the first one
 any_slash : (limit d offset : ℕ) {s u : List Placed} {ss : Steps} → IsSteps limit d s u ss →
     IsSteps limit d (placed_at offset all_between ++ s) u (everywhere offset ss)
 any_slash limit d offset {s} {u} {ss} D =

@@ -9,7 +9,7 @@ use Rattle.xp_grammar.specs.declared.token.Placed.{Placed}
 use Rattle.xp_grammar.specs.declared.token.Token.{Token}
 use Rattle.xp_grammar.specs.declared.token.Token.TheVariants as token
 use Rattle.xp_grammar.specs.Grammar.{Derives}
-use Rattle.xp_syntax.specs.Syntax.{Spells, SpellsPattern, IsSyntaxFault}
+use Rattle.xp_syntax.specs.Syntax.{Spells, SpellsPattern, IsSyntaxFault, IsPatternFault}
 
 -- a text spells at most one expression: no limit of nesting changes it
 abbrev pub OneSpelling : Type 0
@@ -26,10 +26,22 @@ FirstFaultsAreUnique =
     (limit : ℕ) (text : List ℕ) (kind other_kind : SyntaxKind) (offset other_offset : ℕ) → IsSyntaxFault limit text kind offset →
     IsSyntaxFault limit text other_kind other_offset → (kind ≡ other_kind) × (offset ≡ other_offset)
 
+-- a text has no two first faults as a pattern
+abbrev pub FirstPatternFaultsAreUnique : Type 0
+FirstPatternFaultsAreUnique =
+    (limit : ℕ) (text : List ℕ) (kind other_kind : SyntaxKind) (offset other_offset : ℕ) → IsPatternFault limit text kind offset →
+    IsPatternFault limit text other_kind other_offset → (kind ≡ other_kind) × (offset ≡ other_offset)
+
 -- a text with a fault spells no expression
 abbrev pub FaultyTextsSpellNothing : Type 0
 FaultyTextsSpellNothing =
     (limit : ℕ) (text : List ℕ) (kind : SyntaxKind) (offset : ℕ) (e : Tree) → IsSyntaxFault limit text kind offset → Spells limit text e → ⊥
+
+-- a text with a fault as a pattern spells no pattern
+abbrev pub FaultyTextsSpellNoPattern : Type 0
+FaultyTextsSpellNoPattern =
+    (limit : ℕ) (text : List ℕ) (kind : SyntaxKind) (offset : ℕ) (paths : List PathTree) → IsPatternFault limit text kind offset →
+    SpellsPattern limit text paths → ⊥
 
 -- the tokens, all at one offset
 abbrev pub placed_at : ℕ → List Token → List Placed

@@ -2,9 +2,8 @@ pub mod Syntax
 pub mod Laws
 pub use Rattle.xp_tree.specs.Tree
 pub use Rattle.xp_tree.specs.View
+pub use Rattle.xp_tree.specs.PatternTree
 pub use Rattle.xp_grammar.specs.Grammar
+pub use Rattle.xp_grammar.specs.PatternGrammar
 pub use Rattle.xp_grammar.specs.Faults
 pub use Rattle.xp_lexicon.specs.Lexicon
-pub use Rattle.xp_patterns.specs.PatternGrammar
-pub use Rattle.xp_patterns.specs.PatternFaults
-pub use Rattle.xp_tree.specs.PatternTree

@@ -7,8 +7,8 @@ use Rattle.xp_grammar.specs.declared.fault.SyntaxKind.{SyntaxKind}
 use Rattle.xp_grammar.specs.Grammar.{Derives}
 use Rattle.xp_grammar.specs.Faults.{IsFirstFault}
 use Rattle.xp_lexicon.specs.Lexicon.{Tokenized}
-use Rattle.xp_patterns.specs.PatternGrammar.{DerivesPattern}
-use Rattle.xp_patterns.specs.PatternFaults.{IsFirstPatternFault}
+use Rattle.xp_grammar.specs.PatternGrammar.{DerivesPattern}
+use Rattle.xp_grammar.specs.Faults.{IsFirstPatternFault}
 use Rattle.xp_parse.specs.declared.error.ParseError.{ParseError}
 use Rattle.xp_parse.specs.declared.error.ParseError.TheVariants as error
 

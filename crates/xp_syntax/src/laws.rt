@@ -1,11 +1,10 @@
 //! Laws of the definitions, for the proofs of callers.
 
-ghost use Rattle.xp_syntax.specs.Laws.{AbbreviationsAreWrittenOut};
-ghost use Rattle.xp_syntax.specs.Laws.{FirstFaultsAreUnique, FaultyTextsSpellNothing, OneSpelling, OnePatternSpelling};
+ghost use Rattle.xp_syntax.specs.Laws.{AbbreviationsAreWrittenOut, OneSpelling, OnePatternSpelling};
+ghost use Rattle.xp_syntax.specs.Laws.{FirstFaultsAreUnique, FirstPatternFaultsAreUnique, FaultyTextsSpellNothing, FaultyTextsSpellNoPattern};
 
+use xp_grammar_laws::{one_pattern, one_tree};
 use xp_lexicon::texts_read_once;
-use xp_one_pattern::one_pattern;
-use xp_one_tree::one_tree;
 
 /// A text spells at most one expression, at whatever limits of nesting.
 pub fn one_spelling()
@@ -30,9 +29,23 @@ pub fn first_faults_are_unique()
     texts_read_once();
 }
 
+/// A text has no two first faults as a pattern.
+pub fn first_pattern_faults_are_unique()
+    ensures { FirstPatternFaultsAreUnique }
+{
+    texts_read_once();
+}
+
 /// A text with a fault spells no expression.
 pub fn faulty_texts_spell_nothing()
     ensures { FaultyTextsSpellNothing }
+{
+    texts_read_once();
+}
+
+/// A text with a fault as a pattern spells no pattern.
+pub fn faulty_texts_spell_no_pattern()
+    ensures { FaultyTextsSpellNoPattern }
 {
     texts_read_once();
 }

@@ -5,8 +5,8 @@ mod laws;
 mod parse;
 
 pub use laws::{
-    abbreviations_are_written_out, faulty_texts_spell_nothing, first_faults_are_unique,
-    one_pattern_spelling, one_spelling,
+    abbreviations_are_written_out, faulty_texts_spell_no_pattern, faulty_texts_spell_nothing,
+    first_faults_are_unique, first_pattern_faults_are_unique, one_pattern_spelling, one_spelling,
 };
 pub use parse::{parse_expr, parse_pattern};
 pub use sch_base::MAX_EXPRESSION_BYTES;

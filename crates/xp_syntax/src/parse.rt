@@ -5,11 +5,10 @@ ghost use Rattle.xp_tree.specs.View.{tree_of};
 ghost use Rattle.xp_tree.specs.PatternTree.{pattern_of};
 ghost use Rattle.xp_syntax.specs.Syntax.{Spells, IsSyntaxFault, SpellsPattern, IsPatternFault, UnlessMemory};
 
-use sch_base::MAX_EXPRESSION_BYTES;
+use sch_base::{MAX_EXPRESSION_BYTES, MAX_NESTING};
 use std::alloc::Global;
 use xp_lexicon::{tokenize, whole_texts_end};
-use xp_parse::{ParseError, parse_tokens};
-use xp_pattern_parse::parse_pattern_tokens;
+use xp_parse::{ParseError, parse_pattern_tokens, parse_tokens};
 use xp_tree::{Expr, Pattern};
 
 /// The expression that the text spells (XPath 1.0, section 3), or the text's first fault.
@@ -18,7 +17,7 @@ use xp_tree::{Expr, Pattern};
 /// with the number of bytes before it, or want of memory. The time grows with the text's length.
 pub fn parse_expr(alloc: Global, text: &str) -> Result<Expr, ParseError>
     requires { length text.now ≤ MAX_EXPRESSION_BYTES }
-    ensures { MatchResult result (λ e. Spells 64 text.now (tree_of e)) (UnlessMemory (IsSyntaxFault 64 text.now)) }
+    ensures { MatchResult result (λ e. Spells MAX_NESTING text.now (tree_of e)) (UnlessMemory (IsSyntaxFault MAX_NESTING text.now)) }
 {
     whole_texts_end();
     let lexed = tokenize(alloc, text)?;
@@ -31,7 +30,7 @@ pub fn parse_expr(alloc: Global, text: &str) -> Result<Expr, ParseError>
 /// with the number of bytes before it, or want of memory. The time grows with the text's length.
 pub fn parse_pattern(alloc: Global, text: &str) -> Result<Pattern, ParseError>
     requires { length text.now ≤ MAX_EXPRESSION_BYTES }
-    ensures { MatchResult result (λ p. SpellsPattern 64 text.now (pattern_of p)) (UnlessMemory (IsPatternFault 64 text.now)) }
+    ensures { MatchResult result (λ p. SpellsPattern MAX_NESTING text.now (pattern_of p)) (UnlessMemory (IsPatternFault MAX_NESTING text.now)) }
 {
     whole_texts_end();
     let lexed = tokenize(alloc, text)?;

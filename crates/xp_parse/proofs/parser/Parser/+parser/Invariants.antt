@@ -1,7 +1,8 @@
 use Rattle.std.proofs.Common.{◌≤◌, suc, ◌+◌, ◌*◌, length}
+use Rattle.sch_base.specs.declared.limits.TheConstants.{MAX_NESTING}
 use Rattle.xp_tree.specs.View.{tree_of}
-use Rattle.xp_grammar.specs.Machine.{Ending}
-use Rattle.xp_parse.specs.Parsing.{Settled, Quiet, rank, IsClosed, OperandsSoFar, StepsSoFar, PredicatesSoFar, ArgumentsSoFar, weight}
+use Rattle.xp_grammar.specs.inner.Machine.{Ending}
+use Rattle.xp_parse.specs.inner.Parsing.{Settled, Quiet, rank, IsClosed, OperandsSoFar, StepsSoFar, PredicatesSoFar, ArgumentsSoFar, weight}
 use Rattle.xp_parse.proofs.parser.Parser.+parser.Given as goal
 
 abbrev pub decreases-arguments : goal.decreases-arguments
@@ -67,7 +68,7 @@ decreases-tested l = length l.self.now.rest * 32 + 1
 abbrev pub invariant-more_arguments-loop-self : goal.invariant-more_arguments-loop-self
 invariant-more_arguments-loop-self l = (length l.self.rest ≤ length l.initial.self.rest) ×
     ((e : Ending) → Settled e l.initial.self.rest → Quiet 0 l.initial.self.rest →
-    ArgumentsSoFar 64 l.depth e (tree_of l.fn.first) l.initial.self.rest l.self.rest l.found.items)
+    ArgumentsSoFar MAX_NESTING l.depth e (tree_of l.fn.first) l.initial.self.rest l.self.rest l.found.items)
 
 abbrev pub decreases-more_arguments-loop-self : goal.decreases-more_arguments-loop-self
 decreases-more_arguments-loop-self l = length l.self.rest
@@ -75,7 +76,7 @@ decreases-more_arguments-loop-self l = length l.self.rest
 abbrev pub invariant-more_steps-loop-found : goal.invariant-more_steps-loop-found
 invariant-more_steps-loop-found l = (length l.self.rest ≤ length l.initial.self.rest) ×
     ((e : Ending) → IsClosed e l.initial.self.rest →
-    StepsSoFar 64 l.depth e l.initial.found.items l.initial.self.rest l.self.rest l.found.items)
+    StepsSoFar MAX_NESTING l.depth e l.initial.found.items l.initial.self.rest l.self.rest l.found.items)
 
 abbrev pub decreases-more_steps-loop-found : goal.decreases-more_steps-loop-found
 decreases-more_steps-loop-found l = length l.self.rest
@@ -83,13 +84,13 @@ decreases-more_steps-loop-found l = length l.self.rest
 abbrev pub invariant-operands-loop-operator : goal.invariant-operands-loop-operator
 invariant-operands-loop-operator l = (length l.self.rest ≤ length l.initial.self.rest) ×
     ((e : Ending) → Settled e l.initial.self.rest → Quiet (suc (rank l.level)) l.initial.self.rest →
-    OperandsSoFar 64 l.level l.depth e l.initial.self.rest l.self.rest l.found.items)
+    OperandsSoFar MAX_NESTING l.level l.depth e l.initial.self.rest l.self.rest l.found.items)
 
 abbrev pub decreases-operands-loop-operator : goal.decreases-operands-loop-operator
 decreases-operands-loop-operator l = length l.self.rest
 
 abbrev pub invariant-predicates-loop-found : goal.invariant-predicates-loop-found
-invariant-predicates-loop-found l = PredicatesSoFar 64 l.depth l.initial.self.rest l.self.rest l.found.items
+invariant-predicates-loop-found l = PredicatesSoFar MAX_NESTING l.depth l.initial.self.rest l.self.rest l.found.items
 
 abbrev pub decreases-predicates-loop-found : goal.decreases-predicates-loop-found
 decreases-predicates-loop-found l = length l.self.rest

@@ -1,4 +1,5 @@
 use Rattle.std.proofs.Common.{arith}
+use Rattle.sch_base.specs.declared.limits.TheConstants.{MAX_NESTING}
 use Rattle.xp_grammar.specs.Grammar.{no_sign}
 use Rattle.xp_parse.proofs.Failing.{signs_on, signs_fail}
 use Rattle.xp_parse.proofs.parser.Parser.signs.Goals as goal
@@ -8,7 +9,7 @@ loop-depth-init c = (no_sign _, omega (arith, c.requires))
 
 pub returns-then-depth-count-ge-MAX_NESTING : goal.returns-then-depth-count-ge-MAX_NESTING
 returns-then-depth-count-ge-MAX_NESTING c =
-    signs_fail 64 c.args.depth c.loop-depth.count _ _ c.loop-depth.invariant.0 c.loop-depth-test.ensures
+    signs_fail MAX_NESTING c.args.depth c.loop-depth.count _ _ c.loop-depth.invariant.0 c.loop-depth-test.ensures
     c.loop-depth.invariant.1 c.if-depth-count-ge-MAX_NESTING.true
 
 pub loop-depth-preserved : goal.loop-depth-preserved

@@ -1,6 +1,6 @@
 use Rattle.std.proofs.Common.{sym, ap, ◌∙◌}
 use Rattle.xp_grammar.specs.declared.token.Token.TheVariants as token
-use Rattle.xp_grammar.specs.Machine.{need_test}
+use Rattle.xp_grammar.specs.inner.Machine.{need_test}
 use Rattle.xp_parse.proofs.Failing.{first_same, took_of}
 use Rattle.xp_parse.proofs.NodeTests.{stops_at_end, stops_at_first, star_read, prefix_read, name_read, node_read, no_test}
 use Rattle.xp_parse.proofs.parser.Parser.test.Goals as goal

@@ -1,5 +1,0 @@
-use Rattle.xp_one_pattern.proofs.laws.one_pattern.Goals as goal
-use Rattle.xp_one_pattern.proofs.UniquePatterns.{one_list}
-
-pub returns : goal.returns
-returns c = λ limit higher tokens ps qs D E. (one_list limit higher D E tt tt).1

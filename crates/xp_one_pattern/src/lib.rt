@@ -1,6 +1,0 @@
-//! Tokens derive at most one match pattern (XSLT 1.0, section 5.2).
-#![tactic(auto)]
-
-mod laws;
-
-pub use laws::one_pattern;

@@ -1,5 +1,0 @@
-pub mod TokenKinds
-pub mod NodeTests
-pub mod Begins
-pub mod Alike
-pub mod Unique

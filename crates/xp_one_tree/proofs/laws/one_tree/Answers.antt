@@ -1,5 +1,0 @@
-use Rattle.xp_one_tree.proofs.laws.one_tree.Goals as goal
-use Rattle.xp_one_tree.proofs.Unique.{one_chain}
-
-pub returns : goal.returns
-returns c = λ limit higher tokens e f D E. (one_chain limit higher D E tt tt).1

@@ -1,0 +1,4 @@
+pub mod Places
+pub mod Parsing
+pub mod PatternReading
+pub mod Stopped

@@ -1,0 +1,74 @@
+//! `id` and `key` at the beginning of a path pattern.
+
+ghost use Rattle.std.specs.Prelude.{◌≡◌, MatchResult, codes};
+ghost use Rattle.xp_grammar.specs.declared.token.Token.TheVariants as token;
+ghost use Rattle.xp_parse.specs.inner.Places.{IsFirst, Took, Refused};
+ghost use Rattle.xp_grammar.specs.inner.PatternMachine.{want_path};
+ghost use Rattle.xp_parse.specs.inner.PatternReading.{FailsAt, CallFound, NoLiteral};
+
+use crate::mark::Mark;
+use crate::parser::Parser;
+use crate::stop::Stop;
+use sch_base::{MAX_NESTING, Text};
+use xp_grammar::Token;
+use xp_tree::PatternStart;
+
+impl<'t, 'a> Parser<'t, 'a> {
+    /// `id` or `key` with its literals, whose name stands at the place.
+    pub(crate) fn id_key_pattern(&mut self, name: &str) -> Result<PatternStart, Stop>
+        requires { IsFirst (token.Function name.now) self.old.rest }
+        ensures { MatchResult result (CallFound MAX_NESTING self.old.rest self.new.rest)
+            (FailsAt MAX_NESTING want_path self.old.rest self.new.rest) }
+    {
+        match name {
+            "id" => self.id_pattern(),
+            "key" => self.key_pattern(),
+            _ => Err(Stop::Unexpected),
+        }
+    }
+
+    /// `id` with its literal.
+    fn id_pattern(&mut self) -> Result<PatternStart, Stop>
+        requires { IsFirst (token.Function (codes "id")) self.old.rest }
+        ensures { MatchResult result (CallFound MAX_NESTING self.old.rest self.new.rest)
+            (FailsAt MAX_NESTING want_path self.old.rest self.new.rest) }
+    {
+        self.rest.advance();
+        self.rest.take(Mark::OpenParen)?;
+        let value = self.literal()?;
+        self.rest.take(Mark::CloseParen)?;
+        Ok(PatternStart::Id { value })
+    }
+
+    /// `key` with its literals.
+    fn key_pattern(&mut self) -> Result<PatternStart, Stop>
+        requires { IsFirst (token.Function (codes "key")) self.old.rest }
+        ensures { MatchResult result (CallFound MAX_NESTING self.old.rest self.new.rest)
+            (FailsAt MAX_NESTING want_path self.old.rest self.new.rest) }
+    {
+        self.rest.advance();
+        self.rest.take(Mark::OpenParen)?;
+        let name = self.literal()?;
+        self.rest.take(Mark::Comma)?;
+        let value = self.literal()?;
+        self.rest.take(Mark::CloseParen)?;
+        Ok(PatternStart::Key { name, value })
+    }
+
+    /// Takes a literal.
+    fn literal(&mut self) -> Result<Text, Stop>
+        ensures { MatchResult result (λ value. Took (token.Literal value) self.old.rest self.new.rest)
+            (NoLiteral self.old.rest self.new.rest) }
+    {
+        let Some(first) = self.rest.token() else {
+            return Err(Stop::Unexpected);
+        };
+        match first {
+            Token::Literal(value) => {
+                self.rest.advance();
+                Ok(Text::copy(self.alloc, value.as_str())?)
+            }
+            _ => Err(Stop::Unexpected),
+        }
+    }
+}

@@ -1,2 +1,0 @@
-pub mod PatternReading
-pub mod PatternWhole

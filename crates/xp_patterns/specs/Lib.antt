@@ -1,3 +1,0 @@
-pub mod PatternGrammar
-pub mod PatternFaults
-pub mod PatternMachine
