@@ -14,7 +14,7 @@ use Rattle.xp_lexicon.specs.declared.lexeme.Form.{Form}
 use Rattle.xp_lexicon.specs.declared.lexeme.Form.TheVariants as form
 use Rattle.xp_lexicon.specs.declared.lexeme.Scanned.{Scanned}
 use Rattle.xp_lexicon.specs.Lexicon.{symbols, is_quote, are_digits, IsNumber, whole_number, ending_point, inner_point, leading_point, IsNcname, IsLexeme, symbol_lexeme, star_lexeme, literal_lexeme, number_lexeme, variable_lexeme, prefixed_variable_lexeme, name_lexeme, prefixed_name_lexeme, prefix_star_lexeme}
-use Rattle.xp_lexicon.specs.Scanning.{form_of, fits, is_symbol, is_star, is_number, is_pointed, LongestOf, NoneOf, LongestAt, NoLexeme}
+use Rattle.xp_lexicon.specs.inner.Scanning.{form_of, fits, is_symbol, is_star, is_number, is_pointed, LongestOf, NoneOf, LongestAt, NoLexeme}
 use Rattle.xp_lexicon.proofs.Symbols.{in_table}
 use Rattle.xp_lexicon.proofs.Forms.{stars}
 use Rattle.xp_lexicon.proofs.Literals.{quote_is_low}

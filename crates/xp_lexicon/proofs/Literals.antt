@@ -6,7 +6,7 @@ use Rattle.std.proofs.lemmas.Bool.{both_ways, or_from, or_parts, or_right, ne_eq
 use Rattle.std.proofs.lemmas.Bool.Decides.{nat_tests}
 use Rattle.xp_lexicon.specs.declared.lexeme.Lexeme.TheVariants as lexeme
 use Rattle.xp_lexicon.specs.Lexicon.{is_quote, literal_lexeme}
-use Rattle.xp_lexicon.specs.Scanning.{LongestOf, NoneOf, is_literal}
+use Rattle.xp_lexicon.specs.inner.Scanning.{LongestOf, NoneOf, is_literal}
 use Rattle.xp_lexicon.proofs.Forms.{literals}
 
 pub quote_is_low : (q : ℕ) → is_quote q ≡ true → q < 128

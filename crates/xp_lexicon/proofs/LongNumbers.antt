@@ -10,7 +10,7 @@ use Rattle.std.proofs.lemmas.List.{append_cancel_right}
 use Rattle.std.proofs.lemmas.Str.{encode_ascii}
 use Rattle.xp_lexicon.specs.declared.lexeme.Lexeme.TheVariants as lexeme
 use Rattle.xp_lexicon.specs.Lexicon.{are_digits, IsNumber, whole_number, ending_point, inner_point, leading_point, number_lexeme}
-use Rattle.xp_lexicon.specs.Scanning.{Stops, Ran, StartsWith, IsEnd, EndsNumber, with_point, without_point, NumberAt, LongestOf, NoneOf, is_number, is_pointed}
+use Rattle.xp_lexicon.specs.inner.Scanning.{Stops, Ran, StartsWith, IsEnd, EndsNumber, with_point, without_point, NumberAt, LongestOf, NoneOf, is_number, is_pointed}
 use Rattle.xp_lexicon.proofs.Runs.{stops_at_ascii}
 use Rattle.xp_lexicon.proofs.Names.{Within, run_within}
 use Rattle.xp_lexicon.proofs.Forms.{numbers, pointed}
@@ -34,7 +34,7 @@ digits_all : (ds : List ℕ) → all_ascii_digits ds ≡ true → list_all is_as
 digits_all [] h = refl
 digits_all (d ∷ ds) h = let p = and_parts _ _ h in and_from _ _ p.0 (digits_all ds p.1)
 
--- digits that a text begins with, perhaps none, and what is behind them begins with none
+-- digits that a text begins with, perhaps none, and what is after them begins with none
 pub record Digits (text digits rest : List ℕ) : Type 0 where
   pub split : text ≡ digits ++ rest
   pub are : all_ascii_digits digits ≡ true

@@ -8,7 +8,7 @@ use Rattle.std.proofs.lemmas.Str.{encode_same, encodes-append, encodes-chars, ch
 use Rattle.sch_base.specs.Characters.{is_name_start, is_name_char}
 use Rattle.sch_base.specs.Names.{is_ncname_of}
 use Rattle.xp_lexicon.specs.Lexicon.{IsNcname}
-use Rattle.xp_lexicon.specs.Scanning.{Stops, Ran, IsHead, NameAt, NoName}
+use Rattle.xp_lexicon.specs.inner.Scanning.{Stops, Ran, IsHead, NameAt, NoName}
 use Rattle.xp_lexicon.proofs.Runs.{stops_at_ascii, first_is_scalar}
 
 -- a run that goes on to other characters is the front of a run that can't go on

@@ -11,7 +11,7 @@ use Rattle.xp_lexicon.specs.declared.lexeme.Lexeme.{Lexeme}
 use Rattle.xp_lexicon.specs.declared.lexeme.Form.TheVariants as form
 use Rattle.xp_lexicon.specs.Lexicon.{symbols, token_of, ends_operand, IsLexeme, IsRead, TokensFrom, at_end, whitespace, one_token, bad_token}
 use Rattle.xp_lexicon.specs.Laws.{WholeTextsEnd, IsSameReading, TextsReadOnce}
-use Rattle.xp_lexicon.specs.Scanning.{form_of, fits}
+use Rattle.xp_lexicon.specs.inner.Scanning.{form_of, fits}
 use Rattle.xp_lexicon.proofs.Forms.{symbolic}
 use Rattle.xp_lexicon.proofs.Symbols.{in_table}
 use Rattle.xp_lexicon.proofs.Firsts.{form_fits, begins_symbol, sign_passes, signs}
@@ -93,7 +93,7 @@ more_same offset t u tokens others whole other_whole end other_end e s = record 
   end_same = s.end_same;
 }
 
--- what comes behind a token is read from the same place
+-- what comes after a token is read from the same place
 moved : (offset : ℕ) (bytes rest other after : List ℕ) (t u : Token) (tokens : List Placed) (whole : Bool) (end : ℕ) → SameRead bytes rest other after t u →
     TokensFrom (ends_operand u) (offset + length other) after tokens whole end → TokensFrom (ends_operand t) (offset + length bytes) rest tokens whole end
 moved offset bytes rest other after t u tokens whole end s from =

@@ -1,10 +1,10 @@
--- Characters in a row, and what stands behind them.
+-- Characters in a row, and what stands after them.
 use Rattle.std.proofs.Common.{◌≡◌, ℕ, ◌<◌, Bool, true, false, List, [], ◌∷◌, ◌++◌, length, refl, sym, ap, subst, ◌∙◌, append_assoc, arith, length-append}
 use Rattle.std.specs.Prelude.{encode_utf8, encode_utf8_all, IsUtf8}
 use Rattle.std.specs.Str.{all_scalars}
 use Rattle.std.proofs.lemmas.Bool.{and_parts, and_from}
 use Rattle.std.proofs.lemmas.Str.{encode_ascii, encode_same, length-encode, len_utf8_bounds}
-use Rattle.xp_lexicon.specs.Scanning.{Stops, Ran}
+use Rattle.xp_lexicon.specs.inner.Scanning.{Stops, Ran}
 
 -- a character takes a byte or more
 pub encode_takes : (c : ℕ) (after : List ℕ) → 0 < length (encode_utf8 c ++ after)

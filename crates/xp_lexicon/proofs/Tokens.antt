@@ -13,8 +13,8 @@ use Rattle.xp_grammar.specs.declared.token.Placed.{Placed}
 use Rattle.xp_grammar.specs.declared.token.Token.{Token}
 use Rattle.xp_grammar.specs.declared.token.Token.TheVariants as token
 use Rattle.xp_lexicon.specs.declared.lexeme.Lexeme.{Lexeme}
-use Rattle.xp_lexicon.specs.Lexicon.{named, node_types, axis_names, trimmed, goes_on, called, name_token, token_of, ends_operand, IsLexeme, IsLongest, TokensFrom, at_end, whitespace, one_token, bad_token, Tokenized}
-use Rattle.xp_lexicon.specs.Scanning.{Stops, Ran, IsEnd, LongestAt, NoToken, ReadAt}
+use Rattle.xp_lexicon.specs.Lexicon.{named, node_types, axis_names, trimmed, goes_on, called, name_token, starred_token, token_of, ends_operand, IsLexeme, IsLongest, TokensFrom, at_end, whitespace, one_token, bad_token, Tokenized}
+use Rattle.xp_lexicon.specs.inner.Scanning.{Stops, Ran, IsEnd, LongestAt, NoToken, ReadAt}
 use Rattle.xp_lexicon.proofs.Same.{same_lexeme, lexeme_takes}
 
 pub whitespace_is_low : (c : ℕ) → is_whitespace c ≡ true → c < 128
@@ -50,7 +50,7 @@ pub trimmed_ran : (text rest : List ℕ) → Ran is_whitespace text rest → tri
 trimmed_ran text rest r =
     ap trimmed (r.split ∙ ap (λ l. l ++ rest) (spaces_spell r.run r.pass)) ∙ trimmed_run r.run rest r.pass r.stops
 
--- a name's token by the marks behind it
+-- a name's token by the marks after it
 abbrev chosen : Bool → Bool → List ℕ → Option Token
 chosen paren colons name =
     if paren then Some (called name (named node_types name))
@@ -85,6 +85,13 @@ pub before_others : (name rest : List ℕ) → goes_on (codes "(") rest ≡ fals
     Some (token.Name name) ≡ name_token name rest
 before_others name rest paren colons =
     ap (λ b. chosen false b name) (sym colons) ∙ ap (λ b. chosen b (goes_on (codes "::") rest) name) (sym paren)
+
+pub starred_before_colons : (prefix rest : List ℕ) → goes_on (codes "::") rest ≡ true → None ≡ starred_token prefix rest
+starred_before_colons prefix rest colons = ap (λ b. if b then None else Some (token.PrefixStar prefix)) (sym colons)
+
+pub starred_before_others : (prefix rest : List ℕ) → goes_on (codes "::") rest ≡ false →
+    Some (token.PrefixStar prefix) ≡ starred_token prefix rest
+starred_before_others prefix rest colons = ap (λ b. if b then None else Some (token.PrefixStar prefix)) (sym colons)
 
 -- fronts of one length are the same
 fronts_same : (xs ys us vs : List ℕ) → length xs ≡ length ys → xs ++ us ≡ ys ++ vs → xs ≡ ys

@@ -47,7 +47,7 @@ symbols = (codes "(", token.OpenParen)
     ∷ (codes ">=", token.Operator operator.AtLeast)
     ∷ []
 
--- the names that are operators behind an operand
+-- the names that are operators after an operand
 abbrev pub operator_names : List (List ℕ × Token)
 operator_names = (codes "and", token.Operator operator.And)
     ∷ (codes "or", token.Operator operator.Or)
@@ -135,7 +135,7 @@ abbrev pub trimmed : List ℕ → List ℕ
 trimmed [] = []
 trimmed (b ∷ text) = if is_whitespace b then trimmed text else b ∷ text
 
--- whether a text goes on with these characters, possibly behind whitespace
+-- whether a text goes on with these characters, possibly after whitespace
 abbrev pub goes_on : List ℕ → List ℕ → Bool
 goes_on mark text = starts_with nat_eq (trimmed text) mark
 
@@ -151,7 +151,11 @@ name_token name rest =
     else (if goes_on (codes "::") rest then option_map token.Axis (named axis_names name)
     else Some (token.Name name))
 
--- the token that a lexeme is, behind an operand or not, with what follows it; None where no token can be read
+-- a prefix with a star where no operand stands before it, with what follows it: before `::` it is no axis
+abbrev pub starred_token : List ℕ → List ℕ → Option Token
+starred_token prefix rest = if goes_on (codes "::") rest then None else Some (token.PrefixStar prefix)
+
+-- the token that a lexeme is, after an operand or not, with what follows it; None where no token can be read
 abbrev pub token_of : Bool → Lexeme → List ℕ → Option Token
 token_of behind_operand (lexeme.Symbol t) rest = Some t
 token_of true lexeme.Star rest = Some (token.Operator operator.Times)
@@ -163,7 +167,8 @@ token_of true (lexeme.Name name) rest = named operator_names name
 token_of false (lexeme.Name name) rest = name_token name rest
 token_of true (lexeme.PrefixedName name) rest = Some (token.Name name)
 token_of false (lexeme.PrefixedName name) rest = name_token name rest
-token_of behind_operand (lexeme.PrefixStar prefix) rest = Some (token.PrefixStar prefix)
+token_of true (lexeme.PrefixStar prefix) rest = Some (token.PrefixStar prefix)
+token_of false (lexeme.PrefixStar prefix) rest = starred_token prefix rest
 
 -- whether an operand may end with the token: it is none of `@`, `::`, `(`, `[`, `,` and the operators
 abbrev pub ends_operand : Token → Bool

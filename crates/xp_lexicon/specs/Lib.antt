@@ -1,3 +1,3 @@
 pub mod Lexicon
 pub mod Laws
-pub mod Scanning
+pub mod inner

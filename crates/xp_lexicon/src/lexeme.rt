@@ -2,7 +2,7 @@
 
 ghost use Rattle.std.specs.Prelude.{◌≡◌, ◌∷◌, true, MatchOption};
 ghost use Rattle.xp_lexicon.specs.Lexicon.{is_quote};
-ghost use Rattle.xp_lexicon.specs.Scanning.{LongestAt, NoLexeme, LongestOf, NoneOf, form_of, is_literal, is_pointed};
+ghost use Rattle.xp_lexicon.specs.inner.Scanning.{LongestAt, NoLexeme, LongestOf, NoneOf, form_of, is_literal, is_pointed};
 
 use crate::name::{name, variable};
 use crate::number::{fraction, number};
@@ -32,7 +32,7 @@ pub enum Lexeme<'a> {
     PrefixStar(Word<'a>),
 }
 
-// What a lexeme's first character tells of it.
+/// What a lexeme's first character tells of it.
 #[derive(Clone, Copy, Debug, PartialEq, Eq)]
 enum Form {
     Variable,
@@ -76,7 +76,7 @@ pub(crate) fn scan(text: &str) -> Option<Scanned>
     }
 }
 
-// The form of the lexemes that begin with the character.
+/// The form of the lexemes that begin with the character.
 fn form_of(first: char) -> Form
     ensures { result ≡ form_of first }
 {
@@ -91,7 +91,7 @@ fn form_of(first: char) -> Form
     }
 }
 
-// A literal, behind its first quote.
+/// A literal, after its first quote.
 fn literal(quote: char, text: &str) -> Option<Scanned>
     requires { is_quote quote ≡ true }
     ensures { MatchOption result (NoneOf is_literal (quote ∷ text.now)) (λ s. LongestOf is_literal (quote ∷ text.now) s.rest.now s.lexeme) }
@@ -105,7 +105,7 @@ fn literal(quote: char, text: &str) -> Option<Scanned>
     }
 }
 
-// A number or a symbol that begins with a point, and what is behind the point.
+/// A number or a symbol that begins with a point, and what is after the point.
 fn point<'a>(text: &'a str, behind: &'a str) -> Option<Scanned<'a>>
     requires { text.now ≡ 46 ∷ behind.now }
     ensures { MatchOption result (NoneOf is_pointed text.now) (λ s. LongestOf is_pointed text.now s.rest.now s.lexeme) }

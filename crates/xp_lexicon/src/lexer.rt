@@ -2,7 +2,7 @@
 
 ghost use Rattle.std.specs.Prelude.{◌<◌, ◌^◌, length, IfOk, MatchOption};
 ghost use Rattle.xp_lexicon.specs.Lexicon.{Tokenized};
-ghost use Rattle.xp_lexicon.specs.Scanning.{ReadAt, NoToken};
+ghost use Rattle.xp_lexicon.specs.inner.Scanning.{ReadAt, NoToken};
 
 use crate::lexeme::scan;
 use crate::run::{Class, after_run};
@@ -20,14 +20,14 @@ pub struct Lexed<'a> {
     pub end: u32,
 }
 
-// A token and what follows it.
+/// A token and what follows it.
 #[derive(Debug, Drop)]
 struct Taken<'a> {
     token: Token<'a>,
     rest: &'a str,
 }
 
-// The token that the text begins with.
+/// The token that the text begins with.
 fn take_token(behind_operand: bool, text: &str) -> Option<Taken>
     ensures { MatchOption result (NoToken behind_operand text.now) (λ t. ReadAt behind_operand text.now t.rest.now t.token) }
 {

@@ -1,14 +1,14 @@
 //! Names, and variables (XPath 1.0, section 3.7).
 
 ghost use Rattle.std.specs.Prelude.{◌≡◌, ◌∷◌, MatchOption};
-ghost use Rattle.xp_lexicon.specs.Scanning.{NameAt, NoName, LocalAt, NoLocal, NoStar, IsHead, QnameAt, LongestOf, NoneOf, is_name, is_variable};
+ghost use Rattle.xp_lexicon.specs.inner.Scanning.{NameAt, NoName, LocalAt, NoLocal, NoStar, IsHead, QnameAt, LongestOf, NoneOf, is_name, is_variable};
 
 use crate::lexeme::{Lexeme, Scanned};
 use crate::run::{Class, after_run, before};
 use sch_base::is_name_start;
 use xp_grammar::Word;
 
-/// What is behind the NCName that the text begins with.
+/// What is after the NCName that the text begins with.
 fn after_ncname(text: &str) -> Option<&str>
     ensures { MatchOption result (NoName text.now) (λ rest. NameAt text.now rest.now) }
 {
@@ -19,7 +19,7 @@ fn after_ncname(text: &str) -> Option<&str>
     }
 }
 
-// What is behind the colon and the NCName that the text begins with.
+/// What is after the colon and the NCName that the text begins with.
 fn after_local(text: &str) -> Option<&str>
     ensures { MatchOption result (NoLocal text.now) (λ rest. LocalAt text.now rest.now) }
 {
@@ -29,7 +29,7 @@ fn after_local(text: &str) -> Option<&str>
     }
 }
 
-// What is behind the colon and the star that the text begins with.
+/// What is after the colon and the star that the text begins with.
 fn after_star(text: &str) -> Option<&str>
     ensures { MatchOption result (NoStar text.now) (λ rest. text.now ≡ 58 ∷ 42 ∷ rest.now) }
 {
@@ -49,7 +49,7 @@ pub(crate) fn name(text: &str) -> Option<Scanned>
     }
 }
 
-// The longest name that the text begins with, behind whose first NCName is `rest`.
+/// The longest name that the text begins with, after whose first NCName is `rest`.
 fn longest_name<'a>(text: &'a str, first: &'a str, rest: &'a str) -> Scanned<'a>
     requires { IsHead text.now first.now rest.now }
     ensures { LongestOf is_name text.now result.rest.now result.lexeme }
@@ -72,7 +72,7 @@ fn longest_name<'a>(text: &'a str, first: &'a str, rest: &'a str) -> Scanned<'a>
     }
 }
 
-// What is behind the QName that the text begins with.
+/// What is after the QName that the text begins with.
 fn after_qname(text: &str) -> Option<&str>
     ensures { MatchOption result (NoName text.now) (λ rest. QnameAt text.now rest.now) }
 {
@@ -85,7 +85,7 @@ fn after_qname(text: &str) -> Option<&str>
     }
 }
 
-/// The variable, behind its dollar sign.
+/// The variable, after its dollar sign.
 pub(crate) fn variable(text: &str) -> Option<Scanned>
     ensures { MatchOption result (NoneOf is_variable (36 ∷ text.now)) (λ s. LongestOf is_variable (36 ∷ text.now) s.rest.now s.lexeme) }
 {

@@ -2,7 +2,7 @@
 
 ghost use Rattle.std.specs.Prelude.{◌≡◌, ◌∷◌, MatchOption};
 ghost use Rattle.std.specs.Char.{is_ascii_digit};
-ghost use Rattle.xp_lexicon.specs.Scanning.{StartsWith, NumberAt, LongestOf, NoneOf, is_number, is_pointed};
+ghost use Rattle.xp_lexicon.specs.inner.Scanning.{StartsWith, NumberAt, LongestOf, NoneOf, is_number, is_pointed};
 
 use crate::lexeme::{Lexeme, Scanned};
 use crate::run::{Class, after_run, before};
@@ -20,7 +20,7 @@ pub(crate) fn number(text: &str) -> Scanned
     }
 }
 
-// What is behind `Digits ("." Digits?)?`.
+/// What is after `Digits ("." Digits?)?`.
 fn after_digits(text: &str) -> &str
     ensures { NumberAt text.now result.now }
 {
@@ -31,7 +31,7 @@ fn after_digits(text: &str) -> &str
     }
 }
 
-/// The number that the text begins with, if digits are behind its point.
+/// The number that the text begins with, if digits are after its point.
 pub(crate) fn fraction<'a>(text: &'a str, behind: &'a str) -> Option<Scanned<'a>>
     requires { text.now ≡ 46 ∷ behind.now }
     ensures { MatchOption result (NoneOf is_number text.now) (λ s. LongestOf is_pointed text.now s.rest.now s.lexeme) }

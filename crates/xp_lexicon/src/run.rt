@@ -1,7 +1,7 @@
 //! Characters of one class that stand in a row.
 
 ghost use Rattle.std.specs.Prelude.{◌≡◌, ◌++◌};
-ghost use Rattle.xp_lexicon.specs.Scanning.{holds, Ran, IsEnd};
+ghost use Rattle.xp_lexicon.specs.inner.Scanning.{holds, Ran, IsEnd};
 
 use sch_base::{is_name_char, is_whitespace};
 
@@ -29,7 +29,7 @@ impl Class {
     }
 }
 
-/// What is behind the characters of the class that the text begins with.
+/// What is after the characters of the class that the text begins with.
 pub(crate) fn after_run(class: Class, text: &str) -> &str
     ensures { Ran (holds class) text.now result.now }
 {

@@ -2,13 +2,13 @@
 
 ghost use Rattle.std.specs.Prelude.{◌≡◌, ◌∷◌, ◌++◌, [], encode_utf8, MatchOption};
 ghost use Rattle.xp_lexicon.specs.Lexicon.{named, symbols};
-ghost use Rattle.xp_lexicon.specs.Scanning.{LongestOf, NoneOf, is_symbol};
+ghost use Rattle.xp_lexicon.specs.inner.Scanning.{LongestOf, NoneOf, is_symbol};
 
 use crate::lexeme::{Lexeme, Scanned};
 use xp_grammar::Token;
 use xp_tree::Operator;
 
-// The token of one sign.
+/// The token of one sign.
 fn single<'a>(first: char) -> Option<Token<'a>>
     ensures { result ≡ named symbols (first ∷ []) }
 {
@@ -31,7 +31,7 @@ fn single<'a>(first: char) -> Option<Token<'a>>
     }
 }
 
-// The token of two signs.
+/// The token of two signs.
 fn double<'a>(first: char, second: char) -> Option<Token<'a>>
     ensures { result ≡ named symbols (first ∷ second ∷ []) }
 {
@@ -46,7 +46,7 @@ fn double<'a>(first: char, second: char) -> Option<Token<'a>>
     }
 }
 
-/// The longest symbol that a text begins with, whose first sign is given, and what is behind that.
+/// The longest symbol that a text begins with, whose first sign is given, and what is after that.
 pub(crate) fn symbol(first: char, behind: &str) -> Option<Scanned>
     ensures { MatchOption result (NoneOf is_symbol (encode_utf8 first ++ behind.now)) (λ s. LongestOf is_symbol (encode_utf8 first ++ behind.now) s.rest.now s.lexeme) }
 {

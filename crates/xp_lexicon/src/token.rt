@@ -3,7 +3,7 @@
 ghost use Rattle.std.specs.Prelude.{◌≡◌, [], Some};
 ghost use Rattle.std.specs.Option.{option_map};
 ghost use Rattle.xp_grammar.specs.declared.token.Token.TheVariants as token;
-ghost use Rattle.xp_lexicon.specs.Lexicon.{named, axis_names, node_types, called, ends_operand, name_token, token_of};
+ghost use Rattle.xp_lexicon.specs.Lexicon.{named, axis_names, node_types, called, ends_operand, name_token, starred_token, token_of};
 ghost use Rattle.xp_lexicon.specs.declared.lexeme.Lexeme.TheVariants as lexeme;
 
 use crate::lexeme::Lexeme;
@@ -12,7 +12,7 @@ use crate::words::{axis_named, node_type_named, operator_named};
 use xp_grammar::{Token, Word};
 use xp_tree::Operator;
 
-/// Whether an operand may end with the token: `*` and names behind it are operators (XPath 1.0, section 3.7).
+/// Whether an operand may end with the token: `*` and names after it are operators (XPath 1.0, section 3.7).
 pub(crate) fn ends_operand(token: &Token) -> bool
     ensures { result ≡ ends_operand token.now }
 {
@@ -29,7 +29,7 @@ pub(crate) fn ends_operand(token: &Token) -> bool
     )
 }
 
-/// The token that a lexeme is, behind an operand or not, with what follows it; None where no token can be read.
+/// The token that a lexeme is, after an operand or not, with what follows it; None where no token can be read.
 pub(crate) fn token_of<'a>(
     behind_operand: bool,
     lexeme: Lexeme<'a>,
@@ -57,7 +57,13 @@ pub(crate) fn token_of<'a>(
                 name_token(name, rest)
             }
         }
-        Lexeme::PrefixStar(prefix) => Some(Token::PrefixStar(prefix)),
+        Lexeme::PrefixStar(prefix) => {
+            if behind_operand {
+                Some(Token::PrefixStar(prefix))
+            } else {
+                starred_token(prefix, rest)
+            }
+        }
     }
 }
 
@@ -71,7 +77,7 @@ fn star<'a>(behind_operand: bool) -> Token<'a>
     }
 }
 
-// A name where no operand stands before it, with what follows it.
+/// A name where no operand stands before it, with what follows it.
 fn name_token<'a>(name: Word<'a>, rest: &str) -> Option<Token<'a>>
     ensures { result ≡ name_token name.entry rest.now }
 {
@@ -85,7 +91,17 @@ fn name_token<'a>(name: Word<'a>, rest: &str) -> Option<Token<'a>>
     Some(Token::Name(name))
 }
 
-// A name before `(`.
+/// A prefix with a star where no operand stands before it, with what follows it: no axis is named so.
+fn starred_token<'a>(prefix: Word<'a>, rest: &str) -> Option<Token<'a>>
+    ensures { result ≡ starred_token prefix.entry rest.now }
+{
+    if after_run(Class::Whitespace, rest).starts_with("::") {
+        return None;
+    }
+    Some(Token::PrefixStar(prefix))
+}
+
+/// A name before `(`.
 fn called<'a>(name: Word<'a>) -> Token<'a>
     ensures { result ≡ called name.entry (named node_types name.entry) }
 {
@@ -95,7 +111,7 @@ fn called<'a>(name: Word<'a>) -> Token<'a>
     }
 }
 
-// A name before `::`.
+/// A name before `::`.
 fn axis_token<'a>(name: Word<'a>) -> Option<Token<'a>>
     ensures { result ≡ option_map token.Axis (named axis_names name.entry) }
 {

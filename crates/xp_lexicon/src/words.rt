@@ -6,7 +6,7 @@ ghost use Rattle.xp_lexicon.specs.Lexicon.{named, operator_names, node_types, ax
 use xp_grammar::{NodeType, Token};
 use xp_tree::{AxisName, Operator};
 
-/// The operator of a name behind an operand (XPath 1.0, section 3.7).
+/// The operator of a name after an operand (XPath 1.0, section 3.7).
 pub(crate) fn operator_named<'a>(name: &str) -> Option<Token<'a>>
     ensures { result ≡ named operator_names name.now }
 {

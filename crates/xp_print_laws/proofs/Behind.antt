@@ -1,4 +1,4 @@
--- What may stand behind a printed operand, and the tokens of it.
+-- What may stand after a printed operand, and the tokens of it.
 use Rattle.std.proofs.Common.{◌≡◌, ℕ, zero, suc, Bool, true, false, List, [], ◌∷◌, ◌++◌, codes, replicate, ◌==◌, Some, refl, sym, subst, append_assoc}
 use Rattle.sch_base.specs.Characters.{is_name_start, is_name_char, is_whitespace}
 use Rattle.xp_tree.specs.declared.terms.AxisName.{AxisName}
@@ -21,7 +21,7 @@ use Rattle.xp_print_laws.proofs.Lexed.{Lexed}
 use Rattle.xp_print_laws.proofs.Words.{type_text, or-is-name, and-is-name, div-is-name, mod-is-name}
 use Rattle.xp_print_laws.proofs.Texts.{ReadsAs, plain_signs, reads_none, reads_space, sign_reads, pair_reads, star_reads, times_reads, literal_reads, name_reads, type_reads, starred_reads, word_reads}
 
--- a text behind an operand goes on with none of its bytes, and has these tokens
+-- a text after an operand goes on with none of its bytes, and has these tokens
 pub record After (rest : List ℕ) (ts : List Token) : Type 0 where
   pub stops : stops rest ≡ true
   pub not_called : goes_on (codes "(") rest ≡ false
@@ -227,7 +227,7 @@ type_alone k rest ts on =
 
 pub test_reads : {k : StepTest} → FitsTest Lexed k → (rest : List ℕ) (ts : List Token) → After rest ts → ReadsAs false (test_text k ++ rest) (test_tokens k ++ ts)
 test_reads fits_star rest ts a = star_reads rest ts a.reads
-test_reads (fits_prefix prefix known) rest ts a = starred_reads false prefix rest ts known a.reads
+test_reads (fits_prefix prefix known) rest ts a = starred_reads prefix rest ts known a.not_axis a.reads
 test_reads (fits_named prefix local known is) rest ts a =
     name_reads (test_text (test.Named prefix local)) rest ts known a.stops a.not_called a.not_axis a.reads
 test_reads fits_node rest ts a = type_alone node_type.Node rest ts a.reads

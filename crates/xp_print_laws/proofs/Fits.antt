@@ -24,7 +24,7 @@ pub data FitsTest (Known : Token → Type 0) : StepTest → Type 0 where
   fits_target : (target : List ℕ) → Known (token.Literal target) → FitsTest Known (test.PiNamed target)
 
 mutual
-  -- an expression at a depth; whether a name-like operator stands behind it
+  -- an expression at a depth; whether a name-like operator stands after it
   pub data Fits (Known : Token → Type 0) (limit : ℕ) : ℕ → Bool → Tree → Type 0 where
     fits_chain : (depth : ℕ) (behind : Bool) (n : Level) (offset : ℕ) (first : Tree) (o : Operator) (at : ℕ) (second : Tree) (rest : Operands) →
         FitsAround Known limit depth (binding n) (name_like_next behind (operand o at second rest)) first →
@@ -96,7 +96,7 @@ mutual
     fits_argument : (depth : ℕ) (e : Tree) (rest : Trees) → Fits Known limit depth false e →
         FitsArguments Known limit depth rest → FitsArguments Known limit depth (tree e rest)
 
--- what fits one deeper fits here too, whatever stands behind it
+-- what fits one deeper fits here too, whatever stands after it
 mutual
   pub lower : (Known : Token → Type 0) (limit d : ℕ) {d' : ℕ} {b : Bool} {e : Tree} → Fits Known limit d' b e → d' ≡ suc d → suc d ≤ limit →
       (c : Bool) → Fits Known limit d c e

@@ -22,12 +22,12 @@ use Rattle.xp_print_laws.specs.Reprinted.{BeginsNameLike}
 use Rattle.xp_print_laws.proofs.Fronts.{is_equal}
 use Rattle.xp_print_laws.proofs.Fits.{FitsTest, fits_star, fits_prefix, fits_named, fits_node, fits_chars, fits_comment, fits_pi, fits_target, Fits, fits_chain, fits_negated, fits_root, fits_from_root, fits_from_here, fits_from_base, fits_filtered, fits_variable, fits_literal, fits_number, fits_call, FitsAround, around_bare, around_within, FitsOperands, fits_no_more, fits_one_more, FitsBase, base_bare, base_within, FitsSteps, fits_step, FitsMoreSteps, fits_no_more_steps, fits_more_steps, FitsPredicates, fits_no_predicate, fits_predicate, FitsArguments, fits_no_argument, fits_argument, lower}
 
--- tokens that are known, none of them an operator misread behind `/`
+-- tokens that are known, none of them an operator misread after `/`
 abbrev pub Sound : (Token → Type 0) → List Placed → Type 0
 Sound Known [] = Unit {0}
 Sound Known (p ∷ s) = Known p.token × (p.token ≡ token.Slash → BeginsNameLike s → ⊥) × Sound Known s
 
--- what stands behind an expression
+-- what stands after an expression
 abbrev pub Ends : Bool → List Placed → Type 0
 Ends false s = Unit {0}
 Ends true s = BeginsNameLike s
@@ -133,7 +133,7 @@ inner-binding level.Sum inner is = sym (ap within_binding is)
 inner-binding level.Prod inner is = absurd (cc)
 inner-binding level.Union inner is = absurd (cc)
 
--- the token behind an operand
+-- the token after an operand
 ends_next : {limit : ℕ} {n : Level} {d : ℕ} {m u : List Placed} {rest : Operands} → IsOperands limit n d m u rest → (b : Bool) → Ends b u → Ends (name_like_next b rest) m
 ends_next (no_more n d s) b ends = ends
 ends_next (one_more n d p s m u o e rest is at_level D T) b ends = at_front (is_name_like o) refl

@@ -8,7 +8,7 @@ use Rattle.xp_grammar.specs.declared.token.Placed.{Placed}
 use Rattle.xp_grammar.specs.declared.token.Token.{Token}
 use Rattle.xp_grammar.specs.declared.token.Token.TheVariants as token
 use Rattle.xp_lexicon.specs.declared.lexeme.Lexeme.{Lexeme}
-use Rattle.xp_lexicon.specs.Lexicon.{named, symbols, operator_names, node_types, axis_names, IsNumber, IsNcname, is_quote, IsLexeme, symbol_lexeme, star_lexeme, literal_lexeme, number_lexeme, variable_lexeme, prefixed_variable_lexeme, name_lexeme, prefixed_name_lexeme, prefix_star_lexeme, goes_on, called, name_token, token_of, ends_operand, IsRead, TokensFrom, at_end, whitespace, one_token, bad_token}
+use Rattle.xp_lexicon.specs.Lexicon.{named, symbols, operator_names, node_types, axis_names, IsNumber, IsNcname, is_quote, IsLexeme, symbol_lexeme, star_lexeme, literal_lexeme, number_lexeme, variable_lexeme, prefixed_variable_lexeme, name_lexeme, prefixed_name_lexeme, prefix_star_lexeme, goes_on, called, name_token, starred_token, token_of, ends_operand, IsRead, TokensFrom, at_end, whitespace, one_token, bad_token}
 use Rattle.xp_print.specs.Printed.{is_name_like}
 use Rattle.xp_print_laws.specs.Reprinted.{BeginsNameLike}
 use Rattle.xp_print_laws.proofs.Fitting.{Sound}
@@ -31,7 +31,7 @@ Lexed (token.Literal value) = IsQuotable value
 Lexed (token.Number digits) = IsNumber digits
 Lexed _ = Unit {0}
 
--- an operator that would be read as a name test behind `/`
+-- an operator that would be read as a name test after `/`
 abbrev name_like_token : Token → Bool
 name_like_token (token.Operator o) = is_name_like o
 name_like_token _ = false
@@ -59,6 +59,13 @@ name-token name rest t e = by_test (goes_on (codes "(") rest) (goes_on (codes ":
     by_test true c found = subst (NameToken name) (some-same (called name (named node_types name)) t found) (called-token name (named node_types name) refl)
     by_test false true found = axis-token name (named axis_names name) t found
     by_test false false found = subst (NameToken name) (some-same (token.Name name) t found) is_name
+
+starred-token : (prefix rest : List ℕ) (t : Token) → starred_token prefix rest ≡ Some t → token.PrefixStar prefix ≡ t
+starred-token prefix rest t e = by_test (goes_on (codes "::") rest) e
+  where
+    by_test : (b : Bool) → (if b then None else Some (token.PrefixStar prefix)) ≡ Some t → token.PrefixStar prefix ≡ t
+    by_test true found = absurd (cc)
+    by_test false found = some-same (token.PrefixStar prefix) t found
 
 name-lexed : {name : List ℕ} {t : Token} → NameToken name t → IsQname name → Lexed t
 name-lexed (is_function none) n = (n, none)
@@ -100,7 +107,8 @@ token-lexed true (name_lexeme bytes n) rest t e = named-each (λ text x. Lexed x
 token-lexed false (name_lexeme bytes n) rest t e = name-lexed (name-token bytes rest t e) (inl n)
 token-lexed true (prefixed_name_lexeme bytes n) rest t e = subst Lexed (some-same (token.Name bytes) t e) (inr n)
 token-lexed false (prefixed_name_lexeme bytes n) rest t e = name-lexed (name-token bytes rest t e) (inr n)
-token-lexed b (prefix_star_lexeme bytes prefix h n) rest t e = subst Lexed (some-same (token.PrefixStar prefix) t e) n
+token-lexed true (prefix_star_lexeme bytes prefix h n) rest t e = subst Lexed (some-same (token.PrefixStar prefix) t e) n
+token-lexed false (prefix_star_lexeme bytes prefix h n) rest t e = subst Lexed (starred-token prefix rest t e) n
 
 abbrev IsNoOperator : Token → Type 0
 IsNoOperator t = name_like_token t ≡ false
@@ -115,7 +123,7 @@ token-no-operator (variable_lexeme name n) rest t e = subst IsNoOperator (some-s
 token-no-operator (prefixed_variable_lexeme name n) rest t e = subst IsNoOperator (some-same (token.Variable name) t e) refl
 token-no-operator (name_lexeme bytes n) rest t e = name-no-operator (name-token bytes rest t e)
 token-no-operator (prefixed_name_lexeme bytes n) rest t e = name-no-operator (name-token bytes rest t e)
-token-no-operator (prefix_star_lexeme bytes prefix h n) rest t e = subst IsNoOperator (some-same (token.PrefixStar prefix) t e) refl
+token-no-operator (prefix_star_lexeme bytes prefix h n) rest t e = subst IsNoOperator (starred-token prefix rest t e) refl
 
 read-no-operator : (b : Bool) (text bytes rest : List ℕ) (t : Token) → IsRead b text bytes rest t → b ≡ false → name_like_token t ≡ false
 read-no-operator b text bytes rest t r is =
@@ -130,7 +138,7 @@ first-no-operator (one_token b offset text bytes rest t tokens whole end r T) is
     let like : name_like_token t ≡ true = ap name_like_token same ∙ named in cc
 first-no-operator (bad_token b offset c text space none) is begins = absurd begins
 
--- the tokens of a text are made as lexemes are, and none of them is misread behind `/`
+-- the tokens of a text are made as lexemes are, and none of them is misread after `/`
 pub tokens-sound : {b : Bool} {offset : ℕ} {text : List ℕ} {s : List Placed} {whole : Bool} {end : ℕ} → TokensFrom b offset text s whole end → Sound Lexed s
 tokens-sound (at_end b offset) = tt
 tokens-sound (whitespace b offset c text tokens whole end space T) = tokens-sound T

@@ -107,7 +107,7 @@ pub double-longest : (value rest more after : List ℕ) (l : Lexeme) → 34 ∷ 
 double-longest value rest =
     longest-by 34 ((value ++ 34 ∷ []) ++ rest) (length (34 ∷ (value ++ 34 ∷ []))) (λ l bs after led L e. only-literal-double value rest bs after l led L e)
 
--- ---- what stands behind names and numbers
+-- ---- what stands after names and numbers
 
 -- a text begins with `:`
 abbrev pub begins_colon : List ℕ → Bool

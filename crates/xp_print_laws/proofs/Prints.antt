@@ -44,14 +44,14 @@ parens_read text tokens rest ts inner =
     open_reads false ((text ++ (41 ∷ [])) ++ rest) ((tokens ++ (token.CloseParen ∷ [])) ++ ts)
     (joined text (41 ∷ []) rest tokens (token.CloseParen ∷ []) ts inner)
 
--- a base may have anything of this behind it
+-- a base may have anything of this after it
 for_base : (e : Tree) (rest : List ℕ) (ts : List Token) → is_path_base e ≡ true → Behind false true rest ts → Behind false (is_path_base e) rest ts
 for_base e rest ts is b = record { after = b.after; root = b.root; slash = λ h. absurd (cc) }
 
 any_base : {named : Bool} (base : Bool) (rest : List ℕ) (ts : List Token) → Behind named false rest ts → Behind named base rest ts
 any_base base rest ts b = record { after = b.after; root = b.root; slash = λ h. b.slash refl }
 
--- steps behind `/`
+-- steps after `/`
 no-slash-first : {limit d : ℕ} {ss : Steps} → FitsSteps Lexed limit d ss → (rest : List ℕ) → no_pair 47 (printed_steps true ss ++ rest) ≡ true
 no-slash-first (fits_step d o a k at ps more K P M) rest =
     subst (λ t. no_pair 47 t ≡ true) (sym (append_assoc (axis_text a) (58 ∷ 58 ∷ (test_text k ++ (printed_predicates ps ++ printed_steps false more))) rest))

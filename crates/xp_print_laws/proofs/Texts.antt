@@ -230,21 +230,21 @@ axis_reads a rest ts on =
     reads_token false (axis_text a ++ (58 ∷ 58 ∷ rest)) (axis_text a) (58 ∷ 58 ∷ rest) (token.Axis a) ts
     (qname-read false (axis_text a) (58 ∷ 58 ∷ rest) (token.Axis a) (inl (axis-is-name a)) refl is is) on
 
-pub starred_reads : (b : Bool) (prefix rest : List ℕ) (ts : List Token) → IsNcname prefix → ReadsAs true rest ts →
-    ReadsAs b ((prefix ++ 58 ∷ 42 ∷ []) ++ rest) (token.PrefixStar prefix ∷ ts)
-starred_reads b prefix rest ts n on =
-    let r : IsRead b ((prefix ++ 58 ∷ 42 ∷ []) ++ rest) (prefix ++ 58 ∷ 42 ∷ []) rest (token.PrefixStar prefix) = record {
+pub starred_reads : (prefix rest : List ℕ) (ts : List Token) → IsNcname prefix → goes_on (codes "::") rest ≡ false → ReadsAs true rest ts →
+    ReadsAs false ((prefix ++ 58 ∷ 42 ∷ []) ++ rest) (token.PrefixStar prefix ∷ ts)
+starred_reads prefix rest ts n not_axis on =
+    let r : IsRead false ((prefix ++ 58 ∷ 42 ∷ []) ++ rest) (prefix ++ 58 ∷ 42 ∷ []) rest (token.PrefixStar prefix) = record {
       lexeme = lexeme.PrefixStar prefix;
       longest = record {
         at_front = refl;
         is = prefix_star_lexeme (prefix ++ 58 ∷ 42 ∷ []) prefix refl n;
         longest = λ more after l e L. starred-longest (prefix ++ 58 ∷ 42 ∷ []) prefix rest refl (name-bytes prefix n) more after l e L;
       };
-      token = refl;
+      token = ap (λ c. if c then None else Some (token.PrefixStar prefix)) not_axis;
     } in
-    reads_token b ((prefix ++ 58 ∷ 42 ∷ []) ++ rest) (prefix ++ 58 ∷ 42 ∷ []) rest (token.PrefixStar prefix) ts r on
+    reads_token false ((prefix ++ 58 ∷ 42 ∷ []) ++ rest) (prefix ++ 58 ∷ 42 ∷ []) rest (token.PrefixStar prefix) ts r on
 
--- a name that is an operator behind an operand, before a space
+-- a name that is an operator after an operand, before a space
 pub word_reads : (name rest : List ℕ) (t : Token) (ts : List Token) → IsNcname name → named operator_names name ≡ Some t → ReadsAs (ends_operand t) (32 ∷ rest) ts →
     ReadsAs true (name ++ (32 ∷ rest)) (t ∷ ts)
 unfolding is_name_char is_name_start

@@ -36,7 +36,7 @@ test_tokens (tests.PiNamed target) =
     token.NodeType node_type.Pi ∷ token.OpenParen ∷ token.Literal target ∷ token.CloseParen ∷ []
 
 abbrev mutual
-  -- the tokens of an expression; whether a name-like operator stands behind it
+  -- the tokens of an expression; whether a name-like operator stands after it
   pub tokens_printed : Bool → Tree → List Token
   tokens_printed behind (chain level offset first rest) =
       operand_tokens (binding level) first (tokens_printed false first) (tokens_printed (name_like_next behind rest) first)

@@ -9,12 +9,12 @@ use Rattle.xp_print.specs.Printed.{is_name_like}
 use Rattle.xp_print_laws.specs.Offsets.{without_offsets}
 use Rattle.xp_print_laws.specs.PrintedTokens.{tokens_printed}
 
--- the first of the tokens is an operator that would be read as a name test behind `/`
+-- the first of the tokens is an operator that would be read as a name test after `/`
 abbrev pub BeginsNameLike : List Placed → Type 0
 BeginsNameLike [] = ⊥
 BeginsNameLike (p ∷ s) = (o : Operator) × (p.token ≡ token.Operator o) × (is_name_like o ≡ true)
 
--- no such operator stands directly behind `/`, where it would be read as a name test: section 3.7
+-- no such operator stands directly after `/`, where it would be read as a name test: section 3.7
 abbrev pub NoneBehindSlash : List Placed → Type 0
 NoneBehindSlash [] = Unit {0}
 NoneBehindSlash (p ∷ s) = (p.token ≡ token.Slash → BeginsNameLike s → ⊥) × NoneBehindSlash s

@@ -2,7 +2,7 @@ use Rattle.std.proofs.Common.{lit<, Some, refl, sym, subst, MatchOption, ◌∙�
 use Rattle.std.specs.Prelude.{encode_utf8}
 use Rattle.xp_lexicon.specs.declared.lexeme.Form.TheVariants as form
 use Rattle.xp_lexicon.specs.declared.lexeme.Lexeme.TheVariants as lexeme
-use Rattle.xp_lexicon.specs.Scanning.{fits, NoneOf, LongestOf}
+use Rattle.xp_lexicon.specs.inner.Scanning.{fits, NoneOf, LongestOf}
 use Rattle.xp_lexicon.proofs.Literals.{quote_is_low}
 use Rattle.xp_lexicon.proofs.Firsts.{found, found_behind, first_of_variable, first_of_star, first_of_literal, longest_star}
 use Rattle.xp_lexicon.proofs.lexeme.scan.Goals as goal

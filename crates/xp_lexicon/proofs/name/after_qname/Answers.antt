@@ -1,4 +1,4 @@
-use Rattle.xp_lexicon.specs.Scanning.{with_local, without_local}
+use Rattle.xp_lexicon.specs.inner.Scanning.{with_local, without_local}
 use Rattle.xp_lexicon.proofs.name.after_qname.Goals as goal
 
 pub returns-in-Some-after_local : goal.returns-in-Some-after_local

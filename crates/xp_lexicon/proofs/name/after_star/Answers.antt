@@ -1,6 +1,6 @@
 use Rattle.std.proofs.Common.{◌≡◌, ◌≢◌, ℕ, List, ◌∷◌, Option, None, Some, MatchOption, Bor, lit<, ap, ◌∙◌}
 use Rattle.std.proofs.lemmas.Str.Pattern.{strip_prefix_char}
-use Rattle.xp_lexicon.specs.Scanning.{NoStar}
+use Rattle.xp_lexicon.specs.inner.Scanning.{NoStar}
 use Rattle.xp_lexicon.proofs.name.after_star.Goals as goal
 
 star_found : (text local : List ℕ) (r : Option (Bor (List ℕ))) → text ≡ 58 ∷ local →

@@ -1,6 +1,6 @@
 use Rattle.std.proofs.Common.{lit<, Some, None}
 use Rattle.std.proofs.lemmas.Str.Pattern.{strip_prefix_char}
-use Rattle.xp_lexicon.specs.Scanning.{with_point, without_point}
+use Rattle.xp_lexicon.specs.inner.Scanning.{with_point, without_point}
 use Rattle.xp_lexicon.proofs.number.after_digits.Goals as goal
 
 pub returns-in-Some : goal.returns-in-Some

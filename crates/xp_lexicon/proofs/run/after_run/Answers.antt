@@ -1,5 +1,5 @@
 use Rattle.std.proofs.Common.{sym, ap, length, ◌∙◌}
-use Rattle.xp_lexicon.specs.Scanning.{holds}
+use Rattle.xp_lexicon.specs.inner.Scanning.{holds}
 use Rattle.xp_lexicon.proofs.Runs.{ran_none, ran_more, stops_at, stops_at_end}
 use Rattle.xp_lexicon.proofs.run.after_run.Goals as goal
 

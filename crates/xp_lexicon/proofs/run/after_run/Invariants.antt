@@ -1,7 +1,7 @@
 use Rattle.std.proofs.Common.{List, ℕ, length}
 use denote.Text.{Utf8}
 use denote.Shadow.{shadow}
-use Rattle.xp_lexicon.specs.Scanning.{holds, Ran}
+use Rattle.xp_lexicon.specs.inner.Scanning.{holds, Ran}
 use Rattle.xp_lexicon.proofs.run.after_run.Given as goal
 
 abbrev pub invariant-loop-c : goal.invariant-loop-c

@@ -43,7 +43,7 @@ pub record IsEnd (text rest : List ℕ) : Type 0 where
   pub front : List ℕ
   pub split : text ≡ front ++ rest
 
--- a name stands in front, and what is behind it goes on with no character of a name
+-- a name stands in front, and what is after it goes on with no character of a name
 pub record IsHead (text name rest : List ℕ) : Type 0 where
   pub split : text ≡ name ++ rest
   pub is : IsNcname name
