@@ -1,296 +1,354 @@
-//! Outside examples: texts, cut anywhere, with their events and faults.
+//! Texts, cut anywhere, with their events and their first faults.
 
-use super::{
-    Event, FeedError, LocatedList, Mode, PyxFault, PyxKind, Reader, read_events, read_front,
-    unescape,
+use crate::rows::{first_word, sides, text_of};
+use pyx_core::{
+    Event, FeedError, Located, LocatedList, Mode, Reader, read_events, read_front, unescape,
 };
+use std::alloc::Global;
+use std::process::Abort;
 use std::test::Fail;
 
+/// Documents and their events, each with its line.
+const DOCUMENTS: &str = "\
+(a|)a| => 1(a; 2)a\n\
+(a|)a => 1(a; 2)a\n\
+(a||Ax 1|Dnothing|Ay|-t|)a| => 1(a x=1 y=; 6-t; 7)a\n\
+(p:a|Ap:x  1 2 |)p:a| => 1(p:a p:x= 1 2 ; 3)p:a\n\
+(a|-x|Nnothing||[y|-|-z|)a| => 1(a; 2-xyz; 8)a\n\
+(a|-|-x|)a| => 1(a; 3-x; 4)a\n\
+(a|-|)a| => 1(a; 3)a\n\
+(a|-x|(b|)b|-y|)a| => 1(a; 2-x; 3(b; 4)b; 5-y; 6)a\n\
+- \\n|(a|)a|-\t| => 2(a; 3)a\n\
+Cc|?t b|(a|?t|)a|C| => 1Cc; 2?t b; 3(a; 4?t ; 5)a; 6C\n\
+(a|Av \\n\\t\\r\\\\\\x\\|)a| => 1(a v=|\t\r\\\\x\\; 3)a\n\
+(a|-a\\|-nb|)a| => 1(a; 2-a\\nb; 4)a\n\
+(a|-x\r|)a| => 1(a; 2-x\r; 3)a\n\
+(\u{e9}t\u{e9}|U|)\u{e9}t\u{e9}| => 1(\u{e9}t\u{e9}; 3)\u{e9}t\u{e9}\n";
+
+/// Fragments and their events.
+const FRAGMENTS: &str = "\
+-x => 1-x\n\
+-|-x||-y| => 2-xy\n\
+Cc| => 1Cc\n\
+?t b| => 1?t b\n\
+-|(a|-x|)a|-| => 2(a; 3-x; 4)a\n";
+
+/// Documents and their first faults.
+const FAULTY_DOCUMENTS: &str = " => line 1: NoRoot\n\
+(a|-\u{1}| => line 2: BadChar\n\
+D\u{b} => line 1: BadChar\n\
+(a|Xq| => line 2: UnknownLine\n\
+\u{e9} => line 1: UnknownLine\n\
+(a|&lt| => line 2: EntityLine\n\
+& => line 1: EntityLine\n\
+(1a| => line 1: BadName\n\
+(a\r| => line 1: BadName\n\
+(a|)a b| => line 2: BadName\n\
+(a|A1 x| => line 2: BadName\n\
+(a|?p:t x| => line 2: BadName\n\
+?XmL x => line 1: BadName\n\
+A1 x => line 1: BadName\n\
+(a|-t|Ab c| => line 3: AttributePlace\n\
+(a|-|Ab c| => line 3: AttributePlace\n\
+Ab c => line 1: AttributePlace\n\
+(a|)b| => line 2: WrongEnd\n\
+)a => line 1: WrongEnd\n\
+(a|(b|)a| => line 3: WrongEnd\n\
+-x| => line 1: TextOutside\n\
+(a|)a|-x => line 3: TextOutside\n\
+(a|)a|(b| => line 3: SecondRoot\n\
+Cc|| => line 3: NoRoot\n\
+(a| => line 2: Unfinished\n\
+(a => line 1: Unfinished\n\
+(a|-x => line 2: Unfinished\n";
+
+/// Fragments and their first faults.
+const FAULTY_FRAGMENTS: &str = " => line 1: NoRoot\n\
+-| => line 2: NoRoot\n\
+(a|)a|-|-b| => line 4: SecondRoot\n\
+-a|(b| => line 2: SecondRoot\n\
+-a|Cx => line 2: SecondRoot\n\
+Cx|?t| => line 2: SecondRoot\n\
+?t|-a| => line 2: SecondRoot\n\
+(a| => line 2: Unfinished\n\
+-a|Ab c| => line 2: AttributePlace\n\
+-a|)a| => line 2: WrongEnd\n\
+-a|&| => line 2: EntityLine\n\
+-a|?xml| => line 2: BadName\n";
+
+/// Documents with faults, and the events before these. A faulty line completes nothing, nor does a last line without
+/// a line end before a fault at the end.
+const FRONTS: &str = "\
+(p:a|-x => \n\
+(p:a|-x| => 1(p:a\n\
+(p:a|Ax 1|&| => \n\
+(a|-x|(b|&| => 1(a; 2-x\n\
+(a|)a|(b| => 1(a; 2)a\n";
+
+/// Texts of lines, and what they are with their escapes undone.
+const ESCAPES: &str = " => \n\
+plain => plain\n\
+a\\nb => a|b\n\
+\\t\\r\\\\n => \t\r\\n\n\
+\\\\\\n => \\|\n\
+\\\u{e9}\\x => \\\u{e9}\\x\n\
+end\\ => end\\\n";
+
+/// Puts an event to a text, as a row of a table shows it.
 fn show_event(text: &mut String, event: &Event) -> Result<(), Fail> {
     match event {
         Event::Start { name, attrs } => {
-            text.push('(')?;
-            text.push_str(name.as_str())?;
+            show(text, &["(", name.as_str()])?;
             for attr in attrs.as_slice() {
-                text.push(' ')?;
-                text.push_str(attr.name.as_str())?;
-                text.push('=')?;
-                text.push_str(attr.value.as_str())?;
+                show(text, &[" ", attr.name.as_str(), "=", attr.value.as_str()])?;
             }
+            Ok(())
         }
-        Event::End { name } => {
-            text.push(')')?;
-            text.push_str(name.as_str())?;
-        }
-        Event::Chars { text: chars } => {
-            text.push('-')?;
-            text.push_str(chars.as_str())?;
-        }
-        Event::Pi { target, body } => {
-            text.push('?')?;
-            text.push_str(target.as_str())?;
-            text.push(' ')?;
-            text.push_str(body.as_str())?;
-        }
-        Event::Comment { text: comment } => {
-            text.push('C')?;
-            text.push_str(comment.as_str())?;
-        }
+        Event::End { name } => show(text, &[")", name.as_str()]),
+        Event::Chars { text: chars } => show(text, &["-", chars.as_str()]),
+        Event::Pi { target, body } => show(text, &["?", target.as_str(), " ", body.as_str()]),
+        Event::Comment { text: comment } => show(text, &["C", comment.as_str()]),
+    }
+}
+
+/// Puts pieces to a text.
+fn show(text: &mut String, pieces: &[&str]) -> Result<(), Fail> {
+    for piece in pieces {
+        text.push_str(piece)?;
     }
     Ok(())
 }
 
-/// The events with their lines, for comparison.
-fn shown(rt: &HostRuntime, events: &LocatedList) -> Result<String, Fail> {
-    let mut text = String::new(rt.alloc());
+/// The events with their lines.
+fn shown(alloc: Global, events: &LocatedList) -> Result<String, Fail> {
+    let mut text = String::new(alloc);
     for found in events.as_slice() {
-        let line = format!(in rt.alloc(); "{}", found.line)?;
-        text.push_str(line.as_str())?;
+        if !text.is_empty() {
+            text.push_str("; ")?;
+        }
+        text.push_str(format!(in alloc; "{}", found.line)?.as_str())?;
         show_event(&mut text, &found.event)?;
-        text.push('|')?;
     }
     Ok(text)
 }
 
-#[test]
-fn events_of_texts(rt: HostRuntime) -> Result<(), Fail> {
-    let cases: [(Mode, &str, &str); 19] = [
-        (Mode::Document, "(a\n)a\n", "1(a|2)a|"),
-        (Mode::Document, "(a\n)a", "1(a|2)a|"),
-        (
-            Mode::Document,
-            "(a\n\nAx 1\nDnothing\nAy\n-t\n)a\n",
-            "1(a x=1 y=|6-t|7)a|",
-        ),
-        (
-            Mode::Document,
-            "(p:a\nAp:x  1 2 \n)p:a\n",
-            "1(p:a p:x= 1 2 |3)p:a|",
-        ),
-        (
-            Mode::Document,
-            "(a\n-x\nNnothing\n\n[y\n-\n-z\n)a\n",
-            "1(a|2-xyz|8)a|",
-        ),
-        (Mode::Document, "(a\n-\n-x\n)a\n", "1(a|3-x|4)a|"),
-        (Mode::Document, "(a\n-\n)a\n", "1(a|3)a|"),
-        (
-            Mode::Document,
-            "(a\n-x\n(b\n)b\n-y\n)a\n",
-            "1(a|2-x|3(b|4)b|5-y|6)a|",
-        ),
-        (Mode::Document, "- \\n\n(a\n)a\n-\t\n", "2(a|3)a|"),
-        (
-            Mode::Document,
-            "Cc\n?t b\n(a\n?t\n)a\nC\n",
-            "1Cc|2?t b|3(a|4?t |5)a|6C|",
-        ),
-        (
-            Mode::Document,
-            "(a\nAv \\n\\t\\r\\\\\\x\\\n)a\n",
-            "1(a v=\n\t\r\\\\x\\|3)a|",
-        ),
-        (Mode::Document, "(a\n-a\\\n-nb\n)a\n", "1(a|2-a\\nb|4)a|"),
-        (Mode::Document, "(a\n-x\r\n)a\n", "1(a|2-x\r|3)a|"),
-        (
-            Mode::Document,
-            "(\u{e9}t\u{e9}\nU\n)\u{e9}t\u{e9}\n",
-            "1(\u{e9}t\u{e9}|3)\u{e9}t\u{e9}|",
-        ),
-        (Mode::Fragment, "-x", "1-x|"),
-        (Mode::Fragment, "-\n-x\n\n-y\n", "2-xy|"),
-        (Mode::Fragment, "Cc\n", "1Cc|"),
-        (Mode::Fragment, "?t b\n", "1?t b|"),
-        (Mode::Fragment, "-\n(a\n-x\n)a\n-\n", "2(a|3-x|4)a|"),
-    ];
-    for (mode, text, wanted) in cases {
-        let events = read_events(rt.alloc(), mode, text.as_bytes())?;
-        let found = shown(&rt, &events)?;
-        assert_eq!(rt; found.as_str(), wanted);
+/// Asserts each row of a table: a text, and its events.
+fn events_are(rt: &impl Abort, alloc: Global, mode: Mode, table: &str) -> Result<(), Fail> {
+    for row in table.lines() {
+        let (text, wanted) = sides(row)?;
+        let text = text_of(alloc, text)?;
+        let events = read_events(alloc, mode, text.as_bytes())?;
+        let wanted = text_of(alloc, wanted)?;
+        assert_eq!(rt; shown(alloc, &events)?.as_str(), wanted.as_str());
     }
     Ok(())
+}
+
+#[test]
+fn events_of_texts(rt: HostRuntime) -> Result<(), Fail> {
+    events_are(&rt, rt.alloc(), Mode::Document, DOCUMENTS)?;
+    events_are(&rt, rt.alloc(), Mode::Fragment, FRAGMENTS)
 }
 
 /// The first fault of a text, by both calls.
-fn faults(
-    rt: &HostRuntime,
-    mode: Mode,
-    text: &[u8],
-) -> Result<(Option<PyxFault>, Option<FeedError>), Fail> {
-    let front = read_front(rt.alloc(), mode, text)?;
-    Ok((front.fault, read_events(rt.alloc(), mode, text).err()))
+fn faults_told(alloc: Global, mode: Mode, bytes: &[u8]) -> Result<(String, String), Fail> {
+    let front = match read_front(alloc, mode, bytes)?.fault {
+        Some(fault) => told(alloc, Err(FeedError::Fault(fault)))?,
+        None => told(alloc, Ok(()))?,
+    };
+    let events = match read_events(alloc, mode, bytes) {
+        Ok(_) => told(alloc, Ok(()))?,
+        Err(error) => told(alloc, Err(error))?,
+    };
+    Ok((front, events))
 }
 
-#[test]
-fn faults_of_documents(rt: HostRuntime) -> Result<(), Fail> {
-    let cases: [(&[u8], u64, PyxKind); 30] = [
-        (b"(a\n-\xff\n", 2, PyxKind::NotUtf8),
-        (b"\xff", 1, PyxKind::NotUtf8),
-        (b"(a\nD\xc3\n)a\n", 2, PyxKind::NotUtf8),
-        (b"(a\n-\x01\n", 2, PyxKind::BadChar),
-        (b"D\x0b", 1, PyxKind::BadChar),
-        (b"(a\nXq\n", 2, PyxKind::UnknownLine),
-        (b"\xc3\xa9", 1, PyxKind::UnknownLine),
-        (b"(a\n&lt\n", 2, PyxKind::EntityLine),
-        (b"&", 1, PyxKind::EntityLine),
-        (b"(1a\n", 1, PyxKind::BadName),
-        (b"(a\r\n", 1, PyxKind::BadName),
-        (b"(a\n)a b\n", 2, PyxKind::BadName),
-        (b"(a\nA1 x\n", 2, PyxKind::BadName),
-        (b"(a\n?p:t x\n", 2, PyxKind::BadName),
-        (b"?XmL x", 1, PyxKind::BadName),
-        (b"A1 x", 1, PyxKind::BadName),
-        (b"(a\n-t\nAb c\n", 3, PyxKind::AttributePlace),
-        (b"(a\n-\nAb c\n", 3, PyxKind::AttributePlace),
-        (b"Ab c", 1, PyxKind::AttributePlace),
-        (b"(a\n)b\n", 2, PyxKind::WrongEnd),
-        (b")a", 1, PyxKind::WrongEnd),
-        (b"(a\n(b\n)a\n", 3, PyxKind::WrongEnd),
-        (b"-x\n", 1, PyxKind::TextOutside),
-        (b"(a\n)a\n-x", 3, PyxKind::TextOutside),
-        (b"(a\n)a\n(b\n", 3, PyxKind::SecondRoot),
-        (b"", 1, PyxKind::NoRoot),
-        (b"Cc\n\n", 3, PyxKind::NoRoot),
-        (b"(a\n", 2, PyxKind::Unfinished),
-        (b"(a", 1, PyxKind::Unfinished),
-        (b"(a\n-x", 2, PyxKind::Unfinished),
-    ];
-    for (text, line, kind) in cases {
-        let wanted = PyxFault { line, kind };
-        let (found, error) = faults(&rt, Mode::Document, text)?;
-        assert_eq!(rt; found, Some(wanted), "{text:?}");
-        assert_eq!(rt; error, Some(FeedError::Fault(wanted)), "{text:?}");
+/// Asserts each row of a table: a text, and its first fault.
+fn faults_are(rt: &impl Abort, alloc: Global, mode: Mode, table: &str) -> Result<(), Fail> {
+    for row in table.lines() {
+        let (text, wanted) = sides(row)?;
+        let text = text_of(alloc, text)?;
+        let (front, events) = faults_told(alloc, mode, text.as_bytes())?;
+        assert_eq!(rt;
+            (front.as_str(), events.as_str()),
+            (wanted, wanted),
+            "of {row}"
+        );
     }
     Ok(())
 }
 
 #[test]
-fn faults_of_fragments(rt: HostRuntime) -> Result<(), Fail> {
-    let cases: [(&[u8], u64, PyxKind); 12] = [
-        (b"", 1, PyxKind::NoRoot),
-        (b"-\n", 2, PyxKind::NoRoot),
-        (b"(a\n)a\n-\n-b\n", 4, PyxKind::SecondRoot),
-        (b"-a\n(b\n", 2, PyxKind::SecondRoot),
-        (b"-a\nCx", 2, PyxKind::SecondRoot),
-        (b"Cx\n?t\n", 2, PyxKind::SecondRoot),
-        (b"?t\n-a\n", 2, PyxKind::SecondRoot),
-        (b"(a\n", 2, PyxKind::Unfinished),
-        (b"-a\nAb c\n", 2, PyxKind::AttributePlace),
-        (b"-a\n)a\n", 2, PyxKind::WrongEnd),
-        (b"-a\n&\n", 2, PyxKind::EntityLine),
-        (b"-a\n?xml\n", 2, PyxKind::BadName),
+fn faults_of_texts(rt: HostRuntime) -> Result<(), Fail> {
+    faults_are(&rt, rt.alloc(), Mode::Document, FAULTY_DOCUMENTS)?;
+    faults_are(&rt, rt.alloc(), Mode::Fragment, FAULTY_FRAGMENTS)
+}
+
+#[test]
+fn bytes_that_are_no_text(rt: HostRuntime) -> Result<(), Fail> {
+    let cases: [(&[u8], &str); 3] = [
+        (b"(a\n-\xff\n", "line 2: NotUtf8"),
+        (b"\xff", "line 1: NotUtf8"),
+        (b"(a\nD\xc3\n)a\n", "line 2: NotUtf8"),
     ];
-    for (text, line, kind) in cases {
-        let wanted = PyxFault { line, kind };
-        let (found, error) = faults(&rt, Mode::Fragment, text)?;
-        assert_eq!(rt; found, Some(wanted), "{text:?}");
-        assert_eq!(rt; error, Some(FeedError::Fault(wanted)), "{text:?}");
+    for (bytes, wanted) in cases {
+        let (front, events) = faults_told(rt.alloc(), Mode::Document, bytes)?;
+        assert_eq!(rt; (front.as_str(), events.as_str()), (wanted, wanted));
     }
     Ok(())
 }
 
-/// A faulty line completes nothing, nor does a last line without a line end before a fault at the end.
 #[test]
 fn events_before_faults(rt: HostRuntime) -> Result<(), Fail> {
-    let cases = [
-        ("(p:a\n-x", ""),
-        ("(p:a\n-x\n", "1(p:a|"),
-        ("(p:a\nAx 1\n&\n", ""),
-        ("(a\n-x\n(b\n&\n", "1(a|2-x|"),
-        ("(a\n)a\n(b\n", "1(a|2)a|"),
-    ];
-    for (text, wanted) in cases {
+    for row in FRONTS.lines() {
+        let (text, wanted) = sides(row)?;
+        let text = text_of(rt.alloc(), text)?;
         let front = read_front(rt.alloc(), Mode::Document, text.as_bytes())?;
-        assert!(rt; front.fault.is_some());
-        let found = shown(&rt, &front.events)?;
-        assert_eq!(rt; found.as_str(), wanted);
+        assert!(rt; front.fault.is_some(), "of {row}");
+        assert_eq!(rt; shown(rt.alloc(), &front.events)?.as_str(), wanted);
     }
     Ok(())
 }
 
-/// The events of a document that comes in these pieces, taken after each of them.
-fn read_pieces(rt: &HostRuntime, pieces: &[&[u8]]) -> Result<String, Fail> {
-    let mut reader = Reader::new(rt.alloc(), Mode::Document);
-    let mut events = LocatedList::new(rt.alloc());
-    for piece in pieces {
-        reader.feed(piece)?;
-        if let Some(event) = reader.next_event() {
-            events.push(event)?;
+/// A document under way, and the events that were taken of it.
+#[derive(Drop)]
+struct Collector {
+    reader: Reader,
+    events: LocatedList,
+}
+
+impl Collector {
+    fn new(alloc: Global) -> Collector {
+        Collector {
+            reader: Reader::new(alloc, Mode::Document),
+            events: LocatedList::new(alloc),
         }
     }
-    reader.finish()?;
-    for _ in 0..20 {
-        if let Some(event) = reader.next_event() {
-            events.push(event)?;
-        }
+
+    /// Feeds a piece, and takes the events that it completes.
+    fn feed(&mut self, piece: &[u8]) -> Result<(), Fail> {
+        self.reader.feed(piece)?;
+        self.take()
     }
-    shown(rt, &events)
+
+    /// Ends the document, and takes its last events.
+    fn finish(&mut self) -> Result<(), Fail> {
+        self.reader.finish()?;
+        self.take()
+    }
+
+    /// Takes the events that wait, of which there are fewer than 20.
+    fn take(&mut self) -> Result<(), Fail> {
+        for _ in 0..20 {
+            if let Some(event) = self.reader.next_event() {
+                self.events.push(event)?;
+            }
+        }
+        Ok(())
+    }
+}
+
+/// The events of a document that comes in two pieces, with nothing between them.
+fn read_halves(alloc: Global, first: &[u8], second: &[u8]) -> Result<String, Fail> {
+    let mut collector = Collector::new(alloc);
+    collector.feed(first)?;
+    collector.feed(b"")?;
+    collector.feed(second)?;
+    collector.finish()?;
+    shown(alloc, &collector.events)
 }
 
 #[test]
 fn cut_inside_escape_and_character(rt: HostRuntime) -> Result<(), Fail> {
-    let found = read_pieces(&rt, &[b"(a\n-a\\", b"nb\n)a\n"])?;
-    assert_eq!(rt; found.as_str(), "1(a|2-a\nb|3)a|");
-    let found = read_pieces(&rt, &[b"(a\n-\xc3", b"\xa9\n)a\n"])?;
-    assert_eq!(rt; found.as_str(), "1(a|2-\u{e9}|3)a|");
+    let found = read_halves(rt.alloc(), b"(a\n-a\\", b"nb\n)a\n")?;
+    assert_eq!(rt; found.as_str(), "1(a; 2-a\nb; 3)a");
+    let found = read_halves(rt.alloc(), b"(a\n-\xc3", b"\xa9\n)a\n")?;
+    assert_eq!(rt; found.as_str(), "1(a; 2-\u{e9}; 3)a");
     Ok(())
 }
 
 const DOCUMENT: &[u8] = b"C\\n\n\n(\xc3\xa9\nAx 1\\t2\n-a\\nb\n-\xc3\xa9\\\\\n?t b\n)\xc3\xa9";
 
+const EVENTS: &str = "1C\n; 3(\u{e9} x=1\t2; 5-a\nb\u{e9}\\; 7?t b; 8)\u{e9}";
+
 #[test]
 fn each_cut(rt: HostRuntime) -> Result<(), Fail> {
-    let wanted = "1C\n|3(\u{e9} x=1\t2|5-a\nb\u{e9}\\|7?t b|8)\u{e9}|";
     for at in 0..DOCUMENT.len() {
-        let found = read_pieces(&rt, &[&DOCUMENT[..at], b"", &DOCUMENT[at..]])?;
-        assert_eq!(rt; found.as_str(), wanted, "cut at {at}");
+        let found = read_halves(rt.alloc(), &DOCUMENT[..at], &DOCUMENT[at..])?;
+        assert_eq!(rt; found.as_str(), EVENTS, "cut at {at}");
     }
-    let mut reader = Reader::new(rt.alloc(), Mode::Document);
-    let mut events = LocatedList::new(rt.alloc());
-    for at in 0..DOCUMENT.len() {
-        reader.feed(&DOCUMENT[at..at + 1])?;
-        if let Some(event) = reader.next_event() {
-            events.push(event)?;
-        }
-    }
-    reader.finish()?;
-    for _ in 0..20 {
-        if let Some(event) = reader.next_event() {
-            events.push(event)?;
-        }
-    }
-    let found = shown(&rt, &events)?;
-    assert_eq!(rt; found.as_str(), wanted);
     Ok(())
 }
 
 #[test]
+fn byte_by_byte(rt: HostRuntime) -> Result<(), Fail> {
+    let mut collector = Collector::new(rt.alloc());
+    for byte in DOCUMENT {
+        collector.feed(&[*byte])?;
+    }
+    collector.finish()?;
+    let found = shown(rt.alloc(), &collector.events)?;
+    assert_eq!(rt; found.as_str(), EVENTS);
+    Ok(())
+}
+
+/// Calls of a reader of a document that meets a fault, each with its answer.
+const A_FAULT: &str = "\
+feed Cc|&|(a => line 2: EntityLine\n\
+feed | => line 2: EntityLine\n\
+next => 1Cc\n\
+next => none\n\
+finish => line 2: EntityLine\n";
+
+/// What a call of a reader comes to.
+fn answered(alloc: Global, reader: &mut Reader, call: &str) -> Result<String, Fail> {
+    let (word, text) = first_word(call);
+    match word {
+        "feed" => told(alloc, reader.feed(text.as_bytes())),
+        "finish" => told(alloc, reader.finish()),
+        _ => next_told(alloc, reader.next_event()),
+    }
+}
+
+/// Whether a reader goes on, or why it has stopped.
+fn told(alloc: Global, answer: Result<(), FeedError>) -> Result<String, Fail> {
+    match answer {
+        Ok(()) => Ok(String::from_str(alloc, "done")?),
+        Err(error) => Ok(format!(in alloc; "{error}")?),
+    }
+}
+
+/// An event that was taken, or `none`.
+fn next_told(alloc: Global, next: Option<Located>) -> Result<String, Fail> {
+    match next {
+        Some(event) => {
+            let mut events = LocatedList::new(alloc);
+            events.push(event)?;
+            shown(alloc, &events)
+        }
+        None => Ok(String::from_str(alloc, "none")?),
+    }
+}
+
+#[test]
 fn a_fault_stays(rt: HostRuntime) -> Result<(), Fail> {
-    let fault = FeedError::Fault(PyxFault {
-        line: 2,
-        kind: PyxKind::EntityLine,
-    });
     let mut reader = Reader::new(rt.alloc(), Mode::Document);
-    assert_eq!(rt; reader.feed(b"Cc\n&\n(a"), Err(fault));
-    assert_eq!(rt; reader.feed(b"\n"), Err(fault));
-    assert!(rt; reader.next_event().is_some());
-    assert!(rt; reader.next_event().is_none());
-    assert_eq!(rt; reader.finish(), Err(fault));
+    for row in A_FAULT.lines() {
+        let (call, wanted) = sides(row)?;
+        let call = text_of(rt.alloc(), call)?;
+        let found = answered(rt.alloc(), &mut reader, call.as_str())?;
+        assert_eq!(rt; found.as_str(), wanted, "of {row}");
+    }
     Ok(())
 }
 
 #[test]
 fn escapes_undone(rt: HostRuntime) -> Result<(), Fail> {
-    for (text, wanted) in [
-        ("", ""),
-        ("plain", "plain"),
-        ("a\\nb", "a\nb"),
-        ("\\t\\r\\\\n", "\t\r\\n"),
-        ("\\\\\\n", "\\\n"),
-        ("\\é\\x", "\\é\\x"),
-        ("end\\", "end\\"),
-    ] {
-        assert_eq!(rt; unescape(rt.alloc(), text)?.as_str(), wanted, "of {text}");
+    for row in ESCAPES.lines() {
+        let (text, wanted) = sides(row)?;
+        let plain = unescape(rt.alloc(), text)?;
+        let wanted = text_of(rt.alloc(), wanted)?;
+        assert_eq!(rt; plain.as_str(), wanted.as_str(), "of {text}");
     }
     Ok(())
 }
