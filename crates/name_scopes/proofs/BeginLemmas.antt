@@ -1,5 +1,6 @@
 -- An element begins: from its node, what it declares and its attributes to the whole.
 use Rattle.std.proofs.Common.{◌≡◌, ◌≢◌, ℕ, ◌+◌, ◌≤◌, suc, Bool, true, false, List, [], ◌∷◌, ◌++◌, length, map, sum_by, None, Some, refl, sym, ap, ap₂, ◌∙◌, subst, ⊎_elim, arith, append_assoc, length-append}
+use Rattle.std.proofs.lemmas.Bool.{cases_eq}
 use Rattle.std.specs.List.{flat_map}
 use Rattle.pyx_core.specs.declared.event.Attr.{Attr}
 use Rattle.pyx_core.specs.Nesting.{is_name}
@@ -14,8 +15,8 @@ use Rattle.doc_tree.specs.Scope.{Decl, scope_at, HasScopes}
 use Rattle.name_scopes.specs.Declarations.{declarations, plain_attrs}
 use Rattle.name_scopes.specs.Scoping.{ContentInScope, NodeInScope, InScope}
 use Rattle.name_scopes.specs.DocFaults.{tag_nodes}
-use Rattle.name_scopes.specs.Building.{Receives, Tops, Tells, DeclaresAll, AttributesAll, Begins, element_name, scoped_line, start_lines, value_bytes}
-use Rattle.name_scopes.proofs.NumberLemmas.{mem-first, eq_or}
+use Rattle.name_scopes.specs.inner.Build.{Receives, Tops, Says, DeclaresAll, AttributesAll, Begins, element_name, scoped_line, start_lines, value_bytes}
+use Rattle.name_scopes.proofs.NumberLemmas.{mem-first}
 use Rattle.name_scopes.proofs.OpenElements.{tops-apart, tops-first}
 use Rattle.name_scopes.proofs.ScopeGrowth.{scope-new, others-scoped}
 use Rattle.name_scopes.proofs.TellLemmas.{tells-element}
@@ -46,19 +47,19 @@ module _ (T U V : Table) (p n : ℕ) (scope : List Decl) (name : List ℕ) (attr
         (subst (λ o. ContentInScope (scope_at V n) o) (sym begun-content)
         (subst (λ (s : List Decl). ContentInScope s (Some (element (element_name scope name) (declarations attrs)))) (sym begun-scope) (element-scoped scope name attrs named ok good))))
         (λ (ne : m ≢ n). decls.others m ne (others-scoped T U p n _ grew laws m ne (all m)))
-        (eq_or m n)
+        (cases_eq m n)
 
   -- the whole
   pub begun : (W : Table) → AttributesAll V W n scope attrs → HasWaysUp T → WellFormed T → Begins T W p n scope name attrs
   begun W more ways formed = record {
     tells = λ told names scopes begun text some none tells.
         let top : Tops true U = by begun some none tells.top in
-        let t1 : Tells (told ++ starts (element_name scope name) ∷ []) (name ∷ names) ([] ∷ scopes) true text U n =
+        let t1 : Says (told ++ starts (element_name scope name) ∷ []) (name ∷ names) ([] ∷ scopes) true text U n =
         tells-element T U p n name (element_name scope name) told names scopes begun text grew ways refl top tells in
-        let t2 : Tells ((told ++ starts (element_name scope name) ∷ []) ++ map declares (declarations attrs)) (name ∷ names) (declarations attrs ∷ scopes) true text V n =
+        let t2 : Says ((told ++ starts (element_name scope name) ∷ []) ++ map declares (declarations attrs)) (name ∷ names) (declarations attrs ∷ scopes) true text V n =
         decls.tells (told ++ starts (element_name scope name) ∷ []) name names scopes true text t1 in
         let t3 = more.tells ((told ++ starts (element_name scope name) ∷ []) ++ map declares (declarations attrs)) (name ∷ names) (declarations attrs ∷ scopes) true text t2 in
-        subst (λ (ls : List Line). Tells ls (name ∷ names) (declarations attrs ∷ scopes) true (text + sum_by value_bytes attrs) W n)
+        subst (λ (ls : List Line). Says ls (name ∷ names) (declarations attrs ∷ scopes) true (text + sum_by value_bytes attrs) W n)
         (append_assoc (told ++ starts (element_name scope name) ∷ []) (map declares (declarations attrs)) (map (scoped_line scope) (plain_attrs attrs))
         ∙ append_assoc told (starts (element_name scope name) ∷ []) (map declares (declarations attrs) ++ map (scoped_line scope) (plain_attrs attrs))) t3;
     scoped = more.scoped;

@@ -8,7 +8,7 @@ use Rattle.std.proofs.lemmas.Bool.{cases_lt}
 use Rattle.doc_tree.specs.Numbering.{EachOnce, Numbered}
 use Rattle.doc_tree.specs.Scope.{Decl, first_declared}
 use Rattle.name_scopes.specs.declared.scope.Binding.{Binding}
-use Rattle.name_scopes.specs.Bindings.{newest_first, bound, uri_of, nearest_at, Shadow, Bound}
+use Rattle.name_scopes.specs.inner.Scope.{newest_first, bound, uri_of, nearest_at, Shadow, Bound}
 
 pub newest-push : {A : Type 0} (xs : List A) (x : A) → newest_first (xs ++ x ∷ []) ≡ x ∷ newest_first xs
 newest-push [] x = refl

@@ -1,11 +1,12 @@
 -- No event of items breaks a rule of names or passes a limit.
 use Rattle.std.proofs.Common.{◌≡◌, ◌≢◌, ℕ, suc, ◌+◌, ◌≤◌, Bool, true, false, ◌||◌, List, [], ◌∷◌, ◌++◌, length, map, Option, None, Some, refl, sym, ap, ap₂, ◌∙◌, subst, true≢false, arith}
+use Rattle.std.proofs.lemmas.List.Folds.{list_any-append}
 use Rattle.std.specs.Prelude.{if◌then◌else◌, is_none, unwrap_or, nat_lt}
 use Rattle.std.specs.List.{list_any, list_all}
 use Rattle.std.specs.Option.{option_or}
 use Rattle.std.specs.Str.{bytes_eq}
 use Rattle.std.proofs.lemmas.Slice.Eq.{bytes_eq-Decides}
-use Rattle.std.proofs.lemmas.Bool.{false_from_ne_true}
+use Rattle.std.proofs.lemmas.Bool.{false_from_ne_true, or_parts}
 use Rattle.std.proofs.lemmas.Bool.Decides.{nat_tests}
 use Rattle.sch_base.specs.Names.{QNamesSplit}
 use Rattle.pyx_core.specs.declared.event.Attr.{Attr}
@@ -24,9 +25,9 @@ use Rattle.name_scopes.specs.QNames.{prefix_part, local_part}
 use Rattle.name_scopes.specs.Declarations.{declaration_of, declarations, is_bad_declaration, has_both_quotes}
 use Rattle.name_scopes.specs.Scoping.{AttributeInScope, attribute_namespace, declares_twice, is_good_declaration}
 use Rattle.name_scopes.specs.DocFaults.{Standing, in_scope, lacks_prefix, has_pair, same_qname, same_expanded, expanded_attr, tag_fault, tag_nodes, limit_fault, start_fault, event_fault, moved, first_fault}
-use Rattle.name_scopes.proofs.TagLemmas.{any-append, qname-sound, expanded-sound}
-use Rattle.name_scopes.proofs.TagFacts.{TagIsGood, both-false}
-use Rattle.name_scopes.proofs.TextLemmas.{both}
+use Rattle.name_scopes.proofs.TagLemmas.{qname-sound, expanded-sound}
+use Rattle.name_scopes.proofs.TagFacts.{TagIsGood}
+use Rattle.std.proofs.lemmas.Bool.{and_parts}
 use Rattle.name_scopes.proofs.Items.{Items, nothing, an_element, a_text, a_comment, an_instruction, Pair, PairsFit, Differs, AllDiffer, TagFits, Fit, decl_attr, pair_attr, start_attrs, item_events, item_nodes}
 use Rattle.name_scopes.proofs.ItemNames.{Spelled, spelled, declared, no_declaration, tag-attributes, tag-declarations, GoodDecl, good_decl}
 
@@ -45,7 +46,7 @@ declaring-apart p q same =
 decls-apart : (d : Decl) (decls : List Decl) → list_any (λ (later : Decl). bytes_eq d.0 later.0) decls ≡ false → list_any (same_qname (decl_attr d)) (map decl_attr decls) ≡ false
 decls-apart d [] once = refl
 decls-apart d (e ∷ decls) once =
-    let parts = both-false (bytes_eq d.0 e.0) (list_any (λ (later : Decl). bytes_eq d.0 later.0) decls) once in
+    let parts = or_parts (bytes_eq d.0 e.0) (list_any (λ (later : Decl). bytes_eq d.0 later.0) decls) once in
     neither (same_qname (decl_attr d) (decl_attr e)) (list_any (same_qname (decl_attr d)) (map decl_attr decls))
     (false_from_ne_true (same_qname (decl_attr d) (decl_attr e)) (λ (same : same_qname (decl_attr d) (decl_attr e) ≡ true).
     true≢false (sym ((bytes_eq-Decides d.0 e.0).1 (declaring-apart d.0 e.0 (qname-sound (decl_attr d) (decl_attr e) same))) ∙ parts.0)))
@@ -101,9 +102,9 @@ module _ (same : Attr → Attr → Bool) (scope : List Decl)
 qnames-apart : QNamesSplit → (scope decls : List Decl) (attrs : List Pair) → declares_twice decls ≡ false → PairsFit scope attrs → AllDiffer attrs → has_pair same_qname (start_attrs decls attrs) ≡ false
 qnames-apart splits scope [] attrs once fit differ = all-apart same_qname scope (qname-apart splits scope) attrs fit differ
 qnames-apart splits scope (d ∷ decls) attrs once fit differ =
-    let parts = both-false (list_any (λ (later : Decl). bytes_eq d.0 later.0) decls) (declares_twice decls) once in
+    let parts = or_parts (list_any (λ (later : Decl). bytes_eq d.0 later.0) decls) (declares_twice decls) once in
     neither (list_any (same_qname (decl_attr d)) (start_attrs decls attrs)) (has_pair same_qname (start_attrs decls attrs))
-    (any-append (same_qname (decl_attr d)) (map decl_attr decls) (map pair_attr attrs)
+    (list_any-append (same_qname (decl_attr d)) (map decl_attr decls) (map pair_attr attrs)
     ∙ neither (list_any (same_qname (decl_attr d)) (map decl_attr decls)) (list_any (same_qname (decl_attr d)) (map pair_attr attrs)) (decls-apart d decls parts.0) (pairs-apart splits scope d attrs fit))
     (qnames-apart splits scope decls attrs parts.1 fit differ)
 
@@ -118,7 +119,7 @@ pairs-known splits scope (a ∷ attrs) fit =
 decls-may-be : (decls : List Decl) → list_all is_good_declaration decls ≡ true → (list_any is_bad_declaration decls ≡ false) × (list_any has_both_quotes decls ≡ false)
 decls-may-be [] good = (refl, refl)
 decls-may-be (d ∷ decls) good =
-    let parts = both (is_good_declaration d) (list_all is_good_declaration decls) good in
+    let parts = and_parts (is_good_declaration d) (list_all is_good_declaration decls) good in
     let g : GoodDecl d = good_decl d parts.0 in
     let later = decls-may-be decls parts.1 in
     (neither (is_bad_declaration d) (list_any is_bad_declaration decls) g.may_be later.0, neither (has_both_quotes d) (list_any has_both_quotes decls) g.quoted later.1)
@@ -173,7 +174,7 @@ moved-append standing (e ∷ front) back = moved-append (moved standing e) front
 abbrev pub standing_at : List (List Decl) → ℕ → Standing
 standing_at scopes nodes = record { scopes = scopes; nodes = nodes }
 
--- how things stand behind a start tag
+-- how things stand after a start tag
 start-moves : QNamesSplit → (scope : List Decl) (name : Name) (decls : List Decl) (attrs : List Pair) (scopes : List (List Decl)) (nodes : ℕ) → PairsFit scope attrs →
     moved (standing_at scopes nodes) (event.Start (qname_of name) (start_attrs decls attrs)) ≡ standing_at (decls ∷ scopes) (nodes + suc (length attrs))
 start-moves splits scope name decls attrs scopes nodes fit =

@@ -12,7 +12,7 @@ use Rattle.doc_tree.specs.Table.{Name}
 use Rattle.doc_tree.specs.QNames.{qname_of}
 use Rattle.name_scopes.specs.QNames.{as_written, unprefixed}
 use Rattle.name_scopes.specs.Declarations.{declarations, plain_attrs}
-use Rattle.name_scopes.specs.ScopedTree.{attribute_line, event_lines, unscoped, written}
+use Rattle.name_scopes.specs.ScopedTree.{attribute_line, said_by, unscoped, written}
 use Rattle.name_scopes.specs.Scoping.{InstructionInScope, is_qualified}
 use Rattle.name_scopes.proofs.Items.{Items, nothing, an_element, a_text, a_comment, an_instruction, Pair, PairsFit, Fit, pair_line, pair_attr, start_attrs, item_lines, item_events}
 use Rattle.name_scopes.proofs.ItemNames.{Spelled, spelled, tag-attributes, tag-declarations}
@@ -35,12 +35,12 @@ declared-again (d ∷ decls) = ap (λ l. declares d ∷ l) (declared-again decls
 instruction-again : (name : Name) (body : List ℕ) → InstructionInScope name body → as_written name ≡ unprefixed name.local
 instruction-again name body fits = ap (λ p. same_name p name.local) fits.no_prefix
 
--- a start tag, and what stands behind it
+-- a start tag, and what stands after it
 tag-again : QNamesSplit → (scope : List Decl) (name : Name) (decls : List Decl) (attrs : List Pair) (lines : List Line) (events : List Event) →
-    is_qualified name ≡ true → PairsFit scope attrs → map unscoped lines ≡ flat_map event_lines events →
-    map unscoped (starts name ∷ (map declares decls ++ (map pair_line attrs ++ lines))) ≡ flat_map event_lines (event.Start (qname_of name) (start_attrs decls attrs) ∷ events)
+    is_qualified name ≡ true → PairsFit scope attrs → map unscoped lines ≡ flat_map said_by events →
+    map unscoped (starts name ∷ (map declares decls ++ (map pair_line attrs ++ lines))) ≡ flat_map said_by (event.Start (qname_of name) (start_attrs decls attrs) ∷ events)
 tag-again splits scope name decls attrs lines events named fit behind =
-    let rest : List Line = flat_map event_lines events in
+    let rest : List Line = flat_map said_by events in
     let parts : map unscoped (map declares decls ++ (map pair_line attrs ++ lines)) ≡ map declares decls ++ (map attribute_line (map pair_attr attrs) ++ rest) =
     map-append unscoped (map declares decls) (map pair_line attrs ++ lines)
     ∙ ap₂ (λ x y. x ++ y) (declared-again decls) (map-append unscoped (map pair_line attrs) lines ∙ ap₂ (λ x y. x ++ y) (attributes-again splits scope attrs fit) behind) in
@@ -49,17 +49,17 @@ tag-again splits scope name decls attrs lines events named fit behind =
     ap₂ (λ (n : Name) (l : List Line). starts n ∷ l) (sym (written-again splits name named))
     (parts ∙ sym (append_assoc (map declares decls) (map attribute_line (map pair_attr attrs)) rest) ∙ ap (λ l. l ++ rest) (sym tag))
 
--- the kids, the end of their element, and what stands behind it
+-- the kids, the end of their element, and what stands after it
 inside-again : QNamesSplit → (name : Name) (kids rest : Items) → is_qualified name ≡ true →
-    map unscoped (item_lines kids) ≡ flat_map event_lines (item_events kids) → map unscoped (item_lines rest) ≡ flat_map event_lines (item_events rest) →
-    map unscoped (item_lines kids ++ ends name ∷ item_lines rest) ≡ flat_map event_lines (item_events kids ++ event.End (qname_of name) ∷ item_events rest)
+    map unscoped (item_lines kids) ≡ flat_map said_by (item_events kids) → map unscoped (item_lines rest) ≡ flat_map said_by (item_events rest) →
+    map unscoped (item_lines kids ++ ends name ∷ item_lines rest) ≡ flat_map said_by (item_events kids ++ event.End (qname_of name) ∷ item_events rest)
 inside-again splits name kids rest named within later =
     map-append unscoped (item_lines kids) (ends name ∷ item_lines rest)
     ∙ ap₂ (λ (x y : List Line). x ++ y) within (ap₂ (λ (n : Name) (l : List Line). ends n ∷ l) (sym (written-again splits name named)) later)
-    ∙ sym (flat_map-append event_lines (item_events kids) (event.End (qname_of name) ∷ item_events rest))
+    ∙ sym (flat_map-append said_by (item_events kids) (event.End (qname_of name) ∷ item_events rest))
 
 pub items-again : QNamesSplit → (scope : List Decl) (depth : ℕ) (behind : Bool) (items : Items) → Fit scope depth behind items →
-    map unscoped (item_lines items) ≡ flat_map event_lines (item_events items)
+    map unscoped (item_lines items) ≡ flat_map said_by (item_events items)
 items-again splits scope depth behind nothing fit = refl
 items-again splits scope depth behind (an_element name decls attrs kids rest) fit =
     tag-again splits (decls ++ scope) name decls attrs (item_lines kids ++ ends name ∷ item_lines rest) (item_events kids ++ event.End (qname_of name) ∷ item_events rest)

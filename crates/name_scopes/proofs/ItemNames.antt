@@ -1,5 +1,7 @@
 -- The names of items as they are written, read again.
 use Rattle.std.proofs.Common.{◌≡◌, ℕ, zero, suc, ◌+◌, Bool, true, false, not, ◌&&◌, ◌||◌, List, [], ◌∷◌, ◌++◌, length, map, Option, None, Some, is_some, refl, sym, ap, ap₂, ◌∙◌, true≢false, arith, append-nil}
+use Rattle.std.proofs.Math.Bool.{or-true}
+use Rattle.std.proofs.lemmas.List.Folds.{list_any-append}
 use Rattle.std.specs.Prelude.{if◌then◌else◌, nat_lt}
 use Rattle.std.specs.List.{list_any, list_all, before_first, after_first, position_or_len}
 use Rattle.std.specs.Option.{option_to_list}
@@ -22,13 +24,9 @@ use Rattle.doc_write.specs.TreeText.{declaring_name}
 use Rattle.name_scopes.specs.QNames.{prefix_part, local_part}
 use Rattle.name_scopes.specs.Declarations.{declaration_of, declarations, has_both_quotes, is_bad_declaration, is_empty, plain_attrs}
 use Rattle.name_scopes.specs.Scoping.{AttributeInScope, attribute_namespace, is_good_declaration, is_part, is_qualified}
-use Rattle.name_scopes.proofs.TagLemmas.{any-append}
-use Rattle.name_scopes.proofs.TextLemmas.{both, and, made_of, utf8_of, of_chars_append}
+use Rattle.std.proofs.lemmas.Bool.{and_parts, and_from}
+use Rattle.pyx_core.proofs.TextLemmas.{made_of, utf8_of, of_chars_append}
 use Rattle.name_scopes.proofs.Items.{Pair, PairsFit, decl_attr, pair_attr, start_attrs}
-
-or-true : (a : Bool) → (a || true) ≡ true
-or-true true = refl
-or-true false = refl
 
 -- the place of the first colon
 colon_place : (prefix name : List ℕ) → list_any is_colon prefix ≡ false → position_or_len is_colon (prefix ++ 58 ∷ name) ≡ length prefix
@@ -36,7 +34,7 @@ colon_place [] name none = refl
 colon_place (b ∷ prefix) name none = grind (arith, common_steps, colon_place prefix name)
 
 has_colon : (prefix name : List ℕ) → list_any is_colon (prefix ++ 58 ∷ name) ≡ true
-has_colon prefix name = any-append is_colon prefix (58 ∷ name) ∙ or-true (list_any is_colon prefix)
+has_colon prefix name = list_any-append is_colon prefix (58 ∷ name) ∙ or-true (list_any is_colon prefix)
 
 -- two parts with a colon between them
 pub prefix-at : (prefix local : List ℕ) → list_any is_colon prefix ≡ false → prefix_part (prefix ++ 58 ∷ local) ≡ prefix
@@ -57,7 +55,7 @@ pub without_colon : QNamesSplit → (name : List ℕ) → is_part name ≡ true 
 without_colon splits name h = by (list_any is_colon name) refl (splits.local name (utf8_of name parts.0) parts.1)
   where
     parts : (of_chars name ≡ true) × (is_ncname name ≡ true)
-    parts = both (of_chars name) (is_ncname name) h
+    parts = and_parts (of_chars name) (is_ncname name) h
 
     inner : (u : Bool) → if◌then◌else◌ {A = Option (ℕ × ℕ)} u (Some (length (before_first is_colon name), length (before_first is_colon name) + 1)) None ≡ Some (0, 0) → ⊥
     inner true h =
@@ -80,8 +78,8 @@ pub record Spelled (name : Name) : Type 0 where
 
 ascii : (bs : List ℕ) → list_all (λ b. nat_lt b 128) bs ≡ true → IsAscii bs
 ascii [] h i = omega arith
-ascii (b ∷ bs) h zero = let low : nat_lt b 128 ≡ true = (both (nat_lt b 128) (list_all (λ b. nat_lt b 128) bs) h).0 in ltb-true b 128 low
-ascii (b ∷ bs) h (suc i) = ascii bs (both (nat_lt b 128) (list_all (λ b. nat_lt b 128) bs) h).1 i
+ascii (b ∷ bs) h zero = let low : nat_lt b 128 ≡ true = (and_parts (nat_lt b 128) (list_all (λ b. nat_lt b 128) bs) h).0 in ltb-true b 128 low
+ascii (b ∷ bs) h (suc i) = ascii bs (and_parts (nat_lt b 128) (list_all (λ b. nat_lt b 128) bs) h).1 i
 
 ascii-made : (bs : List ℕ) → list_all (λ b. nat_lt b 128) bs ≡ true → list_all is_xml_char bs ≡ true → of_chars bs ≡ true
 ascii-made bs low made = made_of bs (IsUtf8-from_ascii bs (ascii bs low)) (ap (list_all is_xml_char) (chars-IsAscii bs (ascii bs low)) ∙ made)
@@ -91,7 +89,7 @@ unfolding is_xml_char
 colon_made = ascii-made (58 ∷ []) refl refl
 
 pub spelled : QNamesSplit → (name : Name) → is_qualified name ≡ true → Spelled name
-spelled splits name h = by name.prefix refl (both (is_empty name.prefix || is_part name.prefix) (is_part name.local) h)
+spelled splits name h = by name.prefix refl (and_parts (is_empty name.prefix || is_part name.prefix) (is_part name.local) h)
   where
     local : is_part name.local ≡ true → list_any is_colon name.local ≡ false
     local part = without_colon splits name.local part
@@ -100,22 +98,22 @@ spelled splits name h = by name.prefix refl (both (is_empty name.prefix || is_pa
     by [] e parts =
         let spells : qname_of name ≡ name.local = ap (λ p. spelled_name p name.local) e in
         let none = local parts.1 in
-        let is = both (of_chars name.local) (is_ncname name.local) parts.1 in
+        let is = and_parts (of_chars name.local) (is_ncname name.local) parts.1 in
         record {
           prefix = ap prefix_part spells ∙ prefix-none name.local none ∙ sym e;
           local = ap local_part spells ∙ local-all name.local none;
-          named = ap is_name spells ∙ and (of_chars name.local) (is_qname name.local) is.0 (ap is_some (splits.local name.local (utf8_of name.local is.0) is.1));
+          named = ap is_name spells ∙ and_from (of_chars name.local) (is_qname name.local) is.0 (ap is_some (splits.local name.local (utf8_of name.local is.0) is.1));
         }
     by (b ∷ prefix) e parts =
         let spells : qname_of name ≡ (b ∷ prefix) ++ 58 ∷ name.local = ap (λ p. spelled_name p name.local) e in
         let none = without_colon splits (b ∷ prefix) parts.0 in
-        let is = both (of_chars (b ∷ prefix)) (is_ncname (b ∷ prefix)) parts.0 in
-        let own = both (of_chars name.local) (is_ncname name.local) parts.1 in
+        let is = and_parts (of_chars (b ∷ prefix)) (is_ncname (b ∷ prefix)) parts.0 in
+        let own = and_parts (of_chars name.local) (is_ncname name.local) parts.1 in
         let made : of_chars ((b ∷ prefix) ++ 58 ∷ name.local) ≡ true = of_chars_append (b ∷ prefix) (58 ∷ name.local) is.0 (of_chars_append (58 ∷ []) name.local colon_made own.0) in
         record {
           prefix = ap prefix_part spells ∙ prefix-at (b ∷ prefix) name.local none ∙ sym e;
           local = ap local_part spells ∙ local-at (b ∷ prefix) name.local none;
-          named = ap is_name spells ∙ and (of_chars ((b ∷ prefix) ++ 58 ∷ name.local)) (is_qname ((b ∷ prefix) ++ 58 ∷ name.local)) made
+          named = ap is_name spells ∙ and_from (of_chars ((b ∷ prefix) ++ 58 ∷ name.local)) (is_qname ((b ∷ prefix) ++ 58 ∷ name.local)) made
               (ap is_some (splits.prefixed (b ∷ prefix) name.local (utf8_of (b ∷ prefix) is.0) is.1 own.1));
         }
 
@@ -134,7 +132,7 @@ unfolding xmlns_prefix is_name_start is_name_char
 xmlns-named = ap is_ncname_of (chars-IsAscii xmlns_prefix (ascii xmlns_prefix refl))
 
 xmlns-part : is_part xmlns_prefix ≡ true
-xmlns-part = and (of_chars xmlns_prefix) (is_ncname xmlns_prefix) xmlns-made xmlns-named
+xmlns-part = and_from (of_chars xmlns_prefix) (is_ncname xmlns_prefix) xmlns-made xmlns-named
 
 xmlns-same : bytes_eq xmlns_prefix xmlns_prefix ≡ true
 xmlns-same = (bytes_eq-Decides xmlns_prefix xmlns_prefix).1 refl
@@ -172,7 +170,7 @@ pub no_declaration : QNamesSplit → (scope : List Decl) (a : Pair) → Attribut
 no_declaration splits scope a fits = by a.0.prefix refl
   where
     parts : ((is_empty a.0.prefix || is_part a.0.prefix) ≡ true) × (is_part a.0.local ≡ true)
-    parts = both (is_empty a.0.prefix || is_part a.0.prefix) (is_part a.0.local) fits.named
+    parts = and_parts (is_empty a.0.prefix || is_part a.0.prefix) (is_part a.0.local) fits.named
 
     read : Spelled a.0
     read = spelled splits a.0 fits.named
@@ -212,12 +210,12 @@ tag-attributes splits scope decls attrs fit = plain-none decls (map pair_attr at
 -- the names of the attributes that declare, and of the others, are QNames
 declaring-named : QNamesSplit → (prefix : List ℕ) → (is_empty prefix || is_part prefix) ≡ true → is_name (declaring_name prefix) ≡ true
 declaring-named splits [] h =
-    let is = both (of_chars xmlns_prefix) (is_ncname xmlns_prefix) xmlns-part in
-    and (of_chars xmlns_prefix) (is_qname xmlns_prefix) is.0 (ap is_some (splits.local xmlns_prefix (utf8_of xmlns_prefix is.0) is.1))
+    let is = and_parts (of_chars xmlns_prefix) (is_ncname xmlns_prefix) xmlns-part in
+    and_from (of_chars xmlns_prefix) (is_qname xmlns_prefix) is.0 (ap is_some (splits.local xmlns_prefix (utf8_of xmlns_prefix is.0) is.1))
 declaring-named splits (b ∷ prefix) h =
-    let is = both (of_chars xmlns_prefix) (is_ncname xmlns_prefix) xmlns-part in
-    let own = both (of_chars (b ∷ prefix)) (is_ncname (b ∷ prefix)) h in
-    and (of_chars (xmlns_prefix ++ 58 ∷ b ∷ prefix)) (is_qname (xmlns_prefix ++ 58 ∷ b ∷ prefix))
+    let is = and_parts (of_chars xmlns_prefix) (is_ncname xmlns_prefix) xmlns-part in
+    let own = and_parts (of_chars (b ∷ prefix)) (is_ncname (b ∷ prefix)) h in
+    and_from (of_chars (xmlns_prefix ++ 58 ∷ b ∷ prefix)) (is_qname (xmlns_prefix ++ 58 ∷ b ∷ prefix))
     (of_chars_append xmlns_prefix (58 ∷ b ∷ prefix) is.0 (of_chars_append (58 ∷ []) (b ∷ prefix) colon_made own.0))
     (ap is_some (splits.prefixed xmlns_prefix (b ∷ prefix) (utf8_of xmlns_prefix is.0) is.1 own.1))
 
@@ -252,13 +250,13 @@ good_decl decl h =
 pairs-named : QNamesSplit → (scope : List Decl) (attrs : List Pair) → PairsFit scope attrs → list_all is_attr (map pair_attr attrs) ≡ true
 pairs-named splits scope [] fit = refl
 pairs-named splits scope (a ∷ attrs) fit =
-    and (is_attr (pair_attr a)) (list_all is_attr (map pair_attr attrs))
-    (and (is_name (qname_of a.0)) (of_chars a.1) (spelled splits a.0 fit.0.named).named fit.0.made) (pairs-named splits scope attrs fit.1)
+    and_from (is_attr (pair_attr a)) (list_all is_attr (map pair_attr attrs))
+    (and_from (is_name (qname_of a.0)) (of_chars a.1) (spelled splits a.0 fit.0.named).named fit.0.made) (pairs-named splits scope attrs fit.1)
 
 pub tag-named : QNamesSplit → (scope decls : List Decl) (attrs : List Pair) → list_all is_good_declaration decls ≡ true → PairsFit scope attrs → list_all is_attr (start_attrs decls attrs) ≡ true
 tag-named splits scope [] attrs good fit = pairs-named splits scope attrs fit
 tag-named splits scope (d ∷ decls) attrs good fit =
-    let parts = both (is_good_declaration d) (list_all is_good_declaration decls) good in
+    let parts = and_parts (is_good_declaration d) (list_all is_good_declaration decls) good in
     let g : GoodDecl d = good_decl d parts.0 in
-    and (is_attr (decl_attr d)) (list_all is_attr (start_attrs decls attrs))
-    (and (is_name (declaring_name d.0)) (of_chars d.1) (declaring-named splits d.0 g.prefix) g.made) (tag-named splits scope decls attrs parts.1 fit)
+    and_from (is_attr (decl_attr d)) (list_all is_attr (start_attrs decls attrs))
+    (and_from (is_name (declaring_name d.0)) (of_chars d.1) (declaring-named splits d.0 g.prefix) g.made) (tag-named splits scope decls attrs parts.1 fit)

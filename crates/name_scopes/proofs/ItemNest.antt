@@ -23,7 +23,7 @@ place-append place (e ∷ front) back = place-append (after Document place e) fr
 
 -- a place by its parts
 abbrev pub at : List (List ℕ) → Bool → Bool → Place
-at opened begun behind = record { opened = opened; begun = begun; behind_chars = behind }
+at opened begun behind = record { opened = opened; begun = begun; after_chars = behind }
 
 -- whether a text stands last
 abbrev pub text_last : Bool → Items → Bool
@@ -48,7 +48,7 @@ still-begun (a_text characters rest) = still-begun rest
 still-begun (a_comment characters rest) = still-begun rest
 still-begun (an_instruction name body rest) = still-begun rest
 
--- the place behind items
+-- the place after items
 pub behind-items : (items : Items) (opened : List (List ℕ)) (begun behind : Bool) →
     place_after Document (at opened begun behind) (item_events items) ≡ at opened (begun_by begun items) (text_last behind items)
 behind-items nothing opened begun behind = refl
@@ -113,7 +113,7 @@ items-nest splits scope depth (a_comment characters rest) opened begun behind fi
 items-nest splits scope depth (an_instruction name body rest) opened begun behind fit tops =
     (record { room = λ h. no_fragment h; named = fit.0.named; made = fit.0.made }, items-nest splits scope depth rest opened begun false fit.1 (tops-other opened begun (an_instruction name body rest) rest refl refl tops))
 
--- with one element at the top, the events may end behind the items
+-- with one element at the top, the events may end after the items
 begun-at : (items : Items) → top_elements items ≡ 1 → begun_by false items ≡ true
 begun-at nothing one = absurd (cc)
 begun-at (an_element name decls attrs kids rest) one = still-begun rest

@@ -57,7 +57,7 @@ mem-occurs n (m ∷ ms) is = by_eq (n == m) refl (mem-occurs n ms) is
     by_eq true e later is = omega arith
     by_eq false e later is = omega (arith, later is)
 
--- what stands behind a number in a list without repetition is another
+-- what stands after a number in a list without repetition is another
 apart-from : (a b : ℕ) (ns : List ℕ) → Distinct (a ∷ ns) → mem b ns ≡ true → a ≢ b
 apart-from a b ns once there same =
     let here : mem a ns ≡ true = rw same there in
@@ -93,7 +93,7 @@ pairs-differ T (a ∷ ns) once names = pair-all-differ (content_of T a) (pairs_o
     apart-from a b ns once there (names a b (mem_first a ns) (mem_later b a ns there) (ap (λ (c : Option Content). expanded_in (name_at c)) is ∙ same))))
     (pairs-differ T ns (distinct-rest a ns once) (λ x y in_x in_y same. names x y (mem_later x a ns in_x) (mem_later y a ns in_y) same))
 
--- no text behind a text
+-- no text after a text
 abbrev pub TextsBehind : Table → Bool → List ℕ → Type 0
 TextsBehind T behind [] = Unit {0}
 TextsBehind T behind (n ∷ ns) = ((behind && is_text (kind_of T n)) ≡ false) × TextsBehind T (is_text (kind_of T n)) ns
@@ -110,7 +110,7 @@ not-behind : (b : Bool) → (b && true) ≡ false → b ≡ false
 not-behind true h = absurd (cc)
 not-behind false h = refl
 
--- a node of a content with what is behind it
+-- a node of a content with what is after it
 module _ (T : Table) (tree : IsTree T) (scoped : InScope T) (kids : List ℕ → Items) (n p : ℕ) (rest : Items) (behind : Bool) (parent : parent_of T n ≡ Some p) where
   own : (c : Option Content) → content_of T n ≡ c → ContentInScope (scope_at T n) c
   own c is = let P : Option Content → Type 0 = λ c. ContentInScope (scope_at T n) c in subst P is (scoped n)

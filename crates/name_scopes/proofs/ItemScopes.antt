@@ -86,7 +86,7 @@ resolved-pairs scope scopes [] lines fit = refl
 resolved-pairs scope scopes (a ∷ attrs) lines fit =
     ap₂ (λ (name : Name) (l : List Line). has_attribute name a.1 ∷ l) (attribute-back scope a.0 fit.0.namespace) (resolved-pairs scope scopes attrs lines fit.1)
 
--- a start tag, and what stands behind it
+-- a start tag, and what stands after it
 resolved-tag : (scope : List Decl) (scopes : List (List Decl)) (name : Name) (decls : List Decl) (attrs : List Pair) (plain lines : List Line) →
     namespace_in (decls ++ scope) name.prefix ≡ Some name.uri → PairsFit (decls ++ scope) attrs → leading plain ≡ [] → resolved ((decls ++ scope) ∷ scope ∷ scopes) plain ≡ lines →
     resolved (scope ∷ scopes) (starts (as_written name) ∷ (map unscoped (map declares decls) ++ (map unscoped (map pair_line attrs) ++ plain)))

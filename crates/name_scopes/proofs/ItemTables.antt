@@ -1,5 +1,6 @@
 -- The items of a tree.
 use Rattle.std.proofs.Common.{◌≡◌, ◌≢◌, ℕ, zero, suc, ◌+◌, ◌==◌, Bool, true, false, ◌||◌, List, [], ◌∷◌, ◌++◌, length, map, Option, None, Some, refl, sym, ap, ap₂, ◌∙◌, arith, append-nil, append_assoc, length-append}
+use Rattle.std.proofs.Math.Bool.{or-true}
 use Rattle.std.specs.Prelude.{count_by, if◌then◌else◌}
 use Rattle.std.specs.List.{flat_map}
 use Rattle.std.proofs.lemmas.Bool.{eq-eqb}
@@ -28,7 +29,7 @@ pairs_in (Some (instruction name body)) = []
 abbrev pub pairs_of : Table → List ℕ → List Pair
 pairs_of T ns = flat_map (λ a. pairs_in (content_of T a)) ns
 
--- a node of a content with what is behind it; its kids by the items of a list
+-- a node of a content with what is after it; its kids by the items of a list
 abbrev pub item : Table → (List ℕ → Items) → ℕ → Option Content → Items → Items
 item T kids n None rest = rest
 item T kids n (Some root) rest = rest
@@ -73,10 +74,6 @@ mem_first n ns = rw (same_number n) refl
 
 pub mem_later : (n m : ℕ) (ns : List ℕ) → mem n ns ≡ true → mem n (m ∷ ns) ≡ true
 mem_later n m ns h = rw h (or-true (n == m))
-  where
-    or-true : (b : Bool) → (b || true) ≡ true
-    or-true true = refl
-    or-true false = refl
 
 module _ (T : Table) (formed : WellFormed T) (p : ℕ) where
   kids-among : (ns : List ℕ) → ((k : ℕ) → mem k ns ≡ true → mem k (kids_of T p) ≡ true) → AreKids T p ns
@@ -125,7 +122,7 @@ pairs-open T p (a ∷ ns) are =
     ap₂ (λ (x y : List Line). x ++ y) (pair-opens (content_of T a) are.0) (pairs-open T p ns are.2)
     ∙ sym (map-append pair_line (pairs_in (content_of T a)) (pairs_of T ns))
 
--- the lines of a node of a content with what is behind it
+-- the lines of a node of a content with what is after it
 element-lines : (name : Name) (decls : List Decl) (attrs : List Pair) (kids rest : Items) (A K R : List Line) → A ≡ map pair_line attrs → K ≡ item_lines kids → R ≡ item_lines rest →
     (((starts name ∷ map declares decls) ++ A) ++ (K ++ ends name ∷ [])) ++ R ≡ item_lines (an_element name decls attrs kids rest)
 element-lines name decls attrs kids rest A K R a k r =

@@ -32,7 +32,7 @@ pair_texts (a ∷ attrs) = ap (λ l. attr_line (qname_of a.0) a.1 ++ l) (pair_te
 tag_texts : (decls : List Decl) (attrs : List Pair) → attr_lines (start_attrs decls attrs) ≡ flat_map line_text (map declares decls) ++ flat_map line_text (map pair_line attrs)
 tag_texts decls attrs = attr_lines-append (map decl_attr decls) (map pair_attr attrs) ∙ ap₂ (λ x y. x ++ y) (decl_texts decls) (pair_texts attrs)
 
--- what stands behind a start tag
+-- what stands after a start tag
 inside : (name : Name) (kids rest : Items) → flat_map line_text (item_lines kids) ≡ text_of (item_events kids) → flat_map line_text (item_lines rest) ≡ text_of (item_events rest) →
     flat_map line_text (item_lines kids ++ ends name ∷ item_lines rest) ≡ text_of (item_events kids ++ event.End (qname_of name) ∷ item_events rest)
 inside name kids rest within later =
@@ -40,7 +40,7 @@ inside name kids rest within later =
     ∙ ap₂ (λ x y. x ++ (end_line (qname_of name) ++ y)) within later
     ∙ sym (text_of-append (item_events kids) (event.End (qname_of name) ∷ item_events rest))
 
--- a start tag, and what stands behind it
+-- a start tag, and what stands after it
 tag : (name : Name) (decls : List Decl) (attrs : List Pair) (lines : List Line) (events : List Event) → flat_map line_text lines ≡ text_of events →
     flat_map line_text (starts name ∷ (map declares decls ++ (map pair_line attrs ++ lines))) ≡ text_of (event.Start (qname_of name) (start_attrs decls attrs) ∷ events)
 tag name decls attrs lines events behind =

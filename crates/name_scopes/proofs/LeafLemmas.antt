@@ -2,7 +2,7 @@
 use Rattle.std.proofs.Common.{◌≡◌, ◌≢◌, ℕ, ◌+◌, ◌<◌, ◌≤◌, suc, Bool, true, false, ◌&&◌, List, [], ◌∷◌, ◌++◌, ◌⊎◌, length, map, drop, sum_by, None, Some, inl, inr, refl, sym, ap, ap₂, ◌∙◌, subst, ⊎_elim, true≢false, arith, append-nil, nat_lt, length-append}
 use Rattle.std.specs.Prelude.{if◌then◌else◌, nat_le, Result, Ok, Err}
 use Rattle.std.specs.List.{flat_map}
-use Rattle.std.proofs.lemmas.Bool.{leb-false, leb-true, le-ltb, lt-ltb}
+use Rattle.std.proofs.lemmas.Bool.{leb-false, leb-true, le-ltb, lt-ltb, cases_eq}
 use Rattle.std.proofs.Math.Seq.{drop-append_seam}
 use Rattle.pyx_core.specs.declared.event.Event.{Event}
 use Rattle.pyx_core.specs.declared.event.Event.TheVariants as event
@@ -23,10 +23,9 @@ use Rattle.name_scopes.specs.declared.fault.EventError.TheVariants.{Kind, Memory
 use Rattle.name_scopes.specs.declared.fault.DocKind.TheVariants.{TooManyNodes}
 use Rattle.name_scopes.specs.QNames.{as_written, unprefixed}
 use Rattle.name_scopes.specs.Scoping.{ContentInScope, InScope}
-use Rattle.name_scopes.specs.ScopedTree.{written, event_lines, unscoped}
+use Rattle.name_scopes.specs.ScopedTree.{written, said_by, unscoped}
 use Rattle.name_scopes.specs.DocFaults.{Standing, in_scope, outer_scopes, node_fault, event_fault, moved}
-use Rattle.name_scopes.specs.Building.{IsLeaf, IsFull, Takes, Loads, Tops, Tells, Builds, AreOpen, event_text, leaf_of}
-use Rattle.name_scopes.proofs.NumberLemmas.{eq_or}
+use Rattle.name_scopes.specs.inner.Build.{IsLeaf, IsFull, TakesEvent, Loads, Tops, Says, Builds, AreOpen, event_text, leaf_of}
 use Rattle.name_scopes.proofs.OpenElements.{open-live, open-apart, tops-apart, tops-other}
 use Rattle.name_scopes.proofs.ScopeGrowth.{grown-scoped}
 use Rattle.name_scopes.proofs.TellLemmas.{tells-leaf, tells-end, Ended, ends-in-one}
@@ -49,7 +48,7 @@ leaf-limit standing (event.Comment characters) leaf = refl
 
 -- what each of the three is, as a node
 pub record LeafIs (e : Event) : Type 0 where
-  pub first : map unscoped (first_lines (leaf_of e)) ≡ event_lines e
+  pub first : map unscoped (first_lines (leaf_of e)) ≡ said_by e
   pub last : last_lines (leaf_of e) ≡ []
   pub bytes : length (value_in (leaf_of e)) ≡ event_text e
   pub kid : (n : ℕ) → as_kid (leaf_of e) n ≡ n ∷ []
@@ -96,11 +95,11 @@ module _ (taken : List Event) (place : Place) (standing : Standing) (T : Table) 
         let some : place.opened ≢ [] = some-names place.opened (fits.inside refl) in
         tops-apart T U p n _ grew ways formed true (open-apart T place.opened standing.scopes p formed some builds.tells.way) (subst (λ (b : Bool). Tops b T) (builds.inside some) builds.tells.top)
     leaf-tops (event.Pi target body) leaf fits grew = ⊎_elim (λ (e : p ≡ 0). tops-other T U p n _ grew ways formed place.begun e refl refl refl builds.tells.top)
-        (λ (ne : p ≢ 0). tops-apart T U p n _ grew ways formed place.begun ne builds.tells.top) (eq_or p 0)
+        (λ (ne : p ≢ 0). tops-apart T U p n _ grew ways formed place.begun ne builds.tells.top) (cases_eq p 0)
     leaf-tops (event.Comment characters) leaf fits grew = ⊎_elim (λ (e : p ≡ 0). tops-other T U p n _ grew ways formed place.begun e refl refl refl builds.tells.top)
-        (λ (ne : p ≢ 0). tops-apart T U p n _ grew ways formed place.begun ne builds.tells.top) (eq_or p 0)
+        (λ (ne : p ≢ 0). tops-apart T U p n _ grew ways formed place.begun ne builds.tells.top) (cases_eq p 0)
 
-    -- the place behind them
+    -- the place after them
     begun-after : (e : Event) → IsLeaf e → Fits Document place e → place.begun ≡ (after Document place e).begun
     begun-after (event.Start name attrs) leaf fits = absurd leaf
     begun-after (event.End name) leaf fits = absurd leaf
@@ -115,7 +114,7 @@ module _ (taken : List Event) (place : Place) (standing : Standing) (T : Table) 
     opened-after (event.Pi target body) leaf = refl
     opened-after (event.Comment characters) leaf = refl
 
-    behind-after : (e : Event) → IsLeaf e → Grew T U p n (leaf_of e) → ends_in_text U (kids_of U p) ≡ (after Document place e).behind_chars
+    behind-after : (e : Event) → IsLeaf e → Grew T U p n (leaf_of e) → ends_in_text U (kids_of U p) ≡ (after Document place e).after_chars
     behind-after (event.Start name attrs) leaf grew = absurd leaf
     behind-after (event.End name) leaf grew = absurd leaf
     behind-after (event.Chars characters) leaf grew = ap (ends_in_text U) grew.parent_kids ∙ (ends-in-one U (kids_of T p) n ∙ ap (λ c. is_text (kind_at c)) grew.content)
@@ -143,16 +142,16 @@ module _ (taken : List Event) (place : Place) (standing : Standing) (T : Table) 
         let opened_is : place.opened ≡ (after Document place e).opened = opened-after e leaf in
         let scopes_are : standing.scopes ≡ (moved standing e).scopes = scopes-after e leaf in
         let top : Tops place.begun U = subst (λ (b : Bool). Tops b U) (sym begun_is) (leaf-tops e leaf fits grew) in
-        let grown : Tells (builds.told ++ first_lines (leaf_of e)) place.opened standing.scopes place.begun (sum_by event_text taken + length (value_in (leaf_of e))) U p =
+        let grown : Says (builds.told ++ first_lines (leaf_of e)) place.opened standing.scopes place.begun (sum_by event_text taken + length (value_in (leaf_of e))) U p =
         tells-leaf T U p n (leaf_of e) builds.told place.opened standing.scopes place.begun (sum_by event_text taken) grew ways is.last top builds.tells in
         let bytes : sum_by event_text taken + length (value_in (leaf_of e)) ≡ sum_by event_text (taken ++ e ∷ []) = ap (λ (k : ℕ). sum_by event_text taken + k) is.bytes ∙ sym (text-more taken e) in
         let told : List Line = builds.told ++ first_lines (leaf_of e) in
         record {
           told = told;
-          tells = subst (λ (k : ℕ). Tells told (after Document place e).opened (moved standing e).scopes (after Document place e).begun k U p) bytes
-              (subst (λ (b : Bool). Tells told (after Document place e).opened (moved standing e).scopes b (sum_by event_text taken + length (value_in (leaf_of e))) U p) begun_is
-              (subst (λ (scopes : List (List Decl)). Tells told (after Document place e).opened scopes place.begun (sum_by event_text taken + length (value_in (leaf_of e))) U p) scopes_are
-              (subst (λ (names : List (List ℕ)). Tells told names standing.scopes place.begun (sum_by event_text taken + length (value_in (leaf_of e))) U p) opened_is grown)));
+          tells = subst (λ (k : ℕ). Says told (after Document place e).opened (moved standing e).scopes (after Document place e).begun k U p) bytes
+              (subst (λ (b : Bool). Says told (after Document place e).opened (moved standing e).scopes b (sum_by event_text taken + length (value_in (leaf_of e))) U p) begun_is
+              (subst (λ (scopes : List (List Decl)). Says told (after Document place e).opened scopes place.begun (sum_by event_text taken + length (value_in (leaf_of e))) U p) scopes_are
+              (subst (λ (names : List (List ℕ)). Says told names standing.scopes place.begun (sum_by event_text taken + length (value_in (leaf_of e))) U p) opened_is grown)));
           told_is = told-more builds.told (first_lines (leaf_of e)) taken e builds.told_is is.first;
           inside = λ some. sym begun_is ∙ builds.inside (λ none. some (sym opened_is ∙ none));
           behind_is = behind-after e leaf grew;
@@ -169,7 +168,7 @@ module _ (taken : List Event) (place : Place) (standing : Standing) (T : Table) 
     pub builds_on : Builds (taken ++ event.End name ∷ []) (after Document place (event.End name)) (moved standing (event.End name)) T q
 
   ended-by : (q : ℕ) (name : List ℕ) (names : List (List ℕ)) (scopes : List (List Decl)) → HasWaysUp T → parent_of T p ≡ Some q → place.opened ≡ names → standing.scopes ≡ scopes → names ≡ name ∷ outer names →
-      Tells builds.told names scopes place.begun (sum_by event_text taken) T p → EndTaken q name
+      Says builds.told names scopes place.begun (sum_by event_text taken) T p → EndTaken q name
   ended-by q name [] scopes ways under opened_is scopes_are is tells = absurd (cc)
   ended-by q name (x ∷ names) [] ways under opened_is scopes_are is tells = absurd tells.way
   ended-by q name (x ∷ names) (decls ∷ scopes) ways under opened_is scopes_are is tells =
@@ -182,9 +181,9 @@ module _ (taken : List Event) (place : Place) (standing : Standing) (T : Table) 
         declared = ap decls_at tells.way.1.0.content;
         builds_on = record {
           told = builds.told ++ ends ended.name ∷ [];
-          tells = subst (λ (k : ℕ). Tells (builds.told ++ ends ended.name ∷ []) (outer place.opened) (outer_scopes standing.scopes) place.begun k T q) (let e : sum_by event_text taken ≡ sum_by event_text (taken ++ event.End name ∷ []) = omega (arith, text-more taken (event.End name)) in e)
-              (subst (λ (s : List (List Decl)). Tells (builds.told ++ ends ended.name ∷ []) (outer place.opened) s place.begun (sum_by event_text taken) T q) (sym (ap outer_scopes scopes_are))
-              (subst (λ (ns : List (List ℕ)). Tells (builds.told ++ ends ended.name ∷ []) ns scopes place.begun (sum_by event_text taken) T q) (sym (ap outer opened_is)) ended.tells));
+          tells = subst (λ (k : ℕ). Says (builds.told ++ ends ended.name ∷ []) (outer place.opened) (outer_scopes standing.scopes) place.begun k T q) (let e : sum_by event_text taken ≡ sum_by event_text (taken ++ event.End name ∷ []) = omega (arith, text-more taken (event.End name)) in e)
+              (subst (λ (s : List (List Decl)). Says (builds.told ++ ends ended.name ∷ []) (outer place.opened) s place.begun (sum_by event_text taken) T q) (sym (ap outer_scopes scopes_are))
+              (subst (λ (ns : List (List ℕ)). Says (builds.told ++ ends ended.name ∷ []) ns scopes place.begun (sum_by event_text taken) T q) (sym (ap outer opened_is)) ended.tells));
           told_is = told-more builds.told (ends ended.name ∷ []) taken (event.End name) builds.told_is (ap (λ (m : Name). ends m ∷ []) (ended.spelled ∙ ap written same));
           inside = λ some. builds.inside (λ none. some (ap outer none));
           behind_is = ended.behind;
@@ -221,7 +220,7 @@ loads-leaf taken place standing old new n e leaf fits ways formed laws grew same
   scope_is = same_scope ∙ (loads.scope_is ∙ ap in_scope (scopes-after taken place standing old.tree.nodes old.place loads.builds new.tree.nodes n ways formed laws e leaf));
 }
 
-pub leaf-refused : (taken : List Event) (place : Place) (standing : Standing) (old new : Loader) (e : Event) (err : EventError) → IsLeaf e → Loads taken place standing old → IsFull old.tree.nodes err → Takes taken place standing e new (Err err)
+pub leaf-refused : (taken : List Event) (place : Place) (standing : Standing) (old new : Loader) (e : Event) (err : EventError) → IsLeaf e → Loads taken place standing old → IsFull old.tree.nodes err → TakesEvent taken place standing e new (Err err)
 leaf-refused taken place standing old new e (Kind what) leaf loads full = leaf-full taken place standing old.tree.nodes old.place loads.builds e leaf full.1 ∙ ap Some (sym full.0)
 leaf-refused taken place standing old new e Memory leaf loads full = tt
 

@@ -4,7 +4,6 @@ pub mod TagLemmas
 pub mod OpenElements
 pub mod ScopeGrowth
 pub mod TellLemmas
-pub mod TextLemmas
 pub mod TagFacts
 pub mod StartLemmas
 pub mod BeginLemmas

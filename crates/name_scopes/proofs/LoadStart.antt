@@ -6,7 +6,7 @@ use Rattle.doc_tree.specs.Scope.{Decl}
 use Rattle.name_scopes.specs.declared.build.Loader.{Loader}
 use Rattle.name_scopes.specs.Scoping.{InScope}
 use Rattle.name_scopes.specs.DocFaults.{begin}
-use Rattle.name_scopes.specs.Building.{Builds, Loads}
+use Rattle.name_scopes.specs.inner.Build.{Builds, Loads}
 
 root-scoped : InScope root_alone.nodes
 root-scoped zero = tt

@@ -1,5 +1,7 @@
 -- Numbers of nodes: live ones, new ones, and their places in lists.
 use Rattle.std.proofs.Common.{◌≡◌, ◌≢◌, ℕ, zero, suc, slice_get, ◌≤◌, Bool, true, false, ◌||◌, eqb, List, [], ◌∷◌, ◌++◌, length, Option, None, Some, is_some, ◌⊎◌, inl, inr, refl, sym, ap, ◌∙◌, true≢false, arith, eq-eqb, eqb-true}
+use Rattle.std.proofs.lemmas.Bool.{or_cases}
+use Rattle.std.proofs.Math.Bool.{or-true}
 use Rattle.std.proofs.lemmas.List.{get_or_past}
 use Rattle.doc_tree.specs.kind.Kind.{Kind}
 use Rattle.doc_tree.specs.Kinds.{holds_kids}
@@ -27,19 +29,11 @@ kind-entry (Some node) k h = refl
 pub kind-live : (T : Table) (n : ℕ) (k : Kind) → kind_of T n ≡ Some k → is_live T n ≡ true
 kind-live T n k h = kind-entry (entry_at T n) k h
 
-pub or-true : (b : Bool) → (b || true) ≡ true
-or-true true = refl
-or-true false = refl
-
 pub mem-first : (n : ℕ) (ms : List ℕ) → mem n (n ∷ ms) ≡ true
 mem-first n ms = rw (eq-eqb n n refl) refl
 
 pub mem-second : (n m : ℕ) (ms : List ℕ) → mem n (m ∷ n ∷ ms) ≡ true
 mem-second n m ms = rw (eq-eqb n n refl) (or-true (eqb n m))
-
-mem-either : (b c : Bool) → (b || c) ≡ true → (b ≡ true) ⊎ (c ≡ true)
-mem-either true c h = inl refl
-mem-either false c h = inr h
 
 mem-later : (n m x : ℕ) (ms : List ℕ) → (mem n ms ≡ true) ⊎ (n ≡ m) → (mem n (x ∷ ms) ≡ true) ⊎ (n ≡ m)
 mem-later n m x ms (inl h) = inl (rw h (or-true (eqb n x)))
@@ -56,8 +50,8 @@ mem-one n m (inr e) = inl e
 
 -- a number in a list with one more at its end is in the list or is that one
 pub mem-push : (n m : ℕ) (ms : List ℕ) → mem n (ms ++ m ∷ []) ≡ true → (mem n ms ≡ true) ⊎ (n ≡ m)
-mem-push n m [] h = mem-one n m (mem-either (eqb n m) false h)
-mem-push n m (x ∷ ms) h = mem-push-at n m x ms (mem-push n m ms) (mem-either (eqb n x) (mem n (ms ++ m ∷ [])) h)
+mem-push n m [] h = mem-one n m (or_cases (eqb n m) false h)
+mem-push n m (x ∷ ms) h = mem-push-at n m x ms (mem-push n m ms) (or_cases (eqb n x) (mem n (ms ++ m ∷ [])) h)
 
 pub last-push : (d x : ℕ) (xs : List ℕ) → last_or d (xs ++ x ∷ []) ≡ x
 last-push d x [] = refl
@@ -65,14 +59,6 @@ last-push d x (y ∷ xs) = last-push y x xs
 
 pub mem-behind : (n m : ℕ) (ms : List ℕ) → mem n ms ≡ true → mem n (m ∷ ms) ≡ true
 mem-behind n m ms h = rw h (or-true (eqb n m))
-
--- two numbers are equal or not
-pub eq_or : (m n : ℕ) → (m ≡ n) ⊎ (m ≢ n)
-eq_or m n = by (eqb m n) refl
-  where
-    by : (b : Bool) → eqb m n ≡ b → (m ≡ n) ⊎ (m ≢ n)
-    by true e = inl (eqb-true m n e)
-    by false e = inr (λ same. true≢false (sym (eq-eqb m n same) ∙ e))
 
 -- the name with a number
 pub numbered-is : (names : List Name) (id : ℕ) (name : Name) → slice_get names id ≡ Some name → numbered names id ≡ name

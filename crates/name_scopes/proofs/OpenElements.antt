@@ -13,7 +13,7 @@ use Rattle.doc_tree.specs.Laws.{HasWaysUp, WellFormed}
 use Rattle.doc_tree.specs.Scope.{Decl, scope_at, HasScopes}
 use Rattle.doc_tree.specs.Declaring.{Declared}
 use Rattle.name_scopes.specs.DocFaults.{in_scope}
-use Rattle.name_scopes.specs.Building.{IsInnermost, AreOpen, Tops}
+use Rattle.name_scopes.specs.inner.Build.{IsInnermost, AreOpen, Tops}
 use Rattle.name_scopes.proofs.NumberLemmas.{is-old, content-live, kind-live, mem-first, mem-behind}
 
 pub open-live : (T : Table) (names : List (List ℕ)) (scopes : List (List Decl)) (n : ℕ) → AreOpen T names scopes n → is_live T n ≡ true

@@ -20,9 +20,9 @@ use Rattle.doc_tree.specs.Walks.{ancestors, below, order}
 use Rattle.doc_write.specs.TreeText.{line_text, tree_text}
 use Rattle.name_scopes.specs.DocFaults.{begin, first_fault}
 use Rattle.name_scopes.specs.RoundTrip.{ComesBack}
-use Rattle.name_scopes.specs.ScopedTree.{event_lines, unscoped}
+use Rattle.name_scopes.specs.ScopedTree.{said_by, unscoped}
 use Rattle.name_scopes.specs.Scoping.{InScope}
-use Rattle.name_scopes.proofs.TextLemmas.{both}
+use Rattle.std.proofs.lemmas.Bool.{and_parts}
 use Rattle.name_scopes.proofs.WholeLemmas.{doc-fault-is}
 use Rattle.name_scopes.proofs.Items.{Items, Fit, item_events, item_lines, item_nodes, top_elements, top_texts}
 use Rattle.name_scopes.proofs.ItemText.{item_text}
@@ -80,7 +80,7 @@ tree-fits T tree scoped =
 pub tree-tops : (T : Table) → WellFormed T → is_document T ≡ true → (top_elements (items_of T) ≡ 1) × (top_texts (items_of T) ≡ 0)
 tree-tops [] formed is = absurd (let none : kind_of [] 0 ≡ Some Root = formed.root_kind in cc)
 tree-tops (entry ∷ T) formed is =
-    let parts = both (count_by (λ k. is_element (kind_of (entry ∷ T) k)) (kids_of (entry ∷ T) 0) == 1) (count_by (λ k. is_text (kind_of (entry ∷ T) k)) (kids_of (entry ∷ T) 0) == 0) is in
+    let parts = and_parts (count_by (λ k. is_element (kind_of (entry ∷ T) k)) (kids_of (entry ∷ T) 0) == 1) (count_by (λ k. is_text (kind_of (entry ∷ T) k)) (kids_of (entry ∷ T) 0) == 0) is in
     let tops = item-tops-are (entry ∷ T) (length T) 0 (kids_of (entry ∷ T) 0) (kids-are (entry ∷ T) formed 0) in
     (tops.0 ∙ eqb-true _ _ parts.0, tops.1 ∙ eqb-true _ _ parts.1)
 
@@ -105,7 +105,7 @@ comes-back T tree splits back scoped is =
     record {
       is_read = gives.good;
       good = doc-fault-is (tree_text T) None first gives.good;
-      lines_are = ap (map unscoped) (tree-lines T tree) ∙ items-again splits [] 0 false (items_of T) fit ∙ ap (flat_map event_lines) (sym gives.events_are);
+      lines_are = ap (map unscoped) (tree-lines T tree) ∙ items-again splits [] 0 false (items_of T) fit ∙ ap (flat_map said_by) (sym gives.events_are);
     }
 
 -- namespaces follow from the lines without them

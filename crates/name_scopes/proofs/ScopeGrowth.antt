@@ -1,5 +1,6 @@
 -- Nodes in scope, as the tree grows.
 use Rattle.std.proofs.Common.{◌≡◌, ◌≢◌, ℕ, suc, Bool, true, false, List, [], ◌∷◌, ◌++◌, length, Option, None, Some, is_some, refl, sym, ap, ap₂, ◌∙◌, subst, ⊎_elim, true≢false}
+use Rattle.std.proofs.lemmas.Bool.{cases_eq}
 use Rattle.std.specs.List.{flat_map}
 use Rattle.doc_tree.specs.Lists.{mem}
 use Rattle.doc_tree.specs.Table.{Table, Facts, Content, entry_at, content_at, decls_at, decls_in, decls_of, content_of, is_live}
@@ -8,7 +9,7 @@ use Rattle.doc_tree.specs.Growth.{Grew}
 use Rattle.doc_tree.specs.Scope.{Decl, scope_at, HasScopes}
 use Rattle.doc_tree.specs.Declaring.{Declared}
 use Rattle.name_scopes.specs.Scoping.{ContentInScope, NodeInScope, InScope}
-use Rattle.name_scopes.proofs.NumberLemmas.{is-old, mem-first, mem-behind, eq_or}
+use Rattle.name_scopes.proofs.NumberLemmas.{is-old, mem-first, mem-behind}
 
 flat_map-same : {A : Type 0} (f g : ℕ → List A) (xs : List ℕ) → ((n : ℕ) → mem n xs ≡ true → f n ≡ g n) → flat_map f xs ≡ flat_map g xs
 flat_map-same f g [] same = refl
@@ -46,7 +47,7 @@ module _ (T U : Table) (p n : ℕ) (c : Content) (grew : Grew T U p n c) (laws :
   grown-scoped live all here m = ⊎_elim
       (λ (e : m ≡ n). subst (NodeInScope U) (sym e) (subst (λ (o : Option Content). ContentInScope (scope_at U n) o) (sym grew.content) (subst (λ (s : List Decl). ContentInScope s (Some c)) (sym (scope-new live)) here)))
       (λ (ne : m ≢ n). others-scoped m ne (all m))
-      (eq_or m n)
+      (cases_eq m n)
 
 -- a declaration at an element that holds nothing leaves the others in scope
 pub declared-scoped : (T U : Table) (n : ℕ) (d : Decl) → Declared T U n d → ((m : ℕ) → m ≢ n → scope_at U m ≡ scope_at T m) → (m : ℕ) → m ≢ n → NodeInScope T m → NodeInScope U m

@@ -1,5 +1,6 @@
 -- An element begins: what it declares, then its attributes, one by one.
 use Rattle.std.proofs.Common.{◌≡◌, ◌≢◌, ℕ, ◌+◌, ◌<◌, ◌≤◌, suc, zero, Bool, true, false, ◌&&◌, ◌||◌, ◌⊎◌, List, [], ◌∷◌, ◌++◌, length, map, get_or, take, drop, slice_get, sum_by, Option, None, Some, inl, inr, refl, sym, ap, ap₂, ◌∙◌, subst, ⊎_elim, true≢false, arith, append_assoc, append-nil, length-append}
+use Rattle.std.proofs.lemmas.Bool.{and_parts}
 use Rattle.std.specs.List.{flat_map, filter, list_all, list_any}
 use Rattle.std.specs.Option.{option_to_list}
 use Rattle.std.specs.Str.{bytes_eq}
@@ -23,13 +24,13 @@ use Rattle.doc_tree.specs.Declaring.{Declared, DeclaredLast}
 use Rattle.name_scopes.specs.Declarations.{declaration_of, declarations, is_plain, plain_attrs}
 use Rattle.name_scopes.specs.Scoping.{NodeInScope, InScope, AttributeInScope, declares_twice}
 use Rattle.name_scopes.specs.DocFaults.{has_pair, same_expanded, lacks_prefix, expanded_attr}
-use Rattle.name_scopes.specs.Building.{Receives, Tells, DeclaresAll, AttributesAll, attribute_name, scoped_line, value_bytes}
+use Rattle.name_scopes.specs.inner.Build.{Receives, Says, DeclaresAll, AttributesAll, attribute_name, scoped_line, value_bytes}
 use Rattle.name_scopes.proofs.NumberLemmas.{is-old, kind-live, mem-first, mem-second, mem-push}
 use Rattle.name_scopes.proofs.OpenElements.{tops-apart}
 use Rattle.name_scopes.proofs.ScopeGrowth.{scope-kept, grown-scoped, declared-scoped}
 use Rattle.name_scopes.proofs.TellLemmas.{tells-declared, tells-leaf}
 use Rattle.name_scopes.proofs.TagLemmas.{next, kept-more, kept-same, kept-fails, pair-kept, pair-more, passed}
-use Rattle.name_scopes.proofs.TagFacts.{AreAttrs, attribute-scoped, not-declared, both-true}
+use Rattle.name_scopes.proofs.TagFacts.{AreAttrs, attribute-scoped, not-declared}
 
 -- the declarations so far
 pub record Declaring (T U : Table) (p : ℕ) (done : List Decl) : Type 0 where
@@ -39,7 +40,7 @@ pub record Declaring (T U : Table) (p : ℕ) (done : List Decl) : Type 0 where
 pub declaring-none : (T : Table) (p : ℕ) → kind_of T p ≡ Some Element → decls_of T p ≡ [] → kids_of T p ≡ [] → attrs_of T p ≡ [] → Declaring T T p []
 declaring-none T p under no_decl no_kid no_attribute = record {
   all = record {
-    tells = λ told name names scopes begun text tells. subst (λ (ls : List Line). Tells ls (name ∷ names) ([] ∷ scopes) begun text T p) (sym (append-nil told)) tells;
+    tells = λ told name names scopes begun text tells. subst (λ (ls : List Line). Says ls (name ∷ names) ([] ∷ scopes) begun text T p) (sym (append-nil told)) tells;
     others = λ m ne h. h;
     content = λ name h. h;
     decls_are = no_decl;
@@ -60,7 +61,7 @@ declaring-more T U V p done d more ways was =
     record {
       all = record {
         tells = λ told name names scopes begun text tells.
-            subst (λ (ls : List Line). Tells ls (name ∷ names) ((done ++ d ∷ []) ∷ scopes) begun text V p)
+            subst (λ (ls : List Line). Says ls (name ∷ names) ((done ++ d ∷ []) ∷ scopes) begun text V p)
             (append_assoc told (map declares done) (declares d ∷ []) ∙ ap (λ (ls : List Line). told ++ ls) (sym (map-append declares done (d ∷ []))))
             (tells-declared U V p d name done (told ++ map declares done) names scopes begun text more ways was.all.no_kid was.all.no_attribute
             (was.all.tells told name names scopes begun text tells));
@@ -80,7 +81,7 @@ declaring-more T U V p done d more ways was =
     }
 
 module _ (attrs : List Attr) (i : ℕ) (attr : Attr) (below : i < length attrs) (is : attr ≡ get_or attrs i attr) where
-  -- what the next attribute declares comes behind what those before it declare
+  -- what the next attribute declares comes after what those before it declare
   pub declared-next : declarations (take (i + 1) attrs) ≡ declarations (take i attrs) ++ option_to_list (declaration_of attr)
   declared-next =
       ap declarations (next is_plain attrs i attr below is)
@@ -103,8 +104,8 @@ module _ (attrs : List Attr) (i : ℕ) (attr : Attr) (below : i < length attrs) 
 -- what holds of all attributes holds of each
 pub all-at : (attrs : List Attr) (i : ℕ) (attr : Attr) → i < length attrs → attr ≡ get_or attrs i attr → AreAttrs attrs → is_attr attr ≡ true
 all-at [] i attr below is ok = absurd (omega arith)
-all-at (a ∷ attrs) zero attr below is ok = ap is_attr is ∙ (both-true (is_attr a) (list_all is_attr attrs) ok).0
-all-at (a ∷ attrs) (suc i) attr below is ok = all-at attrs i attr (omega arith) is (both-true (is_attr a) (list_all is_attr attrs) ok).1
+all-at (a ∷ attrs) zero attr below is ok = ap is_attr is ∙ (and_parts (is_attr a) (list_all is_attr attrs) ok).0
+all-at (a ∷ attrs) (suc i) attr below is ok = all-at attrs i attr (omega arith) is (and_parts (is_attr a) (list_all is_attr attrs) ok).1
 
 or-right : (a : Bool) → (a || true) ≡ true
 or-right true = refl
@@ -130,8 +131,8 @@ pub attributing-none : (T : Table) (p : ℕ) (scope : List Decl) → Receives T 
 attributing-none T p scope receives under no_kid no_attribute scope_is scoped = record {
   all = record {
     tells = λ told names scopes begun text tells.
-        subst (λ (ls : List Line). Tells ls names scopes begun (text + 0) T p) (sym (append-nil told))
-        (let same : text ≡ text + 0 = omega arith in subst (λ (k : ℕ). Tells told names scopes begun k T p) same tells);
+        subst (λ (ls : List Line). Says ls names scopes begun (text + 0) T p) (sym (append-nil told))
+        (let same : text ≡ text + 0 = omega arith in subst (λ (k : ℕ). Says told names scopes begun k T p) same tells);
     scoped = scoped;
     no_kid = no_kid;
     counted = omega arith;
@@ -222,16 +223,16 @@ module _ (T U V : Table) (p n : ℕ) (scope : List Decl) (attrs : List Attr) (i 
   attributing-more = record {
     all = record {
       tells = λ told names scopes begun text tells.
-          let before : Tells (told ++ map (scoped_line scope) (plain_attrs (take i attrs))) names scopes begun (text + sum_by value_bytes (take i attrs)) U p = was.all.tells told names scopes begun text tells in
-          let after : Tells ((told ++ map (scoped_line scope) (plain_attrs (take i attrs))) ++ scoped_line scope attr ∷ []) names scopes begun ((text + sum_by value_bytes (take i attrs)) + length attr.value) V p =
+          let before : Says (told ++ map (scoped_line scope) (plain_attrs (take i attrs))) names scopes begun (text + sum_by value_bytes (take i attrs)) U p = was.all.tells told names scopes begun text tells in
+          let after : Says ((told ++ map (scoped_line scope) (plain_attrs (take i attrs))) ++ scoped_line scope attr ∷ []) names scopes begun ((text + sum_by value_bytes (take i attrs)) + length attr.value) V p =
           tells-leaf U V p n _ (told ++ map (scoped_line scope) (plain_attrs (take i attrs))) names scopes begun (text + sum_by value_bytes (take i attrs)) grew ways refl (tops-apart U V p n _ grew ways formed begun apart before.top) before in
           let lines : (told ++ map (scoped_line scope) (plain_attrs (take i attrs))) ++ scoped_line scope attr ∷ [] ≡ told ++ map (scoped_line scope) (plain_attrs (take (i + 1) attrs)) =
           append_assoc told (map (scoped_line scope) (plain_attrs (take i attrs))) (scoped_line scope attr ∷ [])
           ∙ ap (λ (ls : List Line). told ++ ls) (sym (ap (map (scoped_line scope)) kept ∙ map-append (scoped_line scope) (plain_attrs (take i attrs)) (attr ∷ []))) in
           let bytes : (text + sum_by value_bytes (take i attrs)) + length attr.value ≡ text + sum_by value_bytes (take (i + 1) attrs) =
           omega (arith, more-bytes (take i attrs) attr, ap (sum_by value_bytes) front) in
-          subst (λ (ls : List Line). Tells ls names scopes begun (text + sum_by value_bytes (take (i + 1) attrs)) V p) lines
-          (subst (λ (k : ℕ). Tells ((told ++ map (scoped_line scope) (plain_attrs (take i attrs))) ++ scoped_line scope attr ∷ []) names scopes begun k V p) bytes after);
+          subst (λ (ls : List Line). Says ls names scopes begun (text + sum_by value_bytes (take (i + 1) attrs)) V p) lines
+          (subst (λ (k : ℕ). Says ((told ++ map (scoped_line scope) (plain_attrs (take i attrs))) ++ scoped_line scope attr ∷ []) names scopes begun k V p) bytes after);
       scoped = grown-scoped U V p n _ grew laws live was.all.scoped
           (subst (λ (s : List Decl). AttributeInScope s (attribute_name scope attr.name) attr.value) (sym was.scope_is)
           (attribute-scoped scope attr (all-at attrs i attr below is ok) plain (kept-fails is_plain attrs i attr below is (lacks_prefix scope) known plain)));
@@ -259,8 +260,8 @@ attributing-same T U p scope attrs i attr below is plain was =
     record {
       all = record {
         tells = λ told names scopes begun text tells.
-            let before : Tells (told ++ map (scoped_line scope) (plain_attrs (take i attrs))) names scopes begun (text + sum_by value_bytes (take i attrs)) U p = was.all.tells told names scopes begun text tells in
-            subst (λ (l : List Attr). Tells (told ++ map (scoped_line scope) l) names scopes begun (text + sum_by value_bytes (take (i + 1) attrs)) U p) (sym kept) (record {
+            let before : Says (told ++ map (scoped_line scope) (plain_attrs (take i attrs))) names scopes begun (text + sum_by value_bytes (take i attrs)) U p = was.all.tells told names scopes begun text tells in
+            subst (λ (l : List Attr). Says (told ++ map (scoped_line scope) l) names scopes begun (text + sum_by value_bytes (take (i + 1) attrs)) U p) (sym kept) (record {
               lines_are = before.lines_are;
               all_live = before.all_live;
               last = before.last;

@@ -30,10 +30,9 @@ use Rattle.name_scopes.specs.declared.fault.DocKind.TheVariants.{TooManyNodes, T
 use Rattle.name_scopes.specs.QNames.{as_written, unprefixed}
 use Rattle.name_scopes.specs.Declarations.{declarations, plain_attrs}
 use Rattle.name_scopes.specs.Scoping.{ContentInScope, InScope}
-use Rattle.name_scopes.specs.ScopedTree.{written, attribute_line, event_lines, unscoped}
+use Rattle.name_scopes.specs.ScopedTree.{written, attribute_line, said_by, unscoped}
 use Rattle.name_scopes.specs.DocFaults.{Standing, in_scope, outer_scopes, tag_fault, tag_nodes, limit_fault, node_fault, event_fault, moved}
-use Rattle.name_scopes.specs.Building.{Receives, IsTooDeep, Takes, Tops, Tells, Builds, Loads, Comes, AreOpen, Begins, room_fault, element_name, scoped_line, start_lines, value_bytes, event_text, leaf_of}
-use Rattle.name_scopes.proofs.NumberLemmas.{eq_or}
+use Rattle.name_scopes.specs.inner.Build.{Receives, IsTooDeep, TakesEvent, Tops, Says, Builds, Loads, Comes, AreOpen, Begins, room_fault, element_name, scoped_line, start_lines, value_bytes, event_text, leaf_of}
 use Rattle.name_scopes.proofs.OpenElements.{open-live, open-apart, open-root, open-scope, open-depth, tops-apart, tops-other}
 use Rattle.name_scopes.proofs.ScopeGrowth.{grown-scoped}
 use Rattle.name_scopes.proofs.TellLemmas.{tells-receives, tells-leaf, tells-end, Ended, ends-in-one}
@@ -48,18 +47,18 @@ attribute-lines : (scope : List Decl) (attrs : List Attr) → map unscoped (map 
 attribute-lines scope [] = refl
 attribute-lines scope (a ∷ attrs) = ap (λ (ls : List Line). attribute_line a ∷ ls) (attribute-lines scope attrs)
 
-start-lines : (scope : List Decl) (name : List ℕ) (attrs : List Attr) → map unscoped (start_lines scope name attrs) ≡ event_lines (event.Start name attrs)
+start-lines : (scope : List Decl) (name : List ℕ) (attrs : List Attr) → map unscoped (start_lines scope name attrs) ≡ said_by (event.Start name attrs)
 start-lines scope name attrs =
     ap (λ (ls : List Line). starts (written name) ∷ ls)
     (map-append unscoped (map declares (declarations attrs)) (map (scoped_line scope) (plain_attrs attrs))
     ∙ ap₂ (λ (l r : List Line). l ++ r) (declared-lines (declarations attrs)) (attribute-lines scope (plain_attrs attrs)))
 
 -- one event more was told
-pub told-more : (told lines : List Line) (taken : List Event) (e : Event) → map unscoped told ≡ flat_map event_lines taken → map unscoped lines ≡ event_lines e → map unscoped (told ++ lines) ≡ flat_map event_lines (taken ++ e ∷ [])
+pub told-more : (told lines : List Line) (taken : List Event) (e : Event) → map unscoped told ≡ flat_map said_by taken → map unscoped lines ≡ said_by e → map unscoped (told ++ lines) ≡ flat_map said_by (taken ++ e ∷ [])
 told-more told lines taken e had is =
     map-append unscoped told lines
     ∙ (ap₂ (λ (l r : List Line). l ++ r) had is
-    ∙ sym (flat_map-append event_lines taken (e ∷ []) ∙ ap (λ (ls : List Line). flat_map event_lines taken ++ ls) (append-nil (event_lines e))))
+    ∙ sym (flat_map-append said_by taken (e ∷ []) ∙ ap (λ (ls : List Line). flat_map said_by taken ++ ls) (append-nil (said_by e))))
 
 pub text-more : (taken : List Event) (e : Event) → sum_by event_text (taken ++ e ∷ []) ≡ sum_by event_text taken + event_text e
 text-more taken e = sum_by-append event_text taken (e ∷ []) ∙ ap (λ (k : ℕ). sum_by event_text taken + k) (sum_by-cons event_text e [] ∙ omega arith)
@@ -134,7 +133,7 @@ module _ (taken : List Event) (place : Place) (standing : Standing) (T : Table) 
       Builds (taken ++ event.Start name attrs ∷ []) (after Document place (event.Start name attrs)) (moved standing (event.Start name attrs)) U n
   builds-start U n scope name attrs formed fits begins = record {
     told = builds.told ++ start_lines scope name attrs;
-    tells = subst (λ (k : ℕ). Tells (builds.told ++ start_lines scope name attrs) (name ∷ place.opened) (declarations attrs ∷ standing.scopes) true k U n) (sym (text-more taken (event.Start name attrs)))
+    tells = subst (λ (k : ℕ). Says (builds.told ++ start_lines scope name attrs) (name ∷ place.opened) (declarations attrs ∷ standing.scopes) true k U n) (sym (text-more taken (event.Start name attrs)))
         (begins.tells builds.told place.opened standing.scopes place.begun (sum_by event_text taken) apart at_root builds.tells);
     told_is = told-more builds.told (start_lines scope name attrs) taken (event.Start name attrs) builds.told_is (start-lines scope name attrs);
     inside = λ some. refl;
@@ -186,7 +185,7 @@ module _ (taken : List Event) (place : Place) (standing : Standing) (old : Loade
   check-passes ways p shallow =
       start-passes taken place standing old.tree.nodes old.place loads.builds name attrs ways (ap (λ (s : List Decl). tag_fault s name attrs) (sym tag-scope) ∙ p.good) p.room shallow
 
-  pub start-refused : (new : Loader) (err : EventError) → HasWaysUp old.tree.nodes → Passes scope name attrs (length (order old.tree.nodes)) → IsTooDeep old.tree.nodes old.place err → Takes taken place standing (event.Start name attrs) new (Err err)
+  pub start-refused : (new : Loader) (err : EventError) → HasWaysUp old.tree.nodes → Passes scope name attrs (length (order old.tree.nodes)) → IsTooDeep old.tree.nodes old.place err → TakesEvent taken place standing (event.Start name attrs) new (Err err)
   start-refused new (Kind what) ways p deep =
       start-deep taken place standing old.tree.nodes old.place loads.builds name attrs ways (ap (λ (s : List Decl). tag_fault s name attrs) (sym tag-scope) ∙ p.good) p.room deep.1 ∙ ap Some (sym deep.0)
   start-refused new Memory ways p deep = tt

@@ -1,5 +1,7 @@
 -- What holds of a start tag whose names break no rule.
 use Rattle.std.proofs.Common.{◌≡◌, ◌≢◌, ℕ, ◌+◌, Bool, true, false, not, ◌&&◌, ◌||◌, List, [], ◌∷◌, ◌++◌, length, Option, None, Some, is_some, refl, sym, ap, ap₂, ◌∙◌, true≢false, arith}
+use Rattle.std.proofs.lemmas.List.Folds.{list_any-append}
+use Rattle.std.proofs.lemmas.Bool.{and_parts, or_parts}
 use Rattle.std.specs.Prelude.{if◌then◌else◌, is_none, unwrap_or}
 use Rattle.std.specs.List.{list_any, list_all, before_first, after_first}
 use Rattle.std.specs.Option.{option_to_list}
@@ -18,9 +20,8 @@ use Rattle.name_scopes.specs.QNames.{prefix_part, local_part}
 use Rattle.name_scopes.specs.Declarations.{is_empty, declaration_of, declarations, is_plain, plain_attrs, is_bad_declaration, has_both_quotes}
 use Rattle.name_scopes.specs.Scoping.{attribute_namespace, is_part, declares_twice, is_good_declaration, ElementInScope, AttributeInScope}
 use Rattle.name_scopes.specs.DocFaults.{tag_fault, lacks_prefix, has_pair, same_qname, same_expanded}
-use Rattle.name_scopes.specs.Building.{element_name, attribute_name}
-use Rattle.name_scopes.proofs.TextLemmas.{front_ascii, behind_front}
-use Rattle.name_scopes.proofs.TagLemmas.{any-append}
+use Rattle.name_scopes.specs.inner.Build.{element_name, attribute_name}
+use Rattle.pyx_core.proofs.TextLemmas.{front_ascii, behind_front}
 
 -- a start tag that breaks no rule of names
 pub record TagIsGood (scope : List Decl) (name : List ℕ) (attrs : List Attr) : Type 0 where
@@ -30,14 +31,6 @@ pub record TagIsGood (scope : List Decl) (name : List ℕ) (attrs : List Attr) :
   pub expanded : has_pair (same_expanded scope) (plain_attrs attrs) ≡ false
   pub may_be : list_any is_bad_declaration (declarations attrs) ≡ false
   pub quoted : list_any has_both_quotes (declarations attrs) ≡ false
-
-pub both-false : (a b : Bool) → (a || b) ≡ false → (a ≡ false) × (b ≡ false)
-both-false true b h = absurd (true≢false h)
-both-false false b h = (refl, h)
-
-pub both-true : (a b : Bool) → (a && b) ≡ true → (a ≡ true) × (b ≡ true)
-both-true true b h = (refl, h)
-both-true false b h = absurd (true≢false (sym h))
 
 pub tag-good : (scope : List Decl) (name : List ℕ) (attrs : List Attr) → tag_fault scope name attrs ≡ None → TagIsGood scope name attrs
 tag-good scope name attrs h =
@@ -52,8 +45,8 @@ tag-good scope name attrs h =
     by false false true d ea eb ec ed h = absurd (cc)
     by false false false true ea eb ec ed h = absurd (cc)
     by false false false false ea eb ec ed h =
-        let names = both-false (is_none (namespace_in scope (prefix_part name))) (list_any (lacks_prefix scope) (plain_attrs attrs)) ea in
-        let pairs = both-false (has_pair same_qname attrs) (has_pair (same_expanded scope) (plain_attrs attrs)) eb in
+        let names = or_parts (is_none (namespace_in scope (prefix_part name))) (list_any (lacks_prefix scope) (plain_attrs attrs)) ea in
+        let pairs = or_parts (has_pair same_qname attrs) (has_pair (same_expanded scope) (plain_attrs attrs)) eb in
         record { known = names.0; all_known = names.1; qnames = pairs.0; expanded = pairs.1; may_be = ec; quoted = ed }
 
 -- the parts of a QName
@@ -79,10 +72,10 @@ part : (name : List ℕ) → of_chars name ≡ true → is_ncname name ≡ true 
 part name made ncname = ap₂ (λ a b. a && b) made ncname
 
 pub parted : (q : List ℕ) → is_name q ≡ true → Parted q
-parted q name = by (list_any is_colon q) refl (both-true (of_chars q) (is_qname q) name).1
+parted q name = by (list_any is_colon q) refl (and_parts (of_chars q) (is_qname q) name).1
   where
     made : of_chars q ≡ true
-    made = (both-true (of_chars q) (is_qname q) name).0
+    made = (and_parts (of_chars q) (is_qname q) name).0
 
     by : (t : Bool) → list_any is_colon q ≡ t → is_some {T = ℕ × ℕ} (if t then split_at_colon (before_first is_colon q) (after_first is_colon q) else (if is_ncname q then Some (0, 0) else None)) ≡ true → Parted q
     by false e h =
@@ -153,7 +146,7 @@ declares attr d h e = by (bytes_eq attr.name xmlns_prefix) refl (bytes_eq (prefi
         let local : local_part attr.name ≡ d.0 = ap (λ (x : Decl). x.0) is in
         let p : Parted attr.name = parted attr.name h in
         let prefix : prefix_part attr.name ≡ xmlns_prefix = (bytes_eq-Decides (prefix_part attr.name) xmlns_prefix).0 eu in
-        let ncname = both-true (is_empty (prefix_part attr.name) || is_part (prefix_part attr.name)) (is_part (local_part attr.name)) p.qualified in
+        let ncname = and_parts (is_empty (prefix_part attr.name) || is_part (prefix_part attr.name)) (is_part (local_part attr.name)) p.qualified in
         record {
           name_is = p.with_prefix (λ none. some-xmlns (sym prefix ∙ none)) ∙ (ap₂ (λ (l r : List ℕ). l ++ 58 ∷ r) prefix local ∙ named-local d.0 (λ none. p.some_local (local ∙ none)));
           prefix_is = ap (λ b. is_empty d.0 || b) (ap is_part (sym local) ∙ ncname.1) ∙ or-right (is_empty d.0);
@@ -168,8 +161,8 @@ AreAttrs attrs = list_all is_attr attrs ≡ true
 declares-again : (prefix : List ℕ) (attrs : List Attr) → AreAttrs attrs → list_any (λ (later : Decl). bytes_eq prefix later.0) (declarations attrs) ≡ true → list_any (λ (b : Attr). bytes_eq (declaring_name prefix) b.name) attrs ≡ true
 declares-again prefix [] ok h = absurd (true≢false (sym h))
 declares-again prefix (a ∷ attrs) ok h =
-    let parts = both-true (is_attr a) (list_all is_attr attrs) ok in
-    let named = both-true (is_name a.name) (of_chars a.value) parts.0 in
+    let parts = and_parts (is_attr a) (list_all is_attr attrs) ok in
+    let named = and_parts (is_name a.name) (of_chars a.value) parts.0 in
     by (declaration_of a) refl h named.0 (declares-again prefix attrs parts.1)
   where
     by : (o : Option Decl) → declaration_of a ≡ o → list_any (λ (later : Decl). bytes_eq prefix later.0) (option_to_list o ++ declarations attrs) ≡ true → is_name a.name ≡ true
@@ -189,9 +182,9 @@ declares-again prefix (a ∷ attrs) ok h =
 pub declares-once : (attrs : List Attr) → AreAttrs attrs → has_pair same_qname attrs ≡ false → declares_twice (declarations attrs) ≡ false
 declares-once [] ok h = refl
 declares-once (a ∷ attrs) ok h =
-    let parts = both-true (is_attr a) (list_all is_attr attrs) ok in
-    let named = both-true (is_name a.name) (of_chars a.value) parts.0 in
-    let apart = both-false (list_any (same_qname a) attrs) (has_pair same_qname attrs) h in
+    let parts = and_parts (is_attr a) (list_all is_attr attrs) ok in
+    let named = and_parts (is_name a.name) (of_chars a.value) parts.0 in
+    let apart = or_parts (list_any (same_qname a) attrs) (has_pair same_qname attrs) h in
     by (declaration_of a) refl named.0 apart.0 parts.1 (declares-once attrs parts.1 apart.1)
   where
     by : (o : Option Decl) → declaration_of a ≡ o → is_name a.name ≡ true → list_any (same_qname a) attrs ≡ false → AreAttrs attrs → declares_twice (declarations attrs) ≡ false
@@ -206,14 +199,14 @@ declares-once (a ∷ attrs) ok h =
             let same : list_any (same_qname a) attrs ≡ true = ap (λ (name : List ℕ). list_any (λ (b : Attr). bytes_eq name b.name) attrs) (declares a d named e).name_is ∙ again in
             absurd (true≢false (sym same ∙ apart))
 
--- a declaration behind others that declare other prefixes
+-- a declaration after others that declare other prefixes
 pub not-declared : (xs ys : List Decl) (d : Decl) → declares_twice (xs ++ d ∷ ys) ≡ false → first_declared xs d.0 ≡ None
 not-declared [] ys d h = refl
 not-declared (x ∷ xs) ys d h =
-    let apart = both-false (list_any (λ (later : Decl). bytes_eq x.0 later.0) (xs ++ d ∷ ys)) (declares_twice (xs ++ d ∷ ys)) h in
-    let tests = both-false (list_any (λ (later : Decl). bytes_eq x.0 later.0) xs) (bytes_eq x.0 d.0 || list_any (λ (later : Decl). bytes_eq x.0 later.0) ys)
-    (sym (any-append (λ (later : Decl). bytes_eq x.0 later.0) xs (d ∷ ys)) ∙ apart.0) in
-    let other : bytes_eq x.0 d.0 ≡ false = (both-false (bytes_eq x.0 d.0) (list_any (λ (later : Decl). bytes_eq x.0 later.0) ys) tests.1).0 in
+    let apart = or_parts (list_any (λ (later : Decl). bytes_eq x.0 later.0) (xs ++ d ∷ ys)) (declares_twice (xs ++ d ∷ ys)) h in
+    let tests = or_parts (list_any (λ (later : Decl). bytes_eq x.0 later.0) xs) (bytes_eq x.0 d.0 || list_any (λ (later : Decl). bytes_eq x.0 later.0) ys)
+    (sym (list_any-append (λ (later : Decl). bytes_eq x.0 later.0) xs (d ∷ ys)) ∙ apart.0) in
+    let other : bytes_eq x.0 d.0 ≡ false = (or_parts (bytes_eq x.0 d.0) (list_any (λ (later : Decl). bytes_eq x.0 later.0) ys) tests.1).0 in
     ap (λ b. if b then Some x.1 else first_declared xs d.0) other ∙ not-declared xs ys d apart.1
 
 -- each declaration may be
@@ -225,8 +218,8 @@ pub good-declarations : (attrs : List Attr) → AreAttrs attrs → list_any is_b
     list_all is_good_declaration (declarations attrs) ≡ true
 good-declarations [] ok may quoted = refl
 good-declarations (a ∷ attrs) ok may quoted =
-    let parts = both-true (is_attr a) (list_all is_attr attrs) ok in
-    let named = both-true (is_name a.name) (of_chars a.value) parts.0 in
+    let parts = and_parts (is_attr a) (list_all is_attr attrs) ok in
+    let named = and_parts (is_name a.name) (of_chars a.value) parts.0 in
     by (declaration_of a) refl named.0 named.1 may quoted (good-declarations attrs parts.1)
   where
     by : (o : Option Decl) → declaration_of a ≡ o → is_name a.name ≡ true → of_chars a.value ≡ true → list_any is_bad_declaration (option_to_list o ++ declarations attrs) ≡ false
@@ -235,8 +228,8 @@ good-declarations (a ∷ attrs) ok may quoted =
         → list_all is_good_declaration (option_to_list o ++ declarations attrs) ≡ true
     by None e named made may quoted rest = rest may quoted
     by (Some d) e named made may quoted rest =
-        let m = both-false (is_bad_declaration d) (list_any is_bad_declaration (declarations attrs)) may in
-        let q = both-false (has_both_quotes d) (list_any has_both_quotes (declarations attrs)) quoted in
+        let m = or_parts (is_bad_declaration d) (list_any is_bad_declaration (declarations attrs)) may in
+        let q = or_parts (has_both_quotes d) (list_any has_both_quotes (declarations attrs)) quoted in
         let s : Declares a d = declares a d named e in
         ap₂ (λ x y. x && y) (good-one (is_empty d.0 || is_part d.0) (of_chars d.1) (is_bad_declaration d) (has_both_quotes d) s.prefix_is (ap of_chars s.uri_is ∙ made) m.0 q.0) (rest m.1 q.1)
 
@@ -255,7 +248,7 @@ element-scoped scope name attrs named ok good = record {
 
 pub attribute-scoped : (scope : List Decl) (attr : Attr) → is_attr attr ≡ true → is_plain attr ≡ true → lacks_prefix scope attr ≡ false → AttributeInScope scope (attribute_name scope attr.name) attr.value
 attribute-scoped scope attr ok plain known =
-    let parts = both-true (is_name attr.name) (of_chars attr.value) ok in
+    let parts = and_parts (is_name attr.name) (of_chars attr.value) ok in
     let p : Parted attr.name = parted attr.name parts.0 in
     record {
       named = p.qualified;

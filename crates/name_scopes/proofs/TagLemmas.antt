@@ -1,5 +1,8 @@
 -- Tests along lists of attributes.
 use Rattle.std.proofs.Common.{◌≡◌, ◌≢◌, ℕ, ◌+◌, ◌<◌, ◌≤◌, suc, zero, Bool, true, false, cond, not, ◌&&◌, ◌||◌, List, [], ◌∷◌, ◌++◌, ◌⊎◌, length, map, get_or, take, drop, slice_get, Option, None, Some, refl, sym, ap, ap₂, ◌∙◌, subst, ⊎_elim, true≢false, arith, append-nil, length-append}
+use Rattle.std.proofs.Math.Bool.{or-true, or-false}
+use Rattle.std.proofs.lemmas.List.Folds.{list_any-append}
+use Rattle.std.proofs.lemmas.Bool.{or_parts}
 use Rattle.std.specs.List.{list_any, flat_map, filter, position_or_len}
 use Rattle.std.proofs.lemmas.Grind.{common_steps}
 use Rattle.std.proofs.lemmas.List.{drop_more, take_more, take-append-drop}
@@ -17,32 +20,12 @@ pub none_passes : {X : Type 0} (p : X → Bool) (xs : List X) → position_or_le
 none_passes p [] e = refl
 none_passes p (x ∷ xs) e = grind (arith, common_steps, none_passes p xs)
 
-or-assoc : (a b c : Bool) → ((a || b) || c) ≡ (a || (b || c))
-or-assoc true b c = refl
-or-assoc false b c = refl
-
-or-false : (a : Bool) → (a || false) ≡ a
-or-false true = refl
-or-false false = refl
-
-or-true : (a : Bool) → (a || true) ≡ true
-or-true true = refl
-or-true false = refl
-
-pub any-append : {X : Type 0} (p : X → Bool) (xs ys : List X) → list_any p (xs ++ ys) ≡ (list_any p xs || list_any p ys)
-any-append p [] ys = refl
-any-append p (x ∷ xs) ys = ap (λ b. p x || b) (any-append p xs ys) ∙ sym (or-assoc (p x) (list_any p xs) (list_any p ys))
-
-both-false : (a b : Bool) → (a || b) ≡ false → (a ≡ false) × (b ≡ false)
-both-false true b h = absurd (true≢false h)
-both-false false b h = (refl, h)
-
 -- two that are the same, in a list with one more at its end
 module _ {X : Type 0} (same : X → X → Bool) where
   pub pair-more : (xs : List X) (x : X) → has_pair same (xs ++ x ∷ []) ≡ (has_pair same xs || list_any (λ a. same a x) xs)
   pair-more [] x = refl
   pair-more (y ∷ xs) x =
-      ap₂ (λ a b. a || b) (any-append (same y) xs (x ∷ []) ∙ ap (λ b. list_any (same y) xs || b) (or-false (same y x))) (pair-more xs x)
+      ap₂ (λ a b. a || b) (list_any-append (same y) xs (x ∷ []) ∙ ap (λ b. list_any (same y) xs || b) (or-false (same y x))) (pair-more xs x)
       ∙ swap (list_any (same y) xs) (same y x) (has_pair same xs) (list_any (λ a. same a x) xs)
     where
       swap : (a b c d : Bool) → ((a || b) || (c || d)) ≡ ((a || c) || (b || d))
@@ -56,7 +39,7 @@ module _ {X : Type 0} (same : X → X → Bool) where
   pair-front (y ∷ xs) ys h = by (list_any (same y) xs) refl h (pair-front xs ys)
     where
       by : (t : Bool) → list_any (same y) xs ≡ t → (t || has_pair same xs) ≡ true → (has_pair same xs ≡ true → has_pair same (xs ++ ys) ≡ true) → (list_any (same y) (xs ++ ys) || has_pair same (xs ++ ys)) ≡ true
-      by true e h rest = ap (λ b. b || has_pair same (xs ++ ys)) (any-append (same y) xs ys ∙ ap (λ b. b || list_any (same y) ys) e)
+      by true e h rest = ap (λ b. b || has_pair same (xs ++ ys)) (list_any-append (same y) xs ys ∙ ap (λ b. b || list_any (same y) ys) e)
       by false e h rest = ap (λ b. list_any (same y) (xs ++ ys) || b) (rest h) ∙ or-true (list_any (same y) (xs ++ ys))
 
 -- an item that passes has a place
@@ -213,5 +196,5 @@ module _ {X : Type 0} (p : X → Bool) (xs : List X) (i : ℕ) (x : X) (below : 
       let split : list_any q (filter p xs) ≡ (list_any q (filter p (take i xs)) || list_any q (x ∷ filter p (drop (i + 1) xs))) =
       ap (λ l. list_any q (filter p l)) (sym (take-append-drop i xs))
       ∙ (ap (list_any q) (filter-append p (take i xs) (drop i xs) ∙ ap (λ l. filter p (take i xs) ++ l) (ap (filter p) rest ∙ one-more p x (drop (i + 1) xs) h))
-      ∙ any-append q (filter p (take i xs)) (x ∷ filter p (drop (i + 1) xs))) in
-      (both-false (q x) (list_any q (filter p (drop (i + 1) xs))) (both-false (list_any q (filter p (take i xs))) (list_any q (x ∷ filter p (drop (i + 1) xs))) (sym split ∙ none)).1).0
+      ∙ list_any-append q (filter p (take i xs)) (x ∷ filter p (drop (i + 1) xs))) in
+      (or_parts (q x) (list_any q (filter p (drop (i + 1) xs))) (or_parts (list_any q (filter p (take i xs))) (list_any q (x ∷ filter p (drop (i + 1) xs))) (sym split ∙ none)).1).0

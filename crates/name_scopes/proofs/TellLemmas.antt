@@ -13,13 +13,13 @@ use Rattle.doc_tree.specs.Scope.{Decl}
 use Rattle.doc_tree.specs.Declaring.{Declared, DeclaredLast}
 use Rattle.name_scopes.specs.QNames.{as_written}
 use Rattle.name_scopes.specs.ScopedTree.{written, upto}
-use Rattle.name_scopes.specs.Building.{Receives, IsInnermost, AreOpen, Tops, Tells}
+use Rattle.name_scopes.specs.inner.Build.{Receives, IsInnermost, AreOpen, Tops, Says}
 use Rattle.name_scopes.proofs.NumberLemmas.{mem-first, mem-second, last-push}
 use Rattle.name_scopes.proofs.OpenElements.{open-live, open-holds, open-stays, open-round, grown-length, tops-declared}
 
 -- a node may come under the innermost open element
 pub tells-receives : (told : List Line) (names : List (List ℕ)) (scopes : List (List Decl)) (begun : Bool) (text : ℕ) (T : Table) (n : ℕ) →
-    Tells told names scopes begun text T n → Receives T n
+    Says told names scopes begun text T n → Receives T n
 tells-receives told names scopes begun text T n tells = record {
   holder = open-holds T names scopes n tells.way;
   last = tells.last;
@@ -36,7 +36,7 @@ grown-text T U p n c text grew h = omega (arith, grew.more_text, h)
 -- a node that opens nothing: the tree tells its lines more
 pub tells-leaf : (T U : Table) (p n : ℕ) (c : Content) (told : List Line) (names : List (List ℕ)) (scopes : List (List Decl)) (begun : Bool) (text : ℕ) →
     Grew T U p n c → HasWaysUp T → last_lines c ≡ [] → Tops begun U →
-    Tells told names scopes begun text T p → Tells (told ++ first_lines c) names scopes begun (text + length (value_in c)) U p
+    Says told names scopes begun text T p → Says (told ++ first_lines c) names scopes begun (text + length (value_in c)) U p
 tells-leaf T U p n c told names scopes begun text grew ways leaf top tells =
     let live : is_live T p ≡ true = open-live T names scopes p tells.way in
     let ends_are : closing U n ≡ closing U p =
@@ -54,7 +54,7 @@ tells-leaf T U p n c told names scopes begun text grew ways leaf top tells =
 -- an element more is open
 pub tells-element : (T U : Table) (p n : ℕ) (qname : List ℕ) (name : Name) (told : List Line) (names : List (List ℕ)) (scopes : List (List Decl)) (begun : Bool) (text : ℕ) →
     Grew T U p n (element name []) → HasWaysUp T → as_written name ≡ written qname → Tops true U →
-    Tells told names scopes begun text T p → Tells (told ++ starts name ∷ []) (qname ∷ names) ([] ∷ scopes) true text U n
+    Says told names scopes begun text T p → Says (told ++ starts name ∷ []) (qname ∷ names) ([] ∷ scopes) true text U n
 tells-element T U p n qname name told names scopes begun text grew ways spelled top tells = record {
   lines_are = grew.read_on told tells.lines_are;
   all_live = grew.all_live;
@@ -81,7 +81,7 @@ tells-element T U p n qname name told names scopes begun text grew ways spelled 
 -- the innermost element declares something more
 pub tells-declared : (T U : Table) (n : ℕ) (d : Decl) (qname : List ℕ) (decls : List Decl) (told : List Line) (names : List (List ℕ)) (scopes : List (List Decl)) (begun : Bool) (text : ℕ) →
     Declared T U n d → HasWaysUp T → kids_of T n ≡ [] → attrs_of T n ≡ [] →
-    Tells told (qname ∷ names) (decls ∷ scopes) begun text T n → Tells (told ++ declares d ∷ []) (qname ∷ names) ((decls ++ d ∷ []) ∷ scopes) begun text U n
+    Says told (qname ∷ names) (decls ∷ scopes) begun text T n → Says (told ++ declares d ∷ []) (qname ∷ names) ((decls ++ d ∷ []) ∷ scopes) begun text U n
 tells-declared T U n d qname decls told names scopes begun text more ways no_kid no_attribute tells =
     let at : DeclaredLast T U n d = more.while_last no_kid no_attribute in
     let q : ℕ = tells.way.0 in
@@ -119,11 +119,11 @@ ends-in-one T (x ∷ elder) n = ap (λ (m : ℕ). is_text (kind_of T m)) (last-p
 pub record Ended (T : Table) (p q : ℕ) (qname : List ℕ) (told : List Line) (names : List (List ℕ)) (scopes : List (List Decl)) (begun : Bool) (text : ℕ) : Type 0 where
   pub name : Name
   pub spelled : as_written name ≡ written qname
-  pub tells : Tells (told ++ ends name ∷ []) names scopes begun text T q
+  pub tells : Says (told ++ ends name ∷ []) names scopes begun text T q
   pub behind : ends_in_text T (kids_of T q) ≡ false
 
 pub tells-end : (T : Table) (p q : ℕ) (qname : List ℕ) (decls : List Decl) (told : List Line) (names : List (List ℕ)) (scopes : List (List Decl)) (begun : Bool) (text : ℕ) →
-    HasWaysUp T → parent_of T p ≡ Some q → Tells told (qname ∷ names) (decls ∷ scopes) begun text T p → Ended T p q qname told names scopes begun text
+    HasWaysUp T → parent_of T p ≡ Some q → Says told (qname ∷ names) (decls ∷ scopes) begun text T p → Ended T p q qname told names scopes begun text
 tells-end T p q qname decls told names scopes begun text ways under tells =
     let kid : IsInnermost T qname decls tells.way.0 p = tells.way.1.0 in
     let is : tells.way.0 ≡ q = let up : parent_of T p ≡ Some tells.way.0 = kid.under in cc in

@@ -13,16 +13,16 @@ use Rattle.pyx_core.specs.declared.event.Located.{Located}
 use Rattle.pyx_core.specs.declared.fault.PyxFault.{PyxFault}
 use Rattle.pyx_core.specs.declared.fault.PyxKind.{PyxKind}
 use Rattle.pyx_core.specs.declared.fault.PyxKind.TheVariants.{NotUtf8, BadChar, UnknownLine, EntityLine, BadName}
-use Rattle.pyx_core.specs.declared.line.Line.{Line}
-use Rattle.pyx_core.specs.declared.line.Line.TheVariants.{Skipped, Start, Attribute, End, Chars, Pi, Comment}
+use Rattle.pyx_core.specs.declared.line_table.Line.{Line}
+use Rattle.pyx_core.specs.declared.line_table.Line.TheVariants.{Skipped, Start, Attribute, End, Chars, Pi, Comment}
 use Rattle.pyx_core.specs.declared.mode.Mode.{Mode}
 use Rattle.pyx_core.specs.Lines.{is_line_end, onto_ended, ended_lines, unended}
-use Rattle.pyx_core.specs.LineTable.{is_qname, is_target, is_space, name_part, text_part, start_line, end_line, attribute_line, pi_line, chars_line, comment_line, marked_line, text_line, line_of}
+use Rattle.pyx_core.specs.LineTable.{is_qname, is_target, is_space, name_part, text_part, read_start, read_end, read_attribute, read_pi, read_chars, read_comment, read_marked, read_text, line_of}
 use Rattle.pyx_core.specs.Escapes.{undone, unescaped, unescaped_after}
 use Rattle.pyx_core.specs.Before.{is_outside, kept, attr_onto, with_attr, begin_text, text_onto, with_text, pending, is_text, is_chars, but_text, completed_by, closed, misplaced, located}
 use Rattle.pyx_core.specs.Reading.{Judged, judge, placed, unless, judged, and_then, sound, faulty, so_far, in_all, completed, events_of, events_unless, events_before_fault, ended, fault_of}
 use Rattle.pyx_core.specs.Nesting.{bare}
-use Rattle.name_scopes.specs.Building.{event_text, value_bytes}
+use Rattle.name_scopes.specs.inner.Build.{event_text, value_bytes}
 
 -- sums along lists
 
@@ -94,25 +94,25 @@ either-short : (b : Bool) (x y : Result Line PyxKind) (n : ℕ) → outcome_text
 either-short true x y n h k = h
 either-short false x y n h k = k
 
-marked-short : (mark : ℕ) (body : List ℕ) → outcome_text (marked_line mark body) ≤ length body
+marked-short : (mark : ℕ) (body : List ℕ) → outcome_text (read_marked mark body) ≤ length body
 marked-short mark body =
-    either-short (mark == 40) (start_line body) _ (length body) (either-short (is_qname body) (Ok (Start body)) (Err BadName) (length body) (omega arith) (omega arith))
-    (either-short (mark == 65) (attribute_line body) _ (length body) (either-short (is_qname (name_part body)) (Ok (Attribute (record { name = name_part body; value = text_part body }))) (Err BadName) (length body) (part-short body) (omega arith))
-    (either-short (mark == 41) (end_line body) _ (length body) (either-short (is_qname body) (Ok (End body)) (Err BadName) (length body) (omega arith) (omega arith))
-    (either-short (mark == 45 || mark == 91) (chars_line body) _ (length body) (unescaped-short body)
-    (either-short (mark == 63) (pi_line body) _ (length body) (either-short (is_target (name_part body)) (Ok (Pi (name_part body) (text_part body))) (Err BadName) (length body) (part-short body) (omega arith))
-    (either-short (mark == 67) (comment_line body) _ (length body) (unescaped-short body)
+    either-short (mark == 40) (read_start body) _ (length body) (either-short (is_qname body) (Ok (Start body)) (Err BadName) (length body) (omega arith) (omega arith))
+    (either-short (mark == 65) (read_attribute body) _ (length body) (either-short (is_qname (name_part body)) (Ok (Attribute (record { name = name_part body; value = text_part body }))) (Err BadName) (length body) (part-short body) (omega arith))
+    (either-short (mark == 41) (read_end body) _ (length body) (either-short (is_qname body) (Ok (End body)) (Err BadName) (length body) (omega arith) (omega arith))
+    (either-short (mark == 45 || mark == 91) (read_chars body) _ (length body) (unescaped-short body)
+    (either-short (mark == 63) (read_pi body) _ (length body) (either-short (is_target (name_part body)) (Ok (Pi (name_part body) (text_part body))) (Err BadName) (length body) (part-short body) (omega arith))
+    (either-short (mark == 67) (read_comment body) _ (length body) (unescaped-short body)
     (either-short (mark == 68 || mark == 78 || mark == 85) (Ok Skipped) _ (length body) (omega arith)
     (either-short (mark == 38) (Err EntityLine) (Err UnknownLine) (length body) (omega arith) (omega arith))))))))
 
-text-short : (bytes : List ℕ) → outcome_text (text_line bytes) ≤ length bytes
+text-short : (bytes : List ℕ) → outcome_text (read_text bytes) ≤ length bytes
 text-short [] = omega arith
 text-short (mark ∷ body) = omega (arith, marked-short mark body)
 
 line-short : (bytes : List ℕ) → outcome_text (line_of bytes) ≤ length bytes
 line-short bytes =
     either-short (is_utf8 bytes) _ (Err NotUtf8) (length bytes)
-    (either-short (list_all is_xml_char (chars bytes)) (text_line bytes) (Err BadChar) (length bytes) (text-short bytes) (omega arith)) (omega arith)
+    (either-short (list_all is_xml_char (chars bytes)) (read_text bytes) (Err BadChar) (length bytes) (text-short bytes) (omega arith)) (omega arith)
 
 -- events of lines
 

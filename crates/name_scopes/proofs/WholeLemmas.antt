@@ -22,10 +22,10 @@ use Rattle.name_scopes.specs.declared.build.Loader.{Loader}
 use Rattle.name_scopes.specs.declared.fault.DocFault.{DocFault}
 use Rattle.name_scopes.specs.declared.fault.LoadError.{LoadError}
 use Rattle.name_scopes.specs.declared.fault.LoadError.TheVariants.{Fault, Memory}
-use Rattle.name_scopes.specs.ScopedTree.{Scoped, event_lines, unscoped}
+use Rattle.name_scopes.specs.ScopedTree.{Scoped, said_by, unscoped}
 use Rattle.name_scopes.specs.DocFaults.{Standing, Refuses, begin, doc_fault, event_fault, fault_at, first_fault, line_fault, moved}
-use Rattle.name_scopes.specs.Building.{AreOpen, Builds, Comes, IsReady, Loads, Tells, event_text}
-use Rattle.name_scopes.specs.Loaded.{IsBuilt, TakesFound}
+use Rattle.name_scopes.specs.inner.Build.{AreOpen, Builds, Comes, IsReady, Loads, Says, event_text}
+use Rattle.name_scopes.specs.inner.Load.{IsBuilt, TakesFound}
 use Rattle.name_scopes.proofs.OpenElements.{open-root}
 
 -- the events so far were taken, and the others may come

@@ -1,4 +1,4 @@
--- The attributes that declare namespaces, and the rules for them (Namespaces in XML 1.0 section 3).
+-- The attributes that declare namespaces, and the rules for them (Namespaces in XML 1.0, section 3).
 use Rattle.std.specs.Prelude.{ℕ, ◌==◌, Bool, true, false, not, ◌&&◌, ◌||◌, List, [], ◌∷◌, Option, None, Some, is_none, if◌then◌else◌, codes}
 use Rattle.std.specs.List.{flat_map, filter, list_any}
 use Rattle.std.specs.Option.{option_to_list}

@@ -44,7 +44,7 @@ lacks_prefix scope attr = is_none (attribute_namespace scope (prefix_part attr.n
 abbrev pub expanded_attr : List Decl → Attr → Name
 expanded_attr scope attr = record { prefix = []; local = local_part attr.name; uri = unwrap_or (attribute_namespace scope (prefix_part attr.name)) [] }
 
--- two attributes with one QName (XML 1.0 section 3.1), or with one expanded name (section 6.3)
+-- two attributes with one QName (XML 1.0, section 3.1), or with one expanded name (section 6.3)
 abbrev pub same_qname : Attr → Attr → Bool
 same_qname a b = bytes_eq a.name b.name
 
@@ -100,7 +100,7 @@ abbrev pub outer_scopes : List (List Decl) → List (List Decl)
 outer_scopes [] = []
 outer_scopes (decls ∷ scopes) = scopes
 
--- how things stand behind an event
+-- how things stand after an event
 abbrev pub moved : Standing → Event → Standing
 moved standing (event.Start name attrs) = record {
   scopes = declarations attrs ∷ standing.scopes;

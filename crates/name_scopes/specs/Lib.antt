@@ -1,10 +1,8 @@
-pub mod QNames
 pub mod Declarations
-pub mod Scoping
-pub mod ScopedTree
 pub mod DocFaults
-pub mod Bindings
-pub mod Building
-pub mod Loaded
+pub mod QNames
 pub mod RoundTrip
+pub mod ScopedTree
+pub mod Scoping
+pub mod inner
 pub use Rattle.doc_write.specs.TreeText

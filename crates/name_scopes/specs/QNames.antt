@@ -1,4 +1,4 @@
--- Qualified names: a prefix and a local part (Namespaces in XML 1.0 section 4).
+-- Qualified names: a prefix and a local part (Namespaces in XML 1.0, section 4).
 use Rattle.std.specs.Prelude.{ℕ, List, [], if◌then◌else◌}
 use Rattle.std.specs.List.{list_any, before_first, after_first}
 use Rattle.sch_base.specs.Names.{is_colon}
@@ -8,7 +8,7 @@ use Rattle.doc_tree.specs.Table.{Name}
 abbrev pub prefix_part : List ℕ → List ℕ
 prefix_part qname = if list_any is_colon qname then before_first is_colon qname else []
 
--- the part behind it
+-- the part after it
 abbrev pub local_part : List ℕ → List ℕ
 local_part qname = if list_any is_colon qname then after_first is_colon qname else qname
 

@@ -9,7 +9,7 @@ use Rattle.doc_tree.specs.Lines.{lines}
 use Rattle.doc_tree.specs.Table.{Table}
 use Rattle.doc_write.specs.TreeText.{tree_text}
 use Rattle.name_scopes.specs.DocFaults.{doc_fault}
-use Rattle.name_scopes.specs.ScopedTree.{Scoped, event_lines, unscoped}
+use Rattle.name_scopes.specs.ScopedTree.{Scoped, said_by, unscoped}
 use Rattle.name_scopes.specs.Scoping.{InScope}
 
 -- the text of a tree is read without fault, and its events say what the tree says, namespaces left out
@@ -19,7 +19,7 @@ pub record ComesBack (T : Table) : Type 0 where
   -- nor does an event break a rule of names (Namespaces in XML 1.0) or pass a limit of trees
   pub good : doc_fault (tree_text T) ≡ None
   -- what the events say, in their order
-  pub lines_are : map unscoped (lines T) ≡ flat_map event_lines (bare (events_of Document (tree_text T)))
+  pub lines_are : map unscoped (lines T) ≡ flat_map said_by (bare (events_of Document (tree_text T)))
 
 -- the text of a document in scope comes back
 abbrev pub TextComesBack : Table → Type 0

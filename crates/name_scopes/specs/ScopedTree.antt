@@ -1,4 +1,4 @@
--- The tree of the events of a document (XPath 1.0 section 5, Namespaces in XML 1.0).
+-- The tree of the events of a document (XPath 1.0, section 5, Namespaces in XML 1.0).
 use Rattle.std.specs.Prelude.{◌≡◌, ℕ, zero, suc, true, List, [], ◌∷◌, ◌++◌, map, length}
 use Rattle.std.specs.List.{flat_map}
 use Rattle.pyx_core.specs.declared.event.Attr.{Attr}
@@ -21,13 +21,13 @@ abbrev pub attribute_line : Attr → Line
 attribute_line attr = has_attribute (written attr.name) attr.value
 
 -- what an event says of the document, namespaces left out; an element's declarations come before its attributes
-abbrev pub event_lines : Event → List Line
-event_lines (event.Start name attrs) =
+abbrev pub said_by : Event → List Line
+said_by (event.Start name attrs) =
     starts (written name) ∷ (map declares (declarations attrs) ++ map attribute_line (plain_attrs attrs))
-event_lines (event.End name) = ends (written name) ∷ []
-event_lines (event.Chars text) = has_text text ∷ []
-event_lines (event.Pi target body) = has_instruction (unprefixed target) body ∷ []
-event_lines (event.Comment text) = has_comment text ∷ []
+said_by (event.End name) = ends (written name) ∷ []
+said_by (event.Chars text) = has_text text ∷ []
+said_by (event.Pi target body) = has_instruction (unprefixed target) body ∷ []
+said_by (event.Comment text) = has_comment text ∷ []
 
 -- a line of a document with the namespace of its name left out
 abbrev pub unscoped : Line → Line
@@ -47,7 +47,7 @@ upto (suc n) = upto n ++ n ∷ []
 -- the tree says what the events say, in their order; its names are in the namespaces of the nearest declarations; its
 -- numbers are in document order, and no others were made; and it is the tree of a document
 pub record Scoped (events : List Event) (T : Table) : Type 0 where
-  pub lines_are : map unscoped (lines T) ≡ flat_map event_lines events
+  pub lines_are : map unscoped (lines T) ≡ flat_map said_by events
   pub in_scope : InScope T
   pub numbered : order T ≡ upto (length T)
   pub all_live : AllLive T

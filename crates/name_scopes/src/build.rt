@@ -16,11 +16,11 @@ ghost use Rattle.name_scopes.specs.QNames.{prefix_part};
 ghost use Rattle.name_scopes.specs.Declarations.{declaration_of, declarations, plain_attrs};
 ghost use Rattle.name_scopes.specs.Scoping.{InScope, declares_twice};
 ghost use Rattle.name_scopes.specs.DocFaults.{Standing, begin, has_pair, lacks_prefix, moved, same_expanded, tag_fault, tag_nodes};
-ghost use Rattle.name_scopes.specs.Building.{AttributesAll, Begins, Comes, DeclaresAll, IsFull, IsLeaf, IsReady, IsTooDeep, Loads, Receives, Takes, attribute_name, element_name, leaf_of, room_fault, value_bytes};
+ghost use Rattle.name_scopes.specs.inner.Build.{AttributesAll, Begins, Comes, DeclaresAll, IsFull, IsLeaf, IsReady, IsTooDeep, Loads, Receives, TakesEvent, attribute_name, element_name, leaf_of, room_fault, value_bytes};
 
-use crate::declared::{declared_prefix, is_plain};
+use crate::declarations::{declared_prefix, is_plain};
 use crate::fault::{DocKind, EventError};
-use crate::qname::split;
+use crate::qnames::split;
 use crate::scope::Scope;
 use crate::tag::{attribute_namespace, check_tag};
 use doc_tree::{AppendError, MAX_DEPTH, MAX_LIVE_NODES, MAX_LIVE_TEXT_BYTES, NewNode, NodeId, Tree};
@@ -56,7 +56,7 @@ impl Loader {
     pub(crate) fn take(&mut self, event: &Event) -> Result<(), EventError>
         requires { IsReady self.old event.now }
         ensures { (taken : List Event) (place : Place) (standing : Standing) → Loads taken place standing self.old → Comes taken place event.now →
-            Takes taken place standing event.now self.new result }
+            TakesEvent taken place standing event.now self.new result }
     {
         match event {
             Event::Start { name, attrs } => self.start(name.as_str(), attrs.as_slice()),
@@ -90,7 +90,7 @@ impl Loader {
         requires leaf { IsLeaf event.now }
         requires ready { IsReady self.old event.now }
         ensures { (taken : List Event) (place : Place) (standing : Standing) → Loads taken place standing self.old → Comes taken place event.now →
-            Takes taken place standing event.now self.new result }
+            TakesEvent taken place standing event.now self.new result }
     {
         self.tree.laws();
         self.tree.scope_laws();
@@ -102,7 +102,7 @@ impl Loader {
     fn start(&mut self, name: &str, attrs: &[Attr]) -> Result<(), EventError>
         requires { IsReady self.old (event_kind.Start name.now attrs.now) }
         ensures { (taken : List Event) (place : Place) (standing : Standing) → Loads taken place standing self.old → Comes taken place (event_kind.Start name.now attrs.now) →
-            Takes taken place standing (event_kind.Start name.now attrs.now) self.new result }
+            TakesEvent taken place standing (event_kind.Start name.now attrs.now) self.new result }
     {
         self.tree.laws();
         self.tree.scope_laws();

@@ -13,11 +13,11 @@ use thiserror::Error;
 pub enum DocKind {
     /// A line breaks a rule of PYX.
     Pyx(PyxKind),
-    /// The prefix of the element or of an attribute isn't in scope (Namespaces in XML 1.0 section 5).
+    /// The prefix of the element or of an attribute isn't in scope (Namespaces in XML 1.0, section 5).
     NoPrefix,
-    /// Two attributes have one QName or one expanded name (XML 1.0 section 3.1, Namespaces in XML 1.0 section 6.3).
+    /// Two attributes have one QName or one expanded name (XML 1.0, section 3.1, Namespaces in XML 1.0, section 6.3).
     SameAttribute,
-    /// A declaration that may not be (Namespaces in XML 1.0 sections 2.2 and 3).
+    /// A declaration that may not be (Namespaces in XML 1.0, sections 2.2 and 3).
     BadDeclaration,
     /// A namespace name with both kinds of quotes.
     BothQuotes,

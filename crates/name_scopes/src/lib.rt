@@ -2,15 +2,15 @@
 #![tactic(auto)]
 
 mod build;
-mod declared;
+mod declarations;
 mod fault;
-mod laws;
 mod load;
-mod qname;
+mod qnames;
+mod round_trip;
 mod scope;
 mod tag;
 
 pub use doc_write::write_tree;
 pub use fault::{DocFault, DocKind, LoadError};
-pub use laws::{namespaces_follow, text_comes_back, tree_comes_back};
 pub use load::load_tree;
+pub use round_trip::{namespaces_follow, text_comes_back, tree_comes_back};

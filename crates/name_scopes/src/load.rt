@@ -7,8 +7,8 @@ ghost use Rattle.pyx_core.specs.Nesting.{Nest, Place, bare, start};
 ghost use Rattle.pyx_core.specs.Reading.{events_of};
 ghost use Rattle.name_scopes.specs.ScopedTree.{Scoped};
 ghost use Rattle.name_scopes.specs.DocFaults.{Refuses, Standing, doc_fault};
-ghost use Rattle.name_scopes.specs.Building.{Comes, IsReady, Loads, event_text};
-ghost use Rattle.name_scopes.specs.Loaded.{IsBuilt, TakesFound};
+ghost use Rattle.name_scopes.specs.inner.Build.{Comes, IsReady, Loads, event_text};
+ghost use Rattle.name_scopes.specs.inner.Load.{IsBuilt, TakesFound};
 
 use crate::build::Loader;
 use crate::fault::{DocFault, DocKind, EventError, LoadError};
@@ -16,8 +16,8 @@ use doc_tree::{MAX_LIVE_TEXT_BYTES, Tree};
 use pyx_core::{Located, Mode, events_nest, read_front};
 use std::alloc::Global;
 
-/// Loads a document of at most 16,777,216 bytes: the tree of its events, with each name in the namespace that the
-/// nearest declaration of its prefix gives (Namespaces in XML 1.0 section 6), or its first fault.
+/// Loads a document of at most `MAX_TEXT_BYTES` bytes: the tree of its events, with each name in the namespace that the
+/// nearest declaration of its prefix gives (Namespaces in XML 1.0, section 6), or its first fault.
 ///
 /// Costs time linear in the bytes.
 pub fn load_tree(alloc: Global, bytes: &[u8]) -> Result<Tree, LoadError>

@@ -3,7 +3,7 @@
 ghost use Rattle.std.specs.Prelude.{◌≡◌, ◌∷◌, ◌<◌, [], List, ℕ, None, drop, vec_len, OnOk, slice_get, slice_index_or, slice_set};
 ghost use Rattle.std.specs.Option.{option_copied, option_map};
 ghost use Rattle.doc_tree.specs.Scope.{first_declared, namespace_in};
-ghost use Rattle.name_scopes.specs.Bindings.{uri_of};
+ghost use Rattle.name_scopes.specs.inner.Scope.{uri_of};
 
 use doc_tree::{WordTable, is_xml, is_xmlns, undeclared_namespace, xml_namespace};
 use sch_base::Text;
@@ -34,7 +34,7 @@ pub(crate) struct Scope {
 impl Model for Scope {
     ghost use Rattle.doc_tree.specs.Scope.{Decl};
     ghost use Rattle.std.specs.Prelude.{List, map};
-    ghost use Rattle.name_scopes.specs.Bindings.{Bound, bound, newest_first};
+    ghost use Rattle.name_scopes.specs.inner.Scope.{Bound, bound, newest_first};
 
     ghost Value = { List Decl };
 
@@ -83,7 +83,7 @@ impl Scope {
         }
     }
 
-    /// The namespace of a prefix in scope; None where it isn't in scope (Namespaces in XML 1.0 section 6).
+    /// The namespace of a prefix in scope; None where it isn't in scope (Namespaces in XML 1.0, section 6).
     pub(crate) fn namespace(&self, prefix: &str) -> Option<&str>
         ensures { option_copied result ≡ namespace_in self.now prefix.now }
     {

@@ -11,9 +11,9 @@ ghost use Rattle.name_scopes.specs.Scoping.{attribute_namespace};
 ghost use Rattle.name_scopes.specs.Declarations.{declarations, declaration_of, plain_attrs, is_bad_declaration, has_both_quotes, xmlns_namespace};
 ghost use Rattle.name_scopes.specs.DocFaults.{tag_fault, lacks_prefix, has_pair, same_qname, same_expanded, expanded_attr};
 
-use crate::declared::{declared_prefix, is_plain};
+use crate::declarations::{declared_prefix, is_plain};
 use crate::fault::DocKind;
-use crate::qname::split;
+use crate::qnames::split;
 use crate::scope::Scope;
 use doc_tree::{NameId, NameTable, WordTable, is_xml, is_xmlns, xml_namespace};
 use pyx_core::Attr;
@@ -151,7 +151,7 @@ fn declare_badly(attrs: &[Attr]) -> bool
     false
 }
 
-/// Whether an attribute is a declaration that may not be (Namespaces in XML 1.0 sections 2.2 and 3).
+/// Whether an attribute is a declaration that may not be (Namespaces in XML 1.0, sections 2.2 and 3).
 fn declares_badly(attr: &Attr) -> bool
     ensures { result ≡ list_any is_bad_declaration (option_to_list (declaration_of attr.now)) }
 {

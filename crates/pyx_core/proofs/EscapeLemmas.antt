@@ -5,13 +5,13 @@ use Rattle.std.specs.Prelude.{encode_utf8_all}
 use Rattle.std.specs.Char.{encode_utf8, IsScalar}
 use Rattle.std.specs.List.{list_all}
 use Rattle.std.specs.Str.{chars, is_utf8, all_scalars}
-use Rattle.std.proofs.lemmas.Bool.{cases_lt}
+use Rattle.std.proofs.lemmas.Bool.{cases_lt, and_parts, and_from}
 use Rattle.std.proofs.lemmas.Bool.Decides.{nat_tests}
 use Rattle.std.proofs.lemmas.Str.{chars-encodes, encodes-chars, encode_ascii, inside_one}
 use Rattle.sch_base.specs.Characters.{is_xml_char}
 use Rattle.pyx_core.specs.Escapes.{escape_of, escaped, undone, unescaped, unescaped_after}
 use Rattle.pyx_core.specs.Nesting.{of_chars}
-use Rattle.pyx_core.proofs.TextLemmas.{both, and, utf8_of, made_of}
+use Rattle.pyx_core.proofs.TextLemmas.{utf8_of, made_of}
 use Rattle.pyx_core.proofs.Undoing.{kept_backslash, past_ascii}
 
 -- bytes past ASCII
@@ -48,13 +48,13 @@ plain_byte b h =
 unescaped_high : (bytes rest : List ℕ) → are_high bytes ≡ true → unescaped (bytes ++ rest) ≡ bytes ++ unescaped rest
 unescaped_high [] rest h = refl
 unescaped_high (b ∷ bytes) rest h =
-    let here = both (nat_le 128 b) _ h in
+    let here = and_parts (nat_le 128 b) _ h in
     rw (no_backslash b here.0) (ap (λ l. b ∷ l) (unescaped_high bytes rest here.1))
 
 escaped_high : (bytes rest : List ℕ) → are_high bytes ≡ true → escaped (bytes ++ rest) ≡ bytes ++ escaped rest
 escaped_high [] rest h = refl
 escaped_high (b ∷ bytes) rest h =
-    let here = both (nat_le 128 b) _ h in
+    let here = and_parts (nat_le 128 b) _ h in
     rw (plain_byte b here.0) (ap (λ l. b ∷ l) (escaped_high bytes rest here.1))
 
 high_test : (c : ℕ) → 128 ≤ c → nat_le 128 c ≡ true
@@ -129,9 +129,9 @@ xml_scalar c h = grind (arith, nat_tests)
 all_scalar : (cs : List ℕ) → list_all is_xml_char cs ≡ true → all_scalars cs ≡ true
 all_scalar [] h = refl
 all_scalar (c ∷ cs) h =
-    let here = both (is_xml_char c) _ h in
+    let here = and_parts (is_xml_char c) _ h in
     let one : IsScalar c = xml_scalar c here.0 in
-    and _ _ one (all_scalar cs here.1)
+    and_from _ _ one (all_scalar cs here.1)
 
 -- Chars spell a text
 pub spelled : (cs : List ℕ) → list_all is_xml_char cs ≡ true → of_chars (encode_utf8_all cs) ≡ true
@@ -174,14 +174,14 @@ all_made cs = list_all is_xml_char cs
 undone_made : (c : ℕ) (cs : List ℕ) → is_xml_char c ≡ true → all_made cs ≡ true → all_made (undone c ++ cs) ≡ true
 undone_made c cs made rest =
     elim (nat_eq c 110) as (λ v. all_made (cond v (10 ∷ []) (cond (nat_eq c 116) (9 ∷ []) (cond (nat_eq c 114) (13 ∷ []) (cond (nat_eq c 92) (92 ∷ []) (92 ∷ c ∷ [])))) ++ cs) ≡ true) [
-      | true ↦ and _ _ line_feed rest
+      | true ↦ and_from _ _ line_feed rest
       | false ↦ elim (nat_eq c 116) as (λ v. all_made (cond v (9 ∷ []) (cond (nat_eq c 114) (13 ∷ []) (cond (nat_eq c 92) (92 ∷ []) (92 ∷ c ∷ []))) ++ cs) ≡ true) [
-        | true ↦ and _ _ tab rest
+        | true ↦ and_from _ _ tab rest
         | false ↦ elim (nat_eq c 114) as (λ v. all_made (cond v (13 ∷ []) (cond (nat_eq c 92) (92 ∷ []) (92 ∷ c ∷ [])) ++ cs) ≡ true) [
-          | true ↦ and _ _ carriage_return rest
+          | true ↦ and_from _ _ carriage_return rest
           | false ↦ elim (nat_eq c 92) as (λ v. all_made (cond v (92 ∷ []) (92 ∷ c ∷ []) ++ cs) ≡ true) [
-            | true ↦ and _ _ backslash rest
-            | false ↦ and _ _ backslash (and _ _ made rest)
+            | true ↦ and_from _ _ backslash rest
+            | false ↦ and_from _ _ backslash (and_from _ _ made rest)
           ]
         ]
       ]
@@ -190,12 +190,12 @@ undone_made c cs made rest =
 plain_made : (c : ℕ) (cs : List ℕ) (v : Bool) → nat_eq c 92 ≡ v → is_xml_char c ≡ true →
     all_made (unescaped cs) ≡ true → all_made (unescaped_after true cs) ≡ true → all_made (unescaped (c ∷ cs)) ≡ true
 plain_made c cs true is made rest behind = rw is behind
-plain_made c cs false is made rest behind = rw is (and _ _ made rest)
+plain_made c cs false is made rest behind = rw is (and_from _ _ made rest)
 
 unescaped_all : (cs : List ℕ) → all_made cs ≡ true → (all_made (unescaped cs) ≡ true) × (all_made (unescaped_after true cs) ≡ true)
-unescaped_all [] h = (refl, and _ _ backslash refl)
+unescaped_all [] h = (refl, and_from _ _ backslash refl)
 unescaped_all (c ∷ cs) h =
-    let here = both (is_xml_char c) _ h in
+    let here = and_parts (is_xml_char c) _ h in
     let rest = unescaped_all cs here.1 in
     (plain_made c cs (nat_eq c 92) refl here.0 rest.0 rest.1, undone_made c (unescaped cs) here.0 rest.0)
 
@@ -203,7 +203,7 @@ unescaped_all (c ∷ cs) h =
 pub unescaped_made : (text : List ℕ) → of_chars text ≡ true → of_chars (unescaped text) ≡ true
 unescaped_made text h =
     let utf8 = utf8_of text h in
-    let made = (both (is_utf8 text) _ h).1 in
+    let made = (and_parts (is_utf8 text) _ h).1 in
     let is : unescaped text ≡ encode_utf8_all (unescaped (chars text)) =
     ap unescaped (sym (encodes-chars text utf8)) ∙ (undo_chars (chars text)).0 in
     ap of_chars is ∙ spelled (unescaped (chars text)) (unescaped_all (chars text) made).0
@@ -212,14 +212,14 @@ unescaped_made text h =
 escape_made : (c : ℕ) (cs : List ℕ) → is_xml_char c ≡ true → all_made cs ≡ true → all_made (escape_of c ++ cs) ≡ true
 escape_made c cs made rest =
     elim (nat_eq c 10) as (λ v. all_made (cond v (92 ∷ 110 ∷ []) (cond (nat_eq c 9) (92 ∷ 116 ∷ []) (cond (nat_eq c 13) (92 ∷ 114 ∷ []) (cond (nat_eq c 92) (92 ∷ 92 ∷ []) (c ∷ [])))) ++ cs) ≡ true) [
-      | true ↦ and _ _ backslash (and _ _ letter_n rest)
+      | true ↦ and_from _ _ backslash (and_from _ _ letter_n rest)
       | false ↦ elim (nat_eq c 9) as (λ v. all_made (cond v (92 ∷ 116 ∷ []) (cond (nat_eq c 13) (92 ∷ 114 ∷ []) (cond (nat_eq c 92) (92 ∷ 92 ∷ []) (c ∷ []))) ++ cs) ≡ true) [
-        | true ↦ and _ _ backslash (and _ _ letter_t rest)
+        | true ↦ and_from _ _ backslash (and_from _ _ letter_t rest)
         | false ↦ elim (nat_eq c 13) as (λ v. all_made (cond v (92 ∷ 114 ∷ []) (cond (nat_eq c 92) (92 ∷ 92 ∷ []) (c ∷ [])) ++ cs) ≡ true) [
-          | true ↦ and _ _ backslash (and _ _ letter_r rest)
+          | true ↦ and_from _ _ backslash (and_from _ _ letter_r rest)
           | false ↦ elim (nat_eq c 92) as (λ v. all_made (cond v (92 ∷ 92 ∷ []) (c ∷ []) ++ cs) ≡ true) [
-            | true ↦ and _ _ backslash (and _ _ backslash rest)
-            | false ↦ and _ _ made rest
+            | true ↦ and_from _ _ backslash (and_from _ _ backslash rest)
+            | false ↦ and_from _ _ made rest
           ]
         ]
       ]
@@ -227,7 +227,7 @@ escape_made c cs made rest =
 
 escaped_all : (cs : List ℕ) → all_made cs ≡ true → all_made (escaped cs) ≡ true
 escaped_all [] h = refl
-escaped_all (c ∷ cs) h = let here = both (is_xml_char c) _ h in escape_made c (escaped cs) here.0 (escaped_all cs here.1)
+escaped_all (c ∷ cs) h = let here = and_parts (is_xml_char c) _ h in escape_made c (escaped cs) here.0 (escaped_all cs here.1)
 
 low_escape : (c : ℕ) (cs : List ℕ) → c < 128 → encode_utf8_all (escape_of c ++ cs) ≡ escape_of c ++ encode_utf8_all cs
 low_escape c cs low =
@@ -264,7 +264,7 @@ escape_chars (c ∷ cs) = escape_one c cs (escape_chars cs)
 pub escaped_made : (text : List ℕ) → of_chars text ≡ true → of_chars (escaped text) ≡ true
 escaped_made text h =
     let utf8 = utf8_of text h in
-    let made = (both (is_utf8 text) _ h).1 in
+    let made = (and_parts (is_utf8 text) _ h).1 in
     let is : escaped text ≡ encode_utf8_all (escaped (chars text)) =
     ap escaped (sym (encodes-chars text utf8)) ∙ escape_chars (chars text) in
     ap of_chars is ∙ spelled (escaped (chars text)) (escaped_all (chars text) made)

@@ -4,13 +4,13 @@ use Rattle.std.proofs.lemmas.List.{append-nil}
 use Rattle.pyx_core.specs.declared.event.Located.{Located}
 use Rattle.pyx_core.specs.declared.fault.PyxFault.{PyxFault}
 use Rattle.pyx_core.specs.declared.fault.PyxKind.{PyxKind}
-use Rattle.pyx_core.specs.declared.line.Line.{Line}
+use Rattle.pyx_core.specs.declared.line_table.Line.{Line}
 use Rattle.pyx_core.specs.declared.mode.Mode.{Mode}
 use Rattle.pyx_core.specs.Before.{closed, completed_by}
 use Rattle.pyx_core.specs.Reading.{Judged, judge, judged, and_then, sound, fault_in}
-use Rattle.pyx_core.specs.Telling.{IsFront}
+use Rattle.pyx_core.specs.inner.Begun.{IsFront}
 
--- lines behind others are judged where no fault came before
+-- lines after others are judged where no fault came before
 abbrev pub unless_fault : Mode → List Line → Option PyxFault → List (List ℕ) → Judged
 unless_fault mode before None lines = judged mode before lines
 unless_fault mode before (Some fault) lines = record { before = before; fault = Some fault }
@@ -30,12 +30,12 @@ judged_append mode before [] more = refl
 judged_append mode before (bytes ∷ lines) more =
     behind_line mode before (judge mode before bytes) lines more (λ line. judged_append mode (line ∷ before) lines more)
 
--- behind good lines
+-- after good lines
 pub judged_behind : (mode : Mode) (lines more : List (List ℕ)) (before good : List Line) → judged mode before lines ≡ sound good →
     judged mode before (lines ++ more) ≡ judged mode good more
 judged_behind mode lines more before good is = judged_append mode before lines more ∙ rw is refl
 
--- behind a fault
+-- after a fault
 whole : (found : Judged) (fault : PyxFault) → found.fault ≡ Some fault → found ≡ record { before = found.before; fault = Some fault }
 whole found fault is = ap (λ f. record { before = found.before; fault = f }) is
 

@@ -1,7 +1,7 @@
-pub mod CutLemmas
+pub mod LinesLemmas
 pub mod EscapeLemmas
 pub mod EventCountLemmas
-pub mod FeedLemmas
+pub mod CuttingLemmas
 pub mod JudgeLemmas
 pub mod LineLemmas
 pub mod LineTableLemmas
@@ -12,7 +12,7 @@ pub mod ReadBack
 pub mod ReplayLemmas
 pub mod StandingLemmas
 pub mod StayLemmas
-pub mod TellingLemmas
+pub mod BegunLemmas
 pub mod TextLemmas
 pub mod WrittenLemmas
 pub mod Undoing

@@ -22,7 +22,7 @@ some_end [] end less is = absurd (omega arith)
 some_end (b ∷ bytes) zero less is = rw is refl
 some_end (b ∷ bytes) (suc end) less is = grind (arith, common_steps, some_end bytes end)
 
--- the first line and the lines behind it
+-- the first line and the lines after it
 pub first_line : (bytes : List ℕ) (end : ℕ) → end < length bytes → NoEndBelow bytes end →
     is_line_end (get_or bytes end 0) ≡ true →
     ended_lines bytes ≡ take end bytes ∷ ended_lines (drop (suc end) bytes)
@@ -33,7 +33,7 @@ first_line (b ∷ bytes) (suc end) less none is =
     first_line bytes end (omega arith) (below_later b bytes end none) is in
     rw (not_first b bytes end none, later) refl
 
--- what is behind the last line end stands behind the first one
+-- what is after the last line end stands after the first one
 pub behind_first : (bytes : List ℕ) (end : ℕ) → end < length bytes → NoEndBelow bytes end →
     is_line_end (get_or bytes end 0) ≡ true → unended bytes ≡ unended (drop (suc end) bytes)
 behind_first [] end less none is = absurd (omega arith)

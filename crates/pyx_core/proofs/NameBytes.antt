@@ -5,7 +5,7 @@ use Rattle.std.specs.List.{list_any, list_all, position_or_len, before_first, af
 use Rattle.std.specs.Option.{is_some}
 use Rattle.std.specs.Str.{chars, NoCharPasses, NonePass}
 use Rattle.std.proofs.Math.Seq.{take-append_seam, drop-append-add}
-use Rattle.std.proofs.lemmas.Bool.{cases_lt, eqb-true}
+use Rattle.std.proofs.lemmas.Bool.{cases_lt, eqb-true, and_parts}
 use Rattle.std.proofs.lemmas.Bool.Decides.{nat_tests}
 use Rattle.std.proofs.lemmas.Grind.{common_steps}
 use Rattle.std.proofs.lemmas.Str.{encodes-chars, NoCharPasses-byte}
@@ -13,7 +13,7 @@ use Rattle.sch_base.specs.Characters.{is_name_start, is_name_char}
 use Rattle.sch_base.specs.Names.{is_ncname, is_ncname_of, is_colon}
 use Rattle.pyx_core.specs.LineTable.{is_qname, is_space}
 use Rattle.pyx_core.specs.Nesting.{of_chars}
-use Rattle.pyx_core.proofs.TextLemmas.{both, utf8_of, front_ascii, behind_front, cut_at}
+use Rattle.pyx_core.proofs.TextLemmas.{utf8_of, front_ascii, behind_front, cut_at}
 
 -- whether a byte stands in a text
 abbrev pub holds : ℕ → List ℕ → Bool
@@ -40,13 +40,13 @@ differs p c d false is passes fails = is
 rest_without : (d : ℕ) (cs : List ℕ) → NoName d → list_all is_name_char cs ≡ true → NonePass (λ b. nat_eq b d) cs
 rest_without d [] free h = tt
 rest_without d (c ∷ cs) free h =
-    let here = both (is_name_char c) _ h in
+    let here = and_parts (is_name_char c) _ h in
     (differs is_name_char c d (nat_eq c d) refl here.0 free.no_char, rest_without d cs free here.1)
 
 name_without : (d : ℕ) (cs : List ℕ) → NoName d → is_ncname_of cs ≡ true → NonePass (λ b. nat_eq b d) cs
 name_without d [] free h = tt
 name_without d (c ∷ cs) free h =
-    let here = both (is_name_start c) _ h in
+    let here = and_parts (is_name_start c) _ h in
     (differs is_name_start c d (nat_eq c d) refl here.0 free.no_start, rest_without d cs free here.1)
 
 high_differs : (b d : ℕ) → d < 128 → 128 ≤ b → nat_eq b d ≡ false
@@ -82,7 +82,7 @@ qname_by d name true some free colon made h =
     let parts_made : of_chars (before_first is_colon name ++ 58 ∷ after_first is_colon name) ≡ true = ap of_chars (sym cut) ∙ made in
     let front = front_ascii 58 (before_first is_colon name) (after_first is_colon name) (omega arith) parts_made in
     let back = behind_front 58 (before_first is_colon name) (after_first is_colon name) (omega arith) parts_made in
-    let names = both (is_ncname (before_first is_colon name)) (is_ncname (after_first is_colon name))
+    let names = and_parts (is_ncname (before_first is_colon name)) (is_ncname (after_first is_colon name))
     (some_split _ _ (rw some at h)) in
     let one = ncname_without d (before_first is_colon name) free (utf8_of _ front) names.0 in
     let other = ncname_without d (after_first is_colon name) free (utf8_of _ back) names.1 in
@@ -94,7 +94,7 @@ pub qname_without : (d : ℕ) (name : List ℕ) → NoName d → nat_eq 58 d ≡
     holds d name ≡ false
 qname_without d name free colon made h = qname_by d name (list_any is_colon name) refl free colon made h
 
--- a name without a space, and what is behind the space
+-- a name without a space, and what is after the space
 space_place : (name text : List ℕ) → list_any is_space name ≡ false → position_or_len is_space (name ++ 32 ∷ text) ≡ length name
 space_place [] text none = refl
 space_place (b ∷ name) text none = grind (arith, common_steps, space_place name text)

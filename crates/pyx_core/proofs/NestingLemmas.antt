@@ -7,7 +7,7 @@ use Rattle.std.proofs.Math.Bool.{or-true, and-true}
 use Rattle.std.proofs.lemmas.Str.{IsUtf8-nil, chars-nil}
 use Rattle.pyx_core.specs.Lines.{ended_lines, unended}
 use Rattle.pyx_core.specs.declared.fault.PyxFault.{PyxFault}
-use Rattle.std.proofs.lemmas.Bool.{cases_lt}
+use Rattle.std.proofs.lemmas.Bool.{cases_lt, and_parts, and_from}
 use Rattle.std.proofs.lemmas.Bool.Decides.{nat_tests}
 use Rattle.std.proofs.lemmas.Slice.Eq.{bytes_eq-Decides}
 use Rattle.std.proofs.lemmas.List.{append-nil, map-append}
@@ -18,15 +18,15 @@ use Rattle.pyx_core.specs.declared.event.Event.TheVariants as event
 use Rattle.pyx_core.specs.declared.event.Located.{Located}
 use Rattle.pyx_core.specs.declared.fault.PyxKind.{PyxKind}
 use Rattle.pyx_core.specs.declared.fault.PyxKind.TheVariants.{BadName, UnknownLine}
-use Rattle.pyx_core.specs.declared.line.Line.{Line}
-use Rattle.pyx_core.specs.declared.line.Line.TheVariants.{Skipped, Start, Attribute, End, Chars, Pi, Comment}
+use Rattle.pyx_core.specs.declared.line_table.Line.{Line}
+use Rattle.pyx_core.specs.declared.line_table.Line.TheVariants.{Skipped, Start, Attribute, End, Chars, Pi, Comment}
 use Rattle.pyx_core.specs.declared.mode.Mode.{Mode}
 use Rattle.pyx_core.specs.declared.mode.Mode.TheVariants.{Document, Fragment}
 use Rattle.pyx_core.specs.Before.{is_nil, is_fragment, outer, open_names, at_top, is_innermost, takes_attribute, has_item, is_second, located, is_outside, kept, attr_onto, with_attr, begin_text, text_onto, with_text, pending, is_chars, is_text, but_text, closed, misplaced, lacking}
-use Rattle.pyx_core.specs.LineTable.{is_qname, is_target, is_space, name_part, text_part, start_line, end_line, attribute_line, pi_line, chars_line, comment_line, marked_line, text_line, line_of}
+use Rattle.pyx_core.specs.LineTable.{is_qname, is_target, is_space, name_part, text_part, read_start, read_end, read_attribute, read_pi, read_chars, read_comment, read_marked, read_text, line_of}
 use Rattle.pyx_core.specs.Nesting.{Place, start, after, of_chars, is_name, is_pi_name, is_attr, CharsFit, Fits, Nest, place_after, IsEnd, bare, EventsNest}
 use Rattle.pyx_core.specs.Reading.{unless, placed, judge, judged, and_then, ended, so_far, in_all, completed, events_of, fault_of, or_lacking, end_fault}
-use Rattle.pyx_core.proofs.TextLemmas.{both, and, of_chars_append, behind_ascii, parts_made, made_of}
+use Rattle.pyx_core.proofs.TextLemmas.{of_chars_append, behind_ascii, parts_made, made_of}
 use Rattle.pyx_core.proofs.EscapeLemmas.{unescaped_made}
 use Rattle.pyx_core.proofs.StandingLemmas.{begins, begins_takes, is_start}
 
@@ -52,33 +52,33 @@ named : (v : Bool) (line : Line) → (v ≡ true → WellMade line) → IfMade (
 named true line h = h refl
 named false line h = tt
 
-marked_made : (mark : ℕ) (body : List ℕ) → of_chars body ≡ true → IfMade (marked_line mark body)
+marked_made : (mark : ℕ) (body : List ℕ) → of_chars body ≡ true → IfMade (read_marked mark body)
 marked_made mark body h =
     let parts = parts_made body h in
-    if_made (mark == 40) (start_line body) _ (named (is_qname body) (Start body) (λ q. and _ _ h q))
-    (if_made (mark == 65) (attribute_line body) _
+    if_made (mark == 40) (read_start body) _ (named (is_qname body) (Start body) (λ q. and_from _ _ h q))
+    (if_made (mark == 65) (read_attribute body) _
     (named (is_qname (name_part body)) (Attribute (record { name = name_part body; value = text_part body }))
-    (λ q. and _ _ (and _ _ parts.0 q) (unescaped_made (after_first is_space body) parts.1)))
-    (if_made (mark == 41) (end_line body) _ (named (is_qname body) (End body) (λ q. and _ _ h q))
-    (if_made (mark == 45 || mark == 91) (chars_line body) _ (unescaped_made body h)
-    (if_made (mark == 63) (pi_line body) _
+    (λ q. and_from _ _ (and_from _ _ parts.0 q) (unescaped_made (after_first is_space body) parts.1)))
+    (if_made (mark == 41) (read_end body) _ (named (is_qname body) (End body) (λ q. and_from _ _ h q))
+    (if_made (mark == 45 || mark == 91) (read_chars body) _ (unescaped_made body h)
+    (if_made (mark == 63) (read_pi body) _
     (named (is_target (name_part body)) (Pi (name_part body) (text_part body))
-    (λ q. (and _ _ parts.0 q, unescaped_made (after_first is_space body) parts.1)))
-    (if_made (mark == 67) (comment_line body) _ (unescaped_made body h)
+    (λ q. (and_from _ _ parts.0 q, unescaped_made (after_first is_space body) parts.1)))
+    (if_made (mark == 67) (read_comment body) _ (unescaped_made body h)
     (if_made (mark == 68 || mark == 78 || mark == 85) (Ok Skipped) _ tt
     (if_made (mark == 38) (Err _) (Err UnknownLine) tt tt)))))))
 
-unknown_mark : (mark : ℕ) (body : List ℕ) → 128 ≤ mark → marked_line mark body ≡ Err UnknownLine
+unknown_mark : (mark : ℕ) (body : List ℕ) → 128 ≤ mark → read_marked mark body ≡ Err UnknownLine
 unknown_mark mark body high = grind (arith, nat_tests)
 
-text_made : (bytes : List ℕ) → of_chars bytes ≡ true → IfMade (text_line bytes)
+text_made : (bytes : List ℕ) → of_chars bytes ≡ true → IfMade (read_text bytes)
 text_made [] h = tt
 text_made (mark ∷ body) h = ⊎_elim
     (λ (low : mark < 128). marked_made mark body (behind_ascii mark body low h))
     (λ (high : 128 ≤ mark). rw (unknown_mark mark body high) tt) (cases_lt mark 128)
 
 line_by : (bytes : List ℕ) (v w : Bool) → is_utf8 bytes ≡ v → list_all is_xml_char (chars bytes) ≡ w → IfMade (line_of bytes)
-line_by bytes true true utf8 made = rw (utf8, made) (text_made bytes (and _ _ utf8 made))
+line_by bytes true true utf8 made = rw (utf8, made) (text_made bytes (and_from _ _ utf8 made))
 line_by bytes true false utf8 made = rw (utf8, made) tt
 line_by bytes false w utf8 made = rw utf8 tt
 
@@ -99,7 +99,7 @@ good_placed : (mode : Mode) (before : List Line) (found : Result Line PyxKind) �
 good_placed mode before (Ok line) made = good_unless mode before line (misplaced mode before line) made refl
 good_placed mode before (Err kind) made = tt
 
--- the events nest, and this is the place behind them
+-- the events nest, and this is the place after them
 pub record Well (mode : Mode) (events : List Event) (place : Place) : Type 0 where
   pub nests : Nest mode start events
   pub place_is : place_after mode start events ≡ place
@@ -141,12 +141,12 @@ well_other mode events place e f well fits =
       place_is = placed_joined mode start events (f ∷ []);
     }
 
--- the place behind the events of these lines
+-- the place after the events of these lines
 abbrev pub place_of : Mode → List Line → Place
 place_of mode before = record {
   opened = open_names before;
   begun = has_item mode before;
-  behind_chars = is_text (pending mode before);
+  after_chars = is_text (pending mode before);
 }
 
 abbrev pub Nested : Mode → List Line → Type 0
@@ -207,10 +207,10 @@ comment_nests mode before text well made second =
 attr_all : (attrs : List Attr) (attr : Attr) → list_all is_attr attrs ≡ true → is_attr attr ≡ true →
     list_all is_attr (attrs ++ attr ∷ []) ≡ true
 attr_all [] attr all one = rw one refl
-attr_all (a ∷ attrs) attr all one = let here = both (is_attr a) _ all in and _ _ here.0 (attr_all attrs attr here.1 one)
+attr_all (a ∷ attrs) attr all one = let here = and_parts (is_attr a) _ all in and_from _ _ here.0 (attr_all attrs attr here.1 one)
 
 attr_event : (mode : Mode) (done : List Located) (place : Place) (attr : Attr) (line : ℕ) (e : Event) → is_start e ≡ true →
-    is_attr attr ≡ true → Well mode (bare (done ++ located line e ∷ [])) place → place.behind_chars ≡ false →
+    is_attr attr ≡ true → Well mode (bare (done ++ located line e ∷ [])) place → place.after_chars ≡ false →
     Well mode (bare ((done ++ []) ++ located line (attr_onto attr e) ∷ [])) place
 attr_event mode done place attr line (event.Start name attrs) begun made well apart =
     let old = rw (bare_append done (located line (event.Start name attrs) ∷ [])) at well in
@@ -241,9 +241,9 @@ start_no_text (event.Comment text) h = absurd (cc)
 
 attr_pending : (mode : Mode) (done : List Located) (opened : List (List ℕ)) (item : Bool) (attr : Attr) (begun : Option Located) →
     begins begun ≡ true → is_attr attr ≡ true →
-    Well mode (bare (done ++ option_to_list begun)) (record { opened = opened; begun = item; behind_chars = is_text begun }) →
+    Well mode (bare (done ++ option_to_list begun)) (record { opened = opened; begun = item; after_chars = is_text begun }) →
     Well mode (bare ((done ++ []) ++ option_to_list (with_attr attr begun)))
-    (record { opened = opened; begun = item; behind_chars = is_text (with_attr attr begun) })
+    (record { opened = opened; begun = item; after_chars = is_text (with_attr attr begun) })
 attr_pending mode done opened item attr None h made well = absurd (cc)
 attr_pending mode done opened item attr (Some p) h made well =
     let one = start_no_text p.event h in
@@ -274,10 +274,10 @@ open_item mode (Comment text ∷ before) h = rw (open_item mode before h) (or-tr
 -- characters begin
 abbrev pub behind_text : Place → ℕ → List ℕ → Place
 behind_text place number text =
-    record { opened = place.opened; begun = not (is_nil text) || place.begun; behind_chars = is_text (begin_text number text) }
+    record { opened = place.opened; begun = not (is_nil text) || place.begun; after_chars = is_text (begin_text number text) }
 
 text_begun : (mode : Mode) (done : List Located) (place : Place) (number : ℕ) (text : List ℕ) → Well mode (bare done) place →
-    place.behind_chars ≡ false → (text ≢ [] → CharsFit mode place text) →
+    place.after_chars ≡ false → (text ≢ [] → CharsFit mode place text) →
     Well mode (bare (done ++ option_to_list (begin_text number text))) (behind_text place number text)
 text_begun mode done place number [] well apart fits =
     rw (append-nil done) (record { nests = well.nests; place_is = well.place_is ∙ rw apart refl })
@@ -285,19 +285,19 @@ text_begun mode done place number (b ∷ text) well apart fits =
     rw (bare_append done (located number (event.Chars (b ∷ text)) ∷ []))
     (well_more mode (bare done) place (event.Chars (b ∷ text)) well (fits (λ e. absurd (cc))))
 
--- characters behind an event
+-- characters after an event
 not_nil_append : (had text : List ℕ) → had ≢ [] → had ++ text ≢ []
 not_nil_append [] text some = λ e. some refl
 not_nil_append (b ∷ had) text some = λ e. absurd (cc)
 
 chars_joined : (mode : Mode) (done : List Located) (opened : List (List ℕ)) (item : Bool) (line : ℕ) (had text : List ℕ) →
-    Well mode (bare (done ++ located line (event.Chars had) ∷ [])) (record { opened = opened; begun = item; behind_chars = true }) →
+    Well mode (bare (done ++ located line (event.Chars had) ∷ [])) (record { opened = opened; begun = item; after_chars = true }) →
     of_chars text ≡ true →
     Well mode (bare ((done ++ []) ++ located line (event.Chars (had ++ text)) ∷ []))
-    (record { opened = opened; begun = true; behind_chars = true })
+    (record { opened = opened; begun = true; after_chars = true })
     × (item ≡ true)
 chars_joined mode done opened item line had text well made =
-    let place : Place = record { opened = opened; begun = item; behind_chars = true } in
+    let place : Place = record { opened = opened; begun = item; after_chars = true } in
     let old = rw (bare_append done (located line (event.Chars had) ∷ [])) at well in
     let new = well_other mode (bare done) place (event.Chars had) (event.Chars (had ++ text)) old
     (λ p fits is. record {
@@ -316,28 +316,28 @@ chars_joined mode done opened item line had text well made =
       sym all,
     )
 
--- characters behind what is begun
+-- characters after what is begun
 pub record Joins (mode : Mode) (opened : List (List ℕ)) (item more : Bool) (text : List ℕ) (behind : Bool) : Type 0 where
   pub made : of_chars text ≡ true
-  pub fits : behind ≡ false → text ≢ [] → CharsFit mode (record { opened = opened; begun = item; behind_chars = false }) text
+  pub fits : behind ≡ false → text ≢ [] → CharsFit mode (record { opened = opened; begun = item; after_chars = false }) text
   pub goes_on : item ≡ true → more ≡ true
   pub begins_item : behind ≡ false → (not (is_nil text) || item) ≡ more
 
 chars_fresh : (mode : Mode) (done : List Located) (opened : List (List ℕ)) (item more : Bool) (number : ℕ) (text : List ℕ) →
-    Well mode (bare done) (record { opened = opened; begun = item; behind_chars = false }) →
+    Well mode (bare done) (record { opened = opened; begun = item; after_chars = false }) →
     Joins mode opened item more text false →
     Well mode (bare (done ++ option_to_list (begin_text number text)))
-    (record { opened = opened; begun = more; behind_chars = is_text (begin_text number text) })
+    (record { opened = opened; begun = more; after_chars = is_text (begin_text number text) })
 chars_fresh mode done opened item more number text well joins =
     rw (joins.begins_item refl) at
-    (text_begun mode done (record { opened = opened; begun = item; behind_chars = false }) number text well refl (joins.fits refl))
+    (text_begun mode done (record { opened = opened; begun = item; after_chars = false }) number text well refl (joins.fits refl))
 
 chars_behind : (mode : Mode) (done : List Located) (opened : List (List ℕ)) (item more : Bool) (number : ℕ) (text : List ℕ)
     (line : ℕ) (e : Event) →
-    Well mode (bare (done ++ located line e ∷ [])) (record { opened = opened; begun = item; behind_chars = is_chars e }) →
+    Well mode (bare (done ++ located line e ∷ [])) (record { opened = opened; begun = item; after_chars = is_chars e }) →
     Joins mode opened item more text (is_chars e) →
     Well mode (bare ((done ++ but_text (Some (located line e))) ++ option_to_list (text_onto number text line e)))
-    (record { opened = opened; begun = more; behind_chars = is_text (text_onto number text line e) })
+    (record { opened = opened; begun = more; after_chars = is_text (text_onto number text line e) })
 chars_behind mode done opened item more number text line (event.Start name attrs) well joins =
     chars_fresh mode (done ++ located line (event.Start name attrs) ∷ []) opened item more number text well joins
 chars_behind mode done opened item more number text line (event.End name) well joins =
@@ -352,10 +352,10 @@ chars_behind mode done opened item more number text line (event.Comment comment)
 
 chars_pending : (mode : Mode) (done : List Located) (opened : List (List ℕ)) (item more : Bool) (number : ℕ) (text : List ℕ)
     (begun : Option Located) →
-    Well mode (bare (done ++ option_to_list begun)) (record { opened = opened; begun = item; behind_chars = is_text begun }) →
+    Well mode (bare (done ++ option_to_list begun)) (record { opened = opened; begun = item; after_chars = is_text begun }) →
     Joins mode opened item more text (is_text begun) →
     Well mode (bare ((done ++ but_text begun) ++ option_to_list (with_text number text begun)))
-    (record { opened = opened; begun = more; behind_chars = is_text (with_text number text begun) })
+    (record { opened = opened; begun = more; after_chars = is_text (with_text number text begun) })
 chars_pending mode done opened item more number text None well joins =
     chars_fresh mode (done ++ []) opened item more number text well joins
 chars_pending mode done opened item more number text (Some p) well joins =

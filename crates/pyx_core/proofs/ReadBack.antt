@@ -6,8 +6,8 @@ use Rattle.std.proofs.lemmas.List.{append-nil}
 use Rattle.pyx_core.specs.declared.event.Attr.{Attr}
 use Rattle.pyx_core.specs.declared.event.Event.{Event}
 use Rattle.pyx_core.specs.declared.event.Event.TheVariants as event
-use Rattle.pyx_core.specs.declared.line.Line.{Line}
-use Rattle.pyx_core.specs.declared.line.Line.TheVariants.{Skipped}
+use Rattle.pyx_core.specs.declared.line_table.Line.{Line}
+use Rattle.pyx_core.specs.declared.line_table.Line.TheVariants.{Skipped}
 use Rattle.pyx_core.specs.declared.mode.Mode.{Mode}
 use Rattle.pyx_core.specs.Before.{open_names, has_item, pending, closed}
 use Rattle.pyx_core.specs.Escapes.{escape_of, escaped}
@@ -15,11 +15,12 @@ use Rattle.pyx_core.specs.LineTable.{is_qname, is_target}
 use Rattle.pyx_core.specs.Nesting.{Place, start, after, of_chars, is_name, is_pi_name, is_attr, Fits, Nest, place_after, IsEnd, bare}
 use Rattle.pyx_core.specs.Reading.{judged, sound, ended, in_all, events_of, or_lacking}
 use Rattle.pyx_core.specs.Written.{text_of, Gives, WrittenIsReadBack}
-use Rattle.pyx_core.proofs.CutLemmas.{has_end, any_none}
+use Rattle.pyx_core.proofs.LinesLemmas.{has_end, any_none}
 use Rattle.pyx_core.proofs.NameBytes.{line_end_no_name, ncname_without, qname_without}
 use Rattle.pyx_core.proofs.NestingLemmas.{events_nest, empty_made}
 use Rattle.pyx_core.proofs.ReplayLemmas.{raws, replay_all, line_is, judge_good, name_of, named_after}
-use Rattle.pyx_core.proofs.TextLemmas.{both, and, utf8_of}
+use Rattle.std.proofs.lemmas.Bool.{and_parts, and_from}
+use Rattle.pyx_core.proofs.TextLemmas.{utf8_of}
 use Rattle.pyx_core.proofs.WrittenLemmas.{joined, joined_append, joined_ends, are_lines, raw, attr_raw, event_text}
 
 -- no line ends within what is written
@@ -42,22 +43,22 @@ escaped_plain (b ∷ text) = any_none (escape_of b) (escaped text) (escape_plain
 
 name_plain : (name : List ℕ) → is_name name ≡ true → has_end name ≡ false
 name_plain name h =
-    let parts = both (of_chars name) (is_qname name) h in
+    let parts = and_parts (of_chars name) (is_qname name) h in
     qname_without 10 name line_end_no_name refl parts.0 parts.1
 
 target_plain : (target : List ℕ) → is_pi_name target ≡ true → has_end target ≡ false
 target_plain target h =
-    let parts = both (of_chars target) (is_target target) h in
-    ncname_without 10 target line_end_no_name (utf8_of target parts.0) (both _ _ parts.1).0
+    let parts = and_parts (of_chars target) (is_target target) h in
+    ncname_without 10 target line_end_no_name (utf8_of target parts.0) (and_parts _ _ parts.1).0
 
 attr_plain : (attr : Attr) → is_attr attr ≡ true → has_end (attr_raw attr) ≡ false
 attr_plain attr h =
-    any_none attr.name (32 ∷ escaped attr.value) (name_plain attr.name (both (is_name attr.name) _ h).0) (escaped_plain attr.value)
+    any_none attr.name (32 ∷ escaped attr.value) (name_plain attr.name (and_parts (is_name attr.name) _ h).0) (escaped_plain attr.value)
 
 attrs_plain : (attrs : List Attr) → list_all is_attr attrs ≡ true → are_lines (map attr_raw attrs) ≡ true
 attrs_plain [] h = refl
 attrs_plain (attr ∷ attrs) h =
-    let here = both (is_attr attr) _ h in and _ _ (rw (attr_plain attr here.0) refl) (attrs_plain attrs here.1)
+    let here = and_parts (is_attr attr) _ h in and_from _ _ (rw (attr_plain attr here.0) refl) (attrs_plain attrs here.1)
 
 one_plain : (line : List ℕ) → has_end line ≡ false → are_lines (line ∷ []) ≡ true
 one_plain line h = rw h refl
@@ -65,7 +66,7 @@ one_plain line h = rw h refl
 raw_plain : (mode : Mode) (place : Place) (e : Event) → Fits mode place e → list_all is_name place.opened ≡ true →
     are_lines (raw e) ≡ true
 raw_plain mode place (event.Start name attrs) fits h =
-    and _ _ (rw (name_plain name fits.named) refl) (attrs_plain attrs fits.attributes)
+    and_from _ _ (rw (name_plain name fits.named) refl) (attrs_plain attrs fits.attributes)
 raw_plain mode place (event.End name) fits h =
     one_plain (41 ∷ name) (name_plain name (name_of name place.opened fits h))
 raw_plain mode place (event.Chars text) fits h = one_plain (45 ∷ escaped text) (escaped_plain text)
@@ -77,7 +78,7 @@ raw_plain mode place (event.Comment text) fits h = one_plain (67 ∷ escaped tex
 lines_append : (xs ys : List (List ℕ)) → are_lines xs ≡ true → are_lines ys ≡ true → are_lines (xs ++ ys) ≡ true
 lines_append [] ys one other = other
 lines_append (line ∷ xs) ys one other =
-    let here = both (not (has_end line)) _ one in and _ _ here.0 (lines_append xs ys here.1 other)
+    let here = and_parts (not (has_end line)) _ one in and_from _ _ here.0 (lines_append xs ys here.1 other)
 
 raws_plain : (mode : Mode) (place : Place) (events : List Event) → Nest mode place events →
     list_all is_name place.opened ≡ true → are_lines (raws events) ≡ true

@@ -8,13 +8,13 @@ use Rattle.pyx_core.specs.declared.fault.PyxFault.{PyxFault}
 use Rattle.pyx_core.specs.declared.mode.Mode.{Mode}
 use Rattle.pyx_core.specs.declared.reader.Reader.{Reader}
 use Rattle.pyx_core.specs.Before.{closed}
-use Rattle.pyx_core.specs.Cutting.{Keeps, Fed, Finished}
-use Rattle.pyx_core.specs.Feeding.{waiting, Reads, Refuses, Feeds, Finishes, error_of, stops, answer_of, IfFault, ReadsAll}
+use Rattle.pyx_core.specs.inner.Cutting.{Keeps, Fed, Finished}
+use Rattle.pyx_core.specs.Reader.{waiting, Reads, Refuses, Feeds, Finishes, error_of, stops, answer_of, IfFault, ReadsAll}
 use Rattle.pyx_core.specs.Reading.{so_far, completed, fault_so_far, or_lacking, fault_of, events_unless, events_before_fault}
 use Rattle.pyx_core.specs.Lines.{ended_lines, unended}
 use Rattle.pyx_core.proofs.JudgeLemmas.{judged_stopped}
 
-pub reads_from : (reader : Reader) (mode : Mode) (fed : List ℕ) (taken : List Located) → Keeps reader.lines mode fed taken →
+pub reads_from : (reader : Reader) (mode : Mode) (fed : List ℕ) (taken : List Located) → Keeps reader.cutting mode fed taken →
     reader.stopped ≡ None → Reads reader mode fed taken
 reads_from reader mode fed taken keeps runs = record {
   good = ap (λ j. j.fault) keeps.good;
@@ -24,7 +24,7 @@ reads_from reader mode fed taken keeps runs = record {
 }
 
 pub feeds : (reader : Reader) (mode : Mode) (fed : List ℕ) (taken : List Located) (found : Result (Option PyxFault) AllocError) →
-    Fed reader.lines mode fed taken found → reader.stopped ≡ stops None (error_of found) →
+    Fed reader.cutting mode fed taken found → reader.stopped ≡ stops None (error_of found) →
     Feeds reader mode fed taken (answer_of (error_of found))
 feeds reader mode fed taken (Ok None) told stopped = reads_from reader mode fed taken told stopped
 feeds reader mode fed taken (Ok (Some fault)) told stopped =
@@ -32,7 +32,7 @@ feeds reader mode fed taken (Ok (Some fault)) told stopped =
 feeds reader mode fed taken (Err error) told stopped = record { stopped = stopped; front = told }
 
 pub finishes : (reader : Reader) (mode : Mode) (fed : List ℕ) (taken : List Located) (found : Result (Option PyxFault) AllocError) →
-    Finished reader.lines mode fed taken found → reader.stopped ≡ stops None (error_of found) →
+    Finished reader.cutting mode fed taken found → reader.stopped ≡ stops None (error_of found) →
     Finishes reader mode fed taken (answer_of (error_of found))
 finishes reader mode fed taken (Ok None) told stopped =
     record { good = sym told.0; events = told.1 ∙ ap (events_unless mode fed) (sym told.0) }

@@ -11,26 +11,27 @@ use Rattle.pyx_core.specs.declared.event.Event.{Event}
 use Rattle.pyx_core.specs.declared.event.Event.TheVariants as event
 use Rattle.pyx_core.specs.declared.event.Located.{Located}
 use Rattle.pyx_core.specs.declared.fault.PyxKind.TheVariants.{SecondRoot, AttributePlace, WrongEnd}
-use Rattle.pyx_core.specs.declared.line.Line.{Line}
-use Rattle.pyx_core.specs.declared.line.Line.TheVariants.{Start, Attribute, End, Chars, Pi, Comment}
+use Rattle.pyx_core.specs.declared.line_table.Line.{Line}
+use Rattle.pyx_core.specs.declared.line_table.Line.TheVariants.{Start, Attribute, End, Chars, Pi, Comment}
 use Rattle.pyx_core.specs.declared.mode.Mode.{Mode}
 use Rattle.pyx_core.specs.declared.mode.Mode.TheVariants.{Document, Fragment}
 use Rattle.pyx_core.specs.Before.{is_nil, is_fragment, outer, open_names, at_top, is_innermost, takes_attribute, has_item, is_second, located, is_outside, kept, with_attr, begin_text, text_onto, with_text, pending, is_chars, is_text, but_text, closed, misplaced}
 use Rattle.pyx_core.specs.Escapes.{escaped}
-use Rattle.pyx_core.specs.LineTable.{is_qname, is_target, text_line, line_of}
+use Rattle.pyx_core.specs.LineTable.{is_qname, is_target, read_text, line_of}
 use Rattle.pyx_core.specs.Nesting.{Place, after, of_chars, is_name, is_pi_name, is_attr, CharsFit, Fits, Nest, place_after, bare}
 use Rattle.pyx_core.specs.Reading.{judge, judged, ended}
 use Rattle.pyx_core.proofs.EscapeLemmas.{escaped_made, spelled, one_low}
 use Rattle.pyx_core.proofs.NameBytes.{space_no_name, ncname_without, qname_without, before_space, after_space}
 use Rattle.pyx_core.proofs.NestingLemmas.{place_of, bare_append, open_item}
 use Rattle.pyx_core.proofs.StandingLemmas.{begins, begins_takes}
-use Rattle.pyx_core.proofs.TextLemmas.{both, and, utf8_of, of_chars_append}
+use Rattle.std.proofs.lemmas.Bool.{and_parts, and_from}
+use Rattle.pyx_core.proofs.TextLemmas.{utf8_of, of_chars_append}
 use Rattle.pyx_core.proofs.Undoing.{unescaped-escaped}
 use Rattle.pyx_core.proofs.WrittenLemmas.{raw, attr_raw}
 
 -- a good line by itself
-pub line_is : (bytes : List ℕ) → of_chars bytes ≡ true → line_of bytes ≡ text_line bytes
-line_is bytes h = let parts = both (is_utf8 bytes) _ h in rw (parts.0, parts.1) refl
+pub line_is : (bytes : List ℕ) → of_chars bytes ≡ true → line_of bytes ≡ read_text bytes
+line_is bytes h = let parts = and_parts (is_utf8 bytes) _ h in rw (parts.0, parts.1) refl
 
 one_made : (mark : ℕ) → mark < 128 → is_xml_char mark ≡ true → of_chars (mark ∷ []) ≡ true
 one_made mark low is = ap of_chars (sym (one_low mark [] low)) ∙ spelled (mark ∷ []) (rw is refl)
@@ -70,12 +71,12 @@ mark_space = refl
 -- each written line is the one meant
 start_is : (name : List ℕ) → is_name name ≡ true → line_of (40 ∷ name) ≡ Ok (Start name)
 start_is name h =
-    let parts = both (of_chars name) _ h in
+    let parts = and_parts (of_chars name) _ h in
     line_is (40 ∷ name) (mark_made 40 name (omega arith) mark_start parts.0) ∙ rw parts.1 refl
 
 end_is : (name : List ℕ) → is_name name ≡ true → line_of (41 ∷ name) ≡ Ok (End name)
 end_is name h =
-    let parts = both (of_chars name) _ h in
+    let parts = and_parts (of_chars name) _ h in
     line_is (41 ∷ name) (mark_made 41 name (omega arith) mark_end parts.0) ∙ rw parts.1 refl
 
 chars_is : (text : List ℕ) → of_chars text ≡ true → line_of (45 ∷ escaped text) ≡ Ok (Chars text)
@@ -94,8 +95,8 @@ body_made name text one other =
 
 attr_is : (attr : Attr) → is_attr attr ≡ true → line_of (attr_raw attr) ≡ Ok (Attribute attr)
 attr_is attr h =
-    let all = both (is_name attr.name) (of_chars attr.value) h in
-    let name = both (of_chars attr.name) (is_qname attr.name) all.0 in
+    let all = and_parts (is_name attr.name) (of_chars attr.value) h in
+    let name = and_parts (of_chars attr.name) (is_qname attr.name) all.0 in
     let free = qname_without 32 attr.name space_no_name refl name.0 name.1 in
     line_is (attr_raw attr) (mark_made 65 (attr.name ++ (32 ∷ escaped attr.value)) (omega arith) mark_attr
     (body_made attr.name attr.value name.0 all.1))
@@ -109,8 +110,8 @@ attr_is attr h =
 pi_is : (target body : List ℕ) → is_pi_name target ≡ true → of_chars body ≡ true →
     line_of (63 ∷ (target ++ (32 ∷ escaped body))) ≡ Ok (Pi target body)
 pi_is target body h made =
-    let name = both (of_chars target) (is_target target) h in
-    let local = both _ _ name.1 in
+    let name = and_parts (of_chars target) (is_target target) h in
+    let local = and_parts _ _ name.1 in
     let free = ncname_without 32 target space_no_name (utf8_of target name.0) local.0 in
     line_is (63 ∷ (target ++ (32 ∷ escaped body))) (mark_made 63 (target ++ (32 ∷ escaped body)) (omega arith) mark_pi
     (body_made target body name.0 made))
@@ -120,7 +121,7 @@ pub judge_good : (mode : Mode) (before : List Line) (bytes : List ℕ) (line : L
     misplaced mode before line ≡ None → judge mode before bytes ≡ Ok line
 judge_good mode before bytes line is good = rw (is, good) refl
 
--- the lines are good behind those before, and give these events
+-- the lines are good after those before, and give these events
 pub record Replays (mode : Mode) (before : List Line) (lines : List (List ℕ)) (events : List Event) (place : Place) : Type 0 where
   pub good : List Line
   pub judged_is : (more : List (List ℕ)) → judged mode before (lines ++ more) ≡ judged mode good more
@@ -181,7 +182,7 @@ replay_comment mode before text fits =
     (ap (λ v. cond v (Some SecondRoot) None) (no_second (is_fragment mode) (at_top before) (has_item mode before) fits.room)))
     (own_event mode before (suc (length before)) (event.Comment text)) refl
 
--- characters behind what isn't characters
+-- characters after what isn't characters
 begin_some : (number : ℕ) (text : List ℕ) → text ≢ [] → begin_text number text ≡ Some (located number (event.Chars text))
 begin_some number [] some = absurd (some refl)
 begin_some number (b ∷ text) some = refl
@@ -217,8 +218,8 @@ chars_line_in mode before text all good item fits =
     (ap (λ b. bare ((closed mode before ++ but_text (pending mode before)) ++ option_to_list b)) begun
     ∙ (ap (λ b. bare ((closed mode before ++ b) ++ located (suc (length before)) (event.Chars text) ∷ [])) but
     ∙ bare_append (ended mode before) (located (suc (length before)) (event.Chars text) ∷ [])))
-    (ap (λ b. record { opened = open_names before; begun = has_item mode (Chars text ∷ before); behind_chars = is_text b }) begun
-    ∙ ap (λ v. record { opened = open_names before; begun = v; behind_chars = true }) item)
+    (ap (λ b. record { opened = open_names before; begun = has_item mode (Chars text ∷ before); after_chars = is_text b }) begun
+    ∙ ap (λ v. record { opened = open_names before; begun = v; after_chars = true }) item)
 
 replay_chars : (mode : Mode) (before : List Line) (text : List ℕ) → CharsFit mode (place_of mode before) text →
     Replays mode before (raw (event.Chars text)) (event.Chars text ∷ []) (after mode (place_of mode before) (event.Chars text))
@@ -250,7 +251,7 @@ replay_attrs mode before [] had line name begun made = record {
   place_is = refl;
 }
 replay_attrs mode before (attr ∷ attrs) had line name begun made =
-    let here = both (is_attr attr) _ made in
+    let here = and_parts (is_attr attr) _ made in
     let takes : takes_attribute before ≡ true = sym (begins_takes mode before) ∙ ap begins begun in
     let next : pending mode (Attribute attr ∷ before) ≡ Some (located line (event.Start name (had ++ attr ∷ []))) =
     ap (with_attr attr) begun in
@@ -263,7 +264,7 @@ replay_attrs mode before (attr ∷ attrs) had line name begun made =
       events_are = rest.events_are ∙ (ap (λ l. bare l ++ event.Start name ((had ++ attr ∷ []) ++ attrs) ∷ []) (append-nil (closed mode before))
           ∙ ap (λ a. bare (closed mode before) ++ event.Start name a ∷ []) (append_assoc had (attr ∷ []) attrs));
       place_is = rest.place_is
-          ∙ ap (λ v. record { opened = open_names before; begun = has_item mode before; behind_chars = v })
+          ∙ ap (λ v. record { opened = open_names before; begun = has_item mode before; after_chars = v })
           (ap is_text next ∙ sym (ap is_text begun));
     }
 
@@ -284,15 +285,15 @@ replay_start mode before name attrs fits =
 
 -- the open names are names
 pub name_of : (name : List ℕ) (names : List (List ℕ)) → names ≡ name ∷ outer names → list_all is_name names ≡ true → is_name name ≡ true
-name_of name names is all = (both (is_name name) _ (ap (list_all is_name) (sym is) ∙ all)).0
+name_of name names is all = (and_parts (is_name name) _ (ap (list_all is_name) (sym is) ∙ all)).0
 
 pub outer_named : (names : List (List ℕ)) → list_all is_name names ≡ true → list_all is_name (outer names) ≡ true
 outer_named [] h = refl
-outer_named (name ∷ names) h = (both (is_name name) _ h).1
+outer_named (name ∷ names) h = (and_parts (is_name name) _ h).1
 
 pub named_after : (mode : Mode) (place : Place) (e : Event) → Fits mode place e → list_all is_name place.opened ≡ true →
     list_all is_name (after mode place e).opened ≡ true
-named_after mode place (event.Start name attrs) fits h = and _ _ fits.named h
+named_after mode place (event.Start name attrs) fits h = and_from _ _ fits.named h
 named_after mode place (event.End name) fits h = outer_named place.opened h
 named_after mode place (event.Chars text) fits h = h
 named_after mode place (event.Pi target body) fits h = h

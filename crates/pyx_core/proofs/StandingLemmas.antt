@@ -7,21 +7,21 @@ use Rattle.pyx_core.specs.declared.event.Attr.{Attr}
 use Rattle.pyx_core.specs.declared.event.Located.{Located}
 use Rattle.pyx_core.specs.declared.fault.PyxKind.{PyxKind}
 use Rattle.pyx_core.specs.declared.fault.PyxKind.TheVariants.{SecondRoot}
-use Rattle.pyx_core.specs.declared.line.Line.{Line}
-use Rattle.pyx_core.specs.declared.line.Line.TheVariants.{Skipped, Start, Attribute, End, Chars, Pi, Comment}
+use Rattle.pyx_core.specs.declared.line_table.Line.{Line}
+use Rattle.pyx_core.specs.declared.line_table.Line.TheVariants.{Skipped, Start, Attribute, End, Chars, Pi, Comment}
 use Rattle.pyx_core.specs.declared.mode.Mode.{Mode}
 use Rattle.std.specs.Bool.{then_some}
 use Rattle.std.specs.Option.{option_to_list}
 use Rattle.std.specs.Result.{IsErr}
 use Rattle.std.proofs.lemmas.Result.{MatchResult-from_err}
-use Rattle.pyx_core.proofs.TellingLemmas.{front_of, front_all, front_more}
+use Rattle.pyx_core.proofs.BegunLemmas.{front_of, front_all, front_more}
 use Rattle.std.proofs.Math.Seq.{take-append_seam, take-nil}
-use Rattle.pyx_core.specs.declared.reading.Reading.{Reading}
+use Rattle.pyx_core.specs.declared.standing.Standing.{Standing}
 use Rattle.pyx_core.specs.declared.begun.Begun.{Begun}
 use Rattle.pyx_core.specs.declared.begun.Begun.TheVariants as begun
 use Rattle.pyx_core.specs.Before.{outer, open_names, has_item, closed, completed_by, lacking, takes_attribute, pending, is_outside, kept, attr_onto, with_attr, begin_text, text_onto, with_text}
-use Rattle.pyx_core.specs.Standing.{piled, Reads, Settles, Takes, EndsWith, Ends}
-use Rattle.pyx_core.specs.Telling.{shown, Goes}
+use Rattle.pyx_core.specs.inner.Standing.{piled, HasRead, Settles, TakesLine, TakesGoodLast, TakesLast}
+use Rattle.pyx_core.specs.inner.Begun.{shown, Goes}
 
 pub length_piled : (names : List (List ℕ)) → length (piled names) ≡ length names
 length_piled [] = refl
@@ -83,7 +83,7 @@ not_element begun.Nothing no_start = refl
 not_element (begun.Element line name attrs) no_start = absurd (no_start line name attrs refl)
 not_element (begun.Text line text) no_start = refl
 
--- the names behind an end
+-- the names after an end
 pub popped : (items rest : List (List ℕ)) (count : ℕ) (names : List (List ℕ)) → items ≡ piled names →
     count ≡ length items → rest ≡ take (count - 1) items → rest ≡ piled (outer names)
 popped items rest count [] is counted pops = pops ∙ (ap (take (count - 1)) is ∙ take-nil (count - 1))
@@ -93,14 +93,14 @@ popped items rest count (name ∷ names) is counted pops =
     pops ∙ (ap (λ n. take n items) less ∙ (ap (take (length (piled names))) is ∙ take-append_seam (piled names) (name ∷ [])))
 
 -- a line that left its traces was read
-pub settles : {T E : Type 0} (reading : Reading) (mode : Mode) (taken : List Located) (before : List Line) (line : Line)
-    (result : Result T E) → reading.mode ≡ mode → reading.opened.items ≡ piled (open_names (line ∷ before)) →
-    reading.has_item ≡ has_item mode (line ∷ before) →
-    Goes reading.events taken (closed mode before) (completed_by mode before line) (pending mode (line ∷ before)) result →
-    Settles reading mode taken before line result
-settles reading mode taken before line (Ok x) mode_is opened item goes =
+pub settles : {T E : Type 0} (standing : Standing) (mode : Mode) (taken : List Located) (before : List Line) (line : Line)
+    (result : Result T E) → standing.mode ≡ mode → standing.opened.items ≡ piled (open_names (line ∷ before)) →
+    standing.has_item ≡ has_item mode (line ∷ before) →
+    Goes standing.events taken (closed mode before) (completed_by mode before line) (pending mode (line ∷ before)) result →
+    Settles standing mode taken before line result
+settles standing mode taken before line (Ok x) mode_is opened item goes =
     record { mode_is = mode_is; opened = opened; item = item; told = goes }
-settles reading mode taken before line (Err e) mode_is opened item goes = goes
+settles standing mode taken before line (Err e) mode_is opened item goes = goes
 
 -- the rule that a second item at the top breaks
 abbrev pub second : Bool → Option PyxKind
@@ -111,28 +111,28 @@ second_is true = refl
 second_is false = refl
 
 -- without memory a line was not read
-pub takes_none : {E : Type 0} (reading : Reading) (mode : Mode) (taken : List Located) (before : List Line)
-    (found : Result Line PyxKind) (result : Result (Option PyxKind) E) → Reads reading mode taken before → IsErr result →
-    Takes reading mode taken before found result
-takes_none reading mode taken before (Ok line) result reads err =
+pub takes_none : {E : Type 0} (standing : Standing) (mode : Mode) (taken : List Located) (before : List Line)
+    (found : Result Line PyxKind) (result : Result (Option PyxKind) E) → HasRead standing mode taken before → IsErr result →
+    TakesLine standing mode taken before found result
+takes_none standing mode taken before (Ok line) result reads err =
     MatchResult-from_err result _ _ err (λ _. front_of _ (closed mode before) (completed_by mode before line) reads.told.completed)
-takes_none reading mode taken before (Err kind) result reads err =
+takes_none standing mode taken before (Err kind) result reads err =
     MatchResult-from_err result _ _ err (λ _. front_all _ (closed mode before) reads.told.completed)
 
-ends_none_with : {E : Type 0} (reading : Reading) (mode : Mode) (taken : List Located) (before : List Line)
-    (line : Line) (lacks : Option PyxKind) (result : Result (Option PyxKind) E) → Reads reading mode taken before →
-    IsErr result → EndsWith reading mode taken before line lacks result
-ends_none_with reading mode taken before line (Some kind) result reads err =
+ends_none_with : {E : Type 0} (standing : Standing) (mode : Mode) (taken : List Located) (before : List Line)
+    (line : Line) (lacks : Option PyxKind) (result : Result (Option PyxKind) E) → HasRead standing mode taken before →
+    IsErr result → TakesGoodLast standing mode taken before line lacks result
+ends_none_with standing mode taken before line (Some kind) result reads err =
     MatchResult-from_err result _ _ err (λ _. front_all _ (closed mode before) reads.told.completed)
-ends_none_with reading mode taken before line None result reads err =
+ends_none_with standing mode taken before line None result reads err =
     MatchResult-from_err result _ _ err
     (λ _. front_more _ (closed mode (line ∷ before)) (option_to_list (pending mode (line ∷ before)))
     (front_of _ (closed mode before) (completed_by mode before line) reads.told.completed))
 
-pub ends_none : {E : Type 0} (reading : Reading) (mode : Mode) (taken : List Located) (before : List Line)
-    (found : Result Line PyxKind) (result : Result (Option PyxKind) E) → Reads reading mode taken before → IsErr result →
-    Ends reading mode taken before found result
-ends_none reading mode taken before (Ok line) result reads err =
-    ends_none_with reading mode taken before line (lacking mode (line ∷ before)) result reads err
-ends_none reading mode taken before (Err kind) result reads err =
+pub ends_none : {E : Type 0} (standing : Standing) (mode : Mode) (taken : List Located) (before : List Line)
+    (found : Result Line PyxKind) (result : Result (Option PyxKind) E) → HasRead standing mode taken before → IsErr result →
+    TakesLast standing mode taken before found result
+ends_none standing mode taken before (Ok line) result reads err =
+    ends_none_with standing mode taken before line (lacking mode (line ∷ before)) result reads err
+ends_none standing mode taken before (Err kind) result reads err =
     MatchResult-from_err result _ _ err (λ _. front_all _ (closed mode before) reads.told.completed)

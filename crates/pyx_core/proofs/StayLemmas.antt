@@ -7,11 +7,11 @@ use Rattle.pyx_core.specs.declared.mode.Mode.{Mode}
 use Rattle.pyx_core.specs.Before.{closed, pending}
 use Rattle.pyx_core.specs.Lines.{ended_lines, unended}
 use Rattle.pyx_core.specs.Reading.{Judged, judged, so_far, in_all, completed, FaultsStay, CompletedEventsStay}
-use Rattle.pyx_core.specs.Telling.{IsFront}
-use Rattle.pyx_core.proofs.CutLemmas.{ended_append}
+use Rattle.pyx_core.specs.inner.Begun.{IsFront}
+use Rattle.pyx_core.proofs.LinesLemmas.{ended_append}
 use Rattle.pyx_core.proofs.JudgeLemmas.{judged_stopped, judged_append, unless_fault, closed_front}
 use Rattle.pyx_core.proofs.ReaderLemmas.{fault_stays}
-use Rattle.pyx_core.proofs.TellingLemmas.{front_more}
+use Rattle.pyx_core.proofs.BegunLemmas.{front_more}
 
 so_far_stays : (mode : Mode) (bytes more : List ℕ) (fault : PyxFault) → (so_far mode bytes).fault ≡ Some fault →
     so_far mode (bytes ++ more) ≡ so_far mode bytes
@@ -29,7 +29,7 @@ stays mode bytes more fault is =
       events = ap (λ j. closed mode j.before) same;
     }
 
--- what more lines complete comes behind
+-- what more lines complete comes after
 more_lines : (mode : Mode) (found : Judged) (fault : Option PyxFault) (lines : List (List ℕ)) → found.fault ≡ fault →
     IsFront (closed mode found.before) (closed mode (unless_fault mode found.before fault lines).before)
 more_lines mode found None lines is = closed_front mode found.before lines

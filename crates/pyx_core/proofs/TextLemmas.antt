@@ -5,7 +5,7 @@ use Rattle.std.specs.Char.{encode_utf8}
 use Rattle.std.specs.List.{list_any, list_all, position_or_len, before_first, after_first}
 use Rattle.std.specs.Str.{chars, is_utf8}
 use Rattle.std.proofs.Math.Seq.{take-append_seam, drop-append_seam, get_or-append_seam}
-use Rattle.std.proofs.lemmas.Bool.{eqb-true}
+use Rattle.std.proofs.lemmas.Bool.{eqb-true, and_parts, and_from}
 use Rattle.std.proofs.lemmas.Grind.{common_steps}
 use Rattle.std.proofs.lemmas.List.Folds.{list_all-append}
 use Rattle.std.proofs.lemmas.Str.{IsUtf8-from_is_utf8, is_utf8-from_IsUtf8, IsUtf8-append, IsUtf8-nil, IsUtf8-from_ascii, chars-nil, IsUtf8-past_char, IsUtf8-take, IsUtf8-drop, IsCharBoundary-before_ascii, chars-append, encode_ascii}
@@ -14,18 +14,11 @@ use Rattle.pyx_core.proofs.LineTableLemmas.{before_none, after_none}
 use Rattle.pyx_core.specs.LineTable.{is_space}
 use Rattle.pyx_core.specs.Nesting.{of_chars}
 
-pub both : (a b : Bool) → (a && b) ≡ true → (a ≡ true) × (b ≡ true)
-both true b h = (refl, h)
-both false b h = absurd (cc)
-
-pub and : (a b : Bool) → a ≡ true → b ≡ true → (a && b) ≡ true
-and a b one other = rw (one, other) refl
-
 pub utf8_of : (text : List ℕ) → of_chars text ≡ true → IsUtf8 text
-utf8_of text h = IsUtf8-from_is_utf8 text (both (is_utf8 text) _ h).0
+utf8_of text h = IsUtf8-from_is_utf8 text (and_parts (is_utf8 text) _ h).0
 
 pub made_of : (text : List ℕ) → IsUtf8 text → list_all is_xml_char (chars text) ≡ true → of_chars text ≡ true
-made_of text utf8 made = and (is_utf8 text) _ (is_utf8-from_IsUtf8 text utf8) made
+made_of text utf8 made = and_from (is_utf8 text) _ (is_utf8-from_IsUtf8 text utf8) made
 
 all_of : (xs ys : List ℕ) → IsUtf8 xs →
     list_all is_xml_char (chars (xs ++ ys)) ≡ (list_all is_xml_char (chars xs) && list_all is_xml_char (chars ys))
@@ -34,12 +27,12 @@ all_of xs ys utf8 = ap (list_all is_xml_char) (chars-append xs ys utf8) ∙ list
 pub of_chars_append : (xs ys : List ℕ) → of_chars xs ≡ true → of_chars ys ≡ true → of_chars (xs ++ ys) ≡ true
 of_chars_append xs ys one other =
     made_of (xs ++ ys) (IsUtf8-append xs ys (utf8_of xs one) (utf8_of ys other))
-    (all_of xs ys (utf8_of xs one) ∙ and _ _ (both (is_utf8 xs) _ one).1 (both (is_utf8 ys) _ other).1)
+    (all_of xs ys (utf8_of xs one) ∙ and_from _ _ (and_parts (is_utf8 xs) _ one).1 (and_parts (is_utf8 ys) _ other).1)
 
 pub of_chars_parts : (xs ys : List ℕ) → IsUtf8 xs → IsUtf8 ys → of_chars (xs ++ ys) ≡ true →
     (of_chars xs ≡ true) × (of_chars ys ≡ true)
 of_chars_parts xs ys one other h =
-    let all = both _ _ (sym (all_of xs ys one) ∙ (both (is_utf8 (xs ++ ys)) _ h).1) in
+    let all = and_parts _ _ (sym (all_of xs ys one) ∙ (and_parts (is_utf8 (xs ++ ys)) _ h).1) in
     (made_of xs one all.0, made_of ys other all.1)
 
 ascii_at : (c : ℕ) → c < 128 → (i : ℕ) → get_or (c ∷ []) i 0 < 128
@@ -49,7 +42,7 @@ ascii_at c low (suc i) = omega arith
 pub ascii_utf8 : (c : ℕ) → c < 128 → IsUtf8 (c ∷ [])
 ascii_utf8 c low = IsUtf8-from_ascii (c ∷ []) (ascii_at c low)
 
--- behind an ASCII character, and in front of one
+-- after an ASCII character, and in front of one
 pub behind_ascii : (c : ℕ) (text : List ℕ) → c < 128 → of_chars (c ∷ text) ≡ true → of_chars text ≡ true
 behind_ascii c text low h =
     let is : c ∷ text ≡ encode_utf8 c ++ text = ap (λ l. l ++ text) (sym (encode_ascii c low)) in
@@ -111,7 +104,7 @@ parts_by xs false none h =
       ap of_chars (after_none is_space xs whole) ∙ made_of [] IsUtf8-nil (rw chars-nil refl),
     )
 
--- the parts of a line behind its mark
+-- the parts of a line after its mark
 pub parts_made : (xs : List ℕ) → of_chars xs ≡ true →
     (of_chars (before_first is_space xs) ≡ true) × (of_chars (after_first is_space xs) ≡ true)
 parts_made xs h = parts_by xs (list_any is_space xs) refl h

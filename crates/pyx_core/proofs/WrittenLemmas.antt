@@ -1,3 +1,4 @@
+use Rattle.std.proofs.lemmas.Bool.{and_parts}
 -- The lines of events are read back.
 use Rattle.std.proofs.Common.{◌≡◌, ◌≢◌, ℕ, Bool, true, false, not, List, [], ◌∷◌, ◌++◌, map, refl, sym, ◌∙◌, ap, append_assoc}
 use Rattle.std.specs.List.{list_all}
@@ -8,8 +9,7 @@ use Rattle.pyx_core.specs.declared.event.Event.TheVariants as event
 use Rattle.pyx_core.specs.Escapes.{escaped}
 use Rattle.pyx_core.specs.Lines.{ended_lines, unended}
 use Rattle.pyx_core.specs.Written.{start_line, attr_line, end_line, chars_line, pi_line, comment_line, attr_lines, event_lines}
-use Rattle.pyx_core.proofs.CutLemmas.{has_end, half_ended, half_left}
-use Rattle.pyx_core.proofs.TextLemmas.{both}
+use Rattle.pyx_core.proofs.LinesLemmas.{has_end, half_ended, half_left}
 
 -- lines that end, as one text
 abbrev pub joined : List (List ℕ) → List ℕ
@@ -32,7 +32,7 @@ not_true false h = refl
 pub joined_ends : (lines : List (List ℕ)) → are_lines lines ≡ true → (ended_lines (joined lines) ≡ lines) × (unended (joined lines) ≡ [])
 joined_ends [] h = (refl, refl)
 joined_ends (line ∷ lines) h =
-    let here = both (not (has_end line)) _ h in
+    let here = and_parts (not (has_end line)) _ h in
     let plain = not_true (has_end line) here.0 in
     let rest = joined_ends lines here.1 in (
       half_ended line (10 ∷ joined lines) [] (ended_lines (joined lines)) plain refl

@@ -1,4 +1,4 @@
--- Where a line stands: behind the good lines before it, which are listed newest first.
+-- Where a line stands: after the good lines before it, which are listed newest first.
 use Rattle.std.specs.Prelude.{ℕ, suc, Bool, true, false, not, ◌&&◌, if◌then◌else◌, List, [], ◌∷◌, ◌++◌, length, Option, None, Some}
 use Rattle.std.specs.List.{list_any, list_all}
 use Rattle.std.specs.Option.{option_to_list}
@@ -10,8 +10,8 @@ use Rattle.pyx_core.specs.declared.event.Event.TheVariants as event
 use Rattle.pyx_core.specs.declared.event.Located.{Located}
 use Rattle.pyx_core.specs.declared.fault.PyxKind.{PyxKind}
 use Rattle.pyx_core.specs.declared.fault.PyxKind.TheVariants.{AttributePlace, WrongEnd, TextOutside, SecondRoot, NoRoot, Unfinished}
-use Rattle.pyx_core.specs.declared.line.Line.{Line}
-use Rattle.pyx_core.specs.declared.line.Line.TheVariants.{Skipped, Start, Attribute, End, Chars, Pi, Comment}
+use Rattle.pyx_core.specs.declared.line_table.Line.{Line}
+use Rattle.pyx_core.specs.declared.line_table.Line.TheVariants.{Skipped, Start, Attribute, End, Chars, Pi, Comment}
 use Rattle.pyx_core.specs.declared.mode.Mode.{Mode}
 use Rattle.pyx_core.specs.declared.mode.Mode.TheVariants.{Document, Fragment}
 
@@ -29,7 +29,7 @@ abbrev pub outer : List (List ℕ) → List (List ℕ)
 outer [] = []
 outer (name ∷ names) = names
 
--- the names of the elements that are open behind these lines, the innermost first
+-- the names of the elements that are open after these lines, the innermost first
 abbrev pub open_names : List Line → List (List ℕ)
 open_names [] = []
 open_names (Skipped ∷ before) = open_names before
@@ -91,7 +91,7 @@ is_outside mode before = not (is_fragment mode) && at_top before
 abbrev pub kept : Bool → List ℕ → List ℕ
 kept outside text = if outside then [] else text
 
--- an attribute behind those of a start
+-- an attribute after those of a start
 abbrev pub attr_onto : Attr → Event → Event
 attr_onto attr (event.Start name attrs) = event.Start name (attrs ++ attr ∷ [])
 attr_onto attr (event.End name) = event.End name
@@ -108,7 +108,7 @@ abbrev pub begin_text : ℕ → List ℕ → Option Located
 begin_text number [] = None
 begin_text number (b ∷ text) = Some (located number (event.Chars (b ∷ text)))
 
--- characters of a line behind an event: they join characters
+-- characters of a line after an event: they join characters
 abbrev pub text_onto : ℕ → List ℕ → ℕ → Event → Option Located
 text_onto number text line (event.Start name attrs) = begin_text number text
 text_onto number text line (event.End name) = begin_text number text
@@ -166,7 +166,7 @@ abbrev pub closed : Mode → List Line → List Located
 closed mode [] = []
 closed mode (line ∷ before) = closed mode before ++ completed_by mode before line
 
--- the rule that a line breaks behind these lines
+-- the rule that a line breaks after these lines
 abbrev pub misplaced : Mode → List Line → Line → Option PyxKind
 misplaced mode before Skipped = None
 misplaced mode before (Start name) = if is_second mode before (Start name) then Some SecondRoot else None
@@ -179,7 +179,7 @@ misplaced Fragment before (Chars text) =
 misplaced mode before (Pi target body) = if is_second mode before (Pi target body) then Some SecondRoot else None
 misplaced mode before (Comment text) = if is_second mode before (Comment text) then Some SecondRoot else None
 
--- the rule that the text breaks if it ends behind these lines
+-- the rule that the text breaks if it ends after these lines
 abbrev pub lacking : Mode → List Line → Option PyxKind
 lacking mode before =
     if has_item mode before then (if at_top before then None else Some Unfinished) else Some NoRoot

@@ -1,11 +1,9 @@
 pub mod Before
-pub mod Cutting
 pub mod Escapes
-pub mod Feeding
 pub mod Lines
 pub mod LineTable
 pub mod Nesting
+pub mod Reader
 pub mod Reading
-pub mod Standing
-pub mod Telling
 pub mod Written
+pub mod inner

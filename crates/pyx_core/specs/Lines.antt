@@ -17,7 +17,7 @@ ended_lines [] = []
 ended_lines (b ∷ bytes) =
     if is_line_end b then [] ∷ ended_lines bytes else onto_ended b (ended_lines bytes)
 
--- what stands behind the last line end
+-- what stands after the last line end
 abbrev pub unended : List ℕ → List ℕ
 unended [] = []
 unended (b ∷ bytes) = if list_any is_line_end (b ∷ bytes) then unended bytes else b ∷ bytes

@@ -17,21 +17,21 @@ use Rattle.pyx_core.specs.Reading.{completed, events_of, fault_of}
 pub record Place : Type 0 where
   pub opened : List (List ℕ)
   pub begun : Bool
-  pub behind_chars : Bool
+  pub after_chars : Bool
 
 -- the place in front of all events
 abbrev pub start : Place
-start = record { opened = []; begun = false; behind_chars = false }
+start = record { opened = []; begun = false; after_chars = false }
 
--- the place behind an event
+-- the place after an event
 abbrev pub after : Mode → Place → Event → Place
-after mode place (Start name attrs) = record { opened = name ∷ place.opened; begun = true; behind_chars = false }
-after mode place (End name) = record { opened = outer place.opened; begun = place.begun; behind_chars = false }
-after mode place (Chars text) = record { opened = place.opened; begun = true; behind_chars = true }
+after mode place (Start name attrs) = record { opened = name ∷ place.opened; begun = true; after_chars = false }
+after mode place (End name) = record { opened = outer place.opened; begun = place.begun; after_chars = false }
+after mode place (Chars text) = record { opened = place.opened; begun = true; after_chars = true }
 after mode place (Pi target body) =
-    record { opened = place.opened; begun = is_fragment mode || place.begun; behind_chars = false }
+    record { opened = place.opened; begun = is_fragment mode || place.begun; after_chars = false }
 after mode place (Comment text) =
-    record { opened = place.opened; begun = is_fragment mode || place.begun; behind_chars = false }
+    record { opened = place.opened; begun = is_fragment mode || place.begun; after_chars = false }
 
 -- an item that the text may have once at its top may stand here
 abbrev pub HasRoom : Place → Type 0
@@ -58,11 +58,11 @@ pub record StartFits (place : Place) (name : List ℕ) (attrs : List Attr) : Typ
   pub named : is_name name ≡ true
   pub attributes : list_all is_attr attrs ≡ true
 
--- characters, of which there is at least one: in a document inside an element, and never behind characters
+-- characters, of which there is at least one: in a document inside an element, and never after characters
 pub record CharsFit (mode : Mode) (place : Place) (text : List ℕ) : Type 0 where
   pub inside : is_fragment mode ≡ false → is_nil place.opened ≡ false
   pub room : is_fragment mode ≡ true → HasRoom place
-  pub apart : place.behind_chars ≡ false
+  pub apart : place.after_chars ≡ false
   pub some : text ≢ []
   pub made : of_chars text ≡ true
 
@@ -85,12 +85,12 @@ Fits mode place (Chars text) = CharsFit mode place text
 Fits mode place (Pi target body) = PiFits mode place target body
 Fits mode place (Comment text) = CommentFits mode place text
 
--- each of the events may come behind those before it
+-- each of the events may come after those before it
 abbrev pub Nest : Mode → Place → List Event → Type 0
 Nest mode place [] = Unit {0}
 Nest mode place (event ∷ events) = Fits mode place event × Nest mode (after mode place event) events
 
--- the place behind all of the events
+-- the place after all of the events
 abbrev pub place_after : Mode → Place → List Event → Place
 place_after mode place [] = place
 place_after mode place (event ∷ events) = place_after mode (after mode place event) events
@@ -104,7 +104,7 @@ pub record IsEnd (place : Place) : Type 0 where
 abbrev pub bare : List Located → List Event
 bare events = map (λ found. found.event) events
 
--- the completed events of any bytes nest, and so do the events of a text, behind which it may end; events that nest
+-- the completed events of any bytes nest, and so do the events of a text, after which it may end; events that nest
 -- do so up to each of them and from there on
 pub record EventsNest : Type 0 where
   pub so_far : (mode : Mode) (bytes : List ℕ) → Nest mode start (bare (completed mode bytes))

@@ -4,7 +4,7 @@ use Rattle.std.specs.Option.{option_to_list}
 use Rattle.pyx_core.specs.declared.event.Located.{Located}
 use Rattle.pyx_core.specs.declared.fault.PyxFault.{PyxFault}
 use Rattle.pyx_core.specs.declared.fault.PyxKind.{PyxKind}
-use Rattle.pyx_core.specs.declared.line.Line.{Line}
+use Rattle.pyx_core.specs.declared.line_table.Line.{Line}
 use Rattle.pyx_core.specs.declared.mode.Mode.{Mode}
 use Rattle.pyx_core.specs.Before.{pending, closed, misplaced, lacking}
 use Rattle.pyx_core.specs.Lines.{ended_lines, unended}
@@ -19,7 +19,7 @@ abbrev pub unless : Line → Option PyxKind → Result Line PyxKind
 unless line None = Ok line
 unless line (Some kind) = Err kind
 
--- a line that is good by itself, behind the lines before it
+-- a line that is good by itself, after the lines before it
 abbrev pub placed : Mode → List Line → Result Line PyxKind → Result Line PyxKind
 placed mode before (Err kind) = Err kind
 placed mode before (Ok line) = unless line (misplaced mode before line)
@@ -36,7 +36,7 @@ pub record Judged : Type 0 where
 abbrev pub sound : List Line → Judged
 sound lines = record { before = lines; fault = None }
 
--- a fault in the line behind these
+-- a fault in the line after these
 abbrev pub faulty : List Line → PyxKind → Judged
 faulty lines what = record { before = lines; fault = Some (fault_in (suc (length lines)) what) }
 
@@ -45,7 +45,7 @@ abbrev pub and_then : List Line → Result Line PyxKind → (Line → Judged) �
 and_then before (Ok line) next = next line
 and_then before (Err kind) next = faulty before kind
 
--- each of the lines in turn, behind those before it
+-- each of the lines in turn, after those before it
 abbrev pub judged : Mode → List Line → List (List ℕ) → Judged
 judged mode before [] = sound before
 judged mode before (bytes ∷ lines) =
@@ -67,7 +67,7 @@ completed mode bytes = closed mode (so_far mode bytes).before
 abbrev pub fault_so_far : Mode → List ℕ → Option PyxFault
 fault_so_far mode bytes = (so_far mode bytes).fault
 
--- a fault behind the last of these lines, of which it has the number: that of the line ends plus 1
+-- a fault after the last of these lines, of which it has the number: that of the line ends plus 1
 abbrev pub end_fault : List Line → Option PyxKind → Option PyxFault
 end_fault before None = None
 end_fault before (Some kind) = Some (fault_in (length before) kind)
@@ -81,7 +81,7 @@ or_lacking mode before None = end_fault before (lacking mode before)
 abbrev pub fault_of : Mode → List ℕ → Option PyxFault
 fault_of mode bytes = or_lacking mode (in_all mode bytes).before (in_all mode bytes).fault
 
--- the events of these lines, if the text ends behind them
+-- the events of these lines, if the text ends after them
 abbrev pub ended : Mode → List Line → List Located
 ended mode before = closed mode before ++ option_to_list (pending mode before)
 
@@ -107,7 +107,7 @@ abbrev pub FaultsStay : Type 0
 FaultsStay = (mode : Mode) (bytes more : List ℕ) (fault : PyxFault) → fault_so_far mode bytes ≡ Some fault →
     FaultStays mode bytes more fault
 
--- an event that is completed stays: what more bytes complete, and the events of the text, come behind those
+-- an event that is completed stays: what more bytes complete, and the events of the text, come after those
 pub record CompletedStays (mode : Mode) (bytes more : List ℕ) : Type 0 where
   pub so_far : (later : List Located) × (completed mode (bytes ++ more) ≡ completed mode bytes ++ later)
   pub in_all : fault_of mode (bytes ++ more) ≡ None →

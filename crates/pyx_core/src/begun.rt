@@ -6,9 +6,9 @@ ghost use Rattle.pyx_core.specs.declared.begun.Begun.TheVariants as begun_of;
 ghost use Rattle.pyx_core.specs.declared.event.Event.TheVariants as event;
 ghost use Rattle.pyx_core.specs.declared.event.Located.{Located};
 ghost use Rattle.pyx_core.specs.Before.{located, with_attr, with_text, begin_text, but_text, is_text};
-ghost use Rattle.pyx_core.specs.Telling.{shown, Puts, Tells, Goes};
+ghost use Rattle.pyx_core.specs.inner.Begun.{shown, Puts, Collected, Goes};
 
-use super::{Attr, AttrList, Event, Located};
+use crate::{Attr, AttrList, Event, Located};
 use sch_base::Text;
 use std::alloc::{AllocError, Global};
 use std::collections::VecDeque;
@@ -73,7 +73,7 @@ fn begin_text(alloc: Global, line: u64, text: &str) -> Result<Begun, AllocError>
 
 impl Events {
     pub fn new(alloc: Global) -> Events
-        ensures { Tells result [] [] None }
+        ensures { Collected result [] [] None }
     {
         Events {
             begun: Begun::Nothing,
@@ -83,7 +83,7 @@ impl Events {
 
     /// Completes the begun event.
     pub fn complete(&mut self) -> Result<(), AllocError>
-        ensures { (taken done : List Located) (begun : Option Located) → Tells self.old taken done begun →
+        ensures { (taken done : List Located) (begun : Option Located) → Collected self.old taken done begun →
             Goes self.new taken done (option_to_list begun) None result }
     {
         let begun = mem::replace(&mut self.begun, Begun::Nothing);
@@ -92,7 +92,7 @@ impl Events {
 
     /// Begins an element, which completes the begun event.
     pub fn start(&mut self, alloc: Global, line: u64, name: Text) -> Result<(), AllocError>
-        ensures { (taken done : List Located) (begun : Option Located) → Tells self.old taken done begun →
+        ensures { (taken done : List Located) (begun : Option Located) → Collected self.old taken done begun →
             Goes self.new taken done (option_to_list begun) (Some (located line (event.Start name []))) result }
     {
         self.complete()?;
@@ -103,7 +103,7 @@ impl Events {
 
     /// Puts an attribute to the element that is begun.
     pub fn attribute(&mut self, attr: Attr) -> Result<(), AllocError>
-        ensures { (taken done : List Located) (begun : Option Located) → Tells self.old taken done begun →
+        ensures { (taken done : List Located) (begun : Option Located) → Collected self.old taken done begun →
             Goes self.new taken done [] (with_attr attr begun) result }
     {
         match mem::replace(&mut self.begun, Begun::Nothing) {
@@ -126,7 +126,7 @@ impl Events {
 
     /// Takes characters: they go on with those that are begun, or complete another event and begin.
     pub fn text(&mut self, alloc: Global, line: u64, text: &str) -> Result<(), AllocError>
-        ensures { (taken done : List Located) (begun : Option Located) → Tells self.old taken done begun →
+        ensures { (taken done : List Located) (begun : Option Located) → Collected self.old taken done begun →
             Goes self.new taken done (but_text begun) (with_text line text.now begun) result }
     {
         match mem::replace(&mut self.begun, Begun::Nothing) {
@@ -151,7 +151,7 @@ impl Events {
 
     /// Takes an event that no line continues.
     pub fn whole(&mut self, line: u64, event: Event) -> Result<(), AllocError>
-        ensures { (taken done : List Located) (begun : Option Located) → Tells self.old taken done begun →
+        ensures { (taken done : List Located) (begun : Option Located) → Collected self.old taken done begun →
             Goes self.new taken done (option_to_list begun ++ located line event ∷ []) None result }
     {
         self.complete()?;

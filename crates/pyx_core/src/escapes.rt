@@ -24,7 +24,7 @@ pub fn unescape(alloc: Global, text: &str) -> Result<Text, AllocError>
     Ok(Text::from(plain))
 }
 
-// What a backslash before `text` stands for, and what is left of the text.
+/// What a backslash before `text` stands for, and what is left of the text.
 fn undo(text: &str) -> (&'static str, &str)
     ensures undone { unescaped_after true text.now ≡ result.0.now ++ unescaped result.1.now }
     ensures shorter { length result.1.now ≤ length text.now }
@@ -38,7 +38,7 @@ fn undo(text: &str) -> (&'static str, &str)
     ("\\", text)
 }
 
-// What a backslash and this character stand for, where they are an escape.
+/// What a backslash and this character stand for, where they are an escape.
 fn meaning(mark: char) -> Option<&'static str>
     ensures { MatchOption result (undone mark ≡ 92 ∷ mark ∷ []) (λ plain. (mark < 128) × (plain.now ≡ undone mark)) }
 {

@@ -2,16 +2,16 @@
 #![tactic(auto)]
 
 mod begun;
+mod cutting;
 mod escapes;
 mod event;
 mod fault;
 mod laws;
-mod line;
-mod lines;
+mod line_table;
 mod mode;
 mod reader;
 mod reading;
-mod whole;
+mod standing;
 
 pub use escapes::unescape;
 pub use event::{Attr, AttrList, Event, EventList, Located, LocatedList};
@@ -22,4 +22,4 @@ pub use laws::{
 };
 pub use mode::Mode;
 pub use reader::Reader;
-pub use whole::{Front, read_events, read_front};
+pub use reading::{Front, read_events, read_front};

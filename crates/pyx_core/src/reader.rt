@@ -5,10 +5,10 @@ ghost use Rattle.std.specs.Option.{option_to_list};
 ghost use Rattle.pyx_core.specs.declared.event.Located.{Located};
 ghost use Rattle.pyx_core.specs.declared.fault.FeedError.{FeedError};
 ghost use Rattle.pyx_core.specs.declared.mode.Mode.{Mode};
-ghost use Rattle.pyx_core.specs.Feeding.{Reads, IsStopped, Feeds, Done, Finishes, waiting, error_of, stops, answer_of};
+ghost use Rattle.pyx_core.specs.Reader.{Reads, IsStopped, Feeds, Done, Finishes, waiting, error_of, stops, answer_of};
 
-use super::lines::Lines;
-use super::{FeedError, Located, Mode, PyxFault};
+use crate::cutting::Cutting;
+use crate::{FeedError, Located, Mode, PyxFault};
 use std::alloc::{AllocError, Global};
 
 /// A reader of PYX text that comes in pieces, which are cut anywhere, also within a character or an escape.
@@ -21,7 +21,7 @@ use std::alloc::{AllocError, Global};
 #[derive(Debug, Drop)]
 pub struct Reader {
     alloc: Global,
-    lines: Lines,
+    cutting: Cutting,
     /// Why the reader stopped.
     stopped: Option<FeedError>,
 }
@@ -50,7 +50,7 @@ impl Reader {
     {
         Reader {
             alloc,
-            lines: Lines::new(alloc, mode),
+            cutting: Cutting::new(alloc, mode),
             stopped: None,
         }
     }
@@ -67,7 +67,7 @@ impl Reader {
         if let Some(error) = self.stopped {
             return Err(error);
         }
-        let found = self.lines.feed(self.alloc, piece);
+        let found = self.cutting.feed(self.alloc, piece);
         stop(&mut self.stopped, found)
     }
 
@@ -83,7 +83,7 @@ impl Reader {
         if let Some(error) = self.stopped {
             return Err(error);
         }
-        let found = self.lines.finish(self.alloc);
+        let found = self.cutting.finish(self.alloc);
         stop(&mut self.stopped, found)
     }
 
@@ -97,6 +97,6 @@ impl Reader {
             Done self.new mode fed (taken ++ option_to_list result) }
         ensures stopped { (error : FeedError) → IsStopped self.old error → IsStopped self.new error }
     {
-        self.lines.reading.events.waiting.pop_front()
+        self.cutting.standing.events.waiting.pop_front()
     }
 }

@@ -1,279 +1,76 @@
-//! Lines in their context.
+//! Texts that are read whole.
 
-ghost use Rattle.std.specs.Prelude.{◌≡◌, ◌&&◌, not, ◌++◌, ◌∷◌, [], List, ℕ, suc, length, None, Some, OnOk, OnErr};
-ghost use Rattle.std.specs.List.{list_all};
-ghost use Rattle.std.specs.Str.{chars};
-ghost use Rattle.sch_base.specs.Characters.{is_whitespace};
-ghost use Rattle.pyx_core.specs.declared.line.Line.TheVariants as line_of;
-ghost use Rattle.pyx_core.specs.declared.event.Located.{Located};
-ghost use Rattle.pyx_core.specs.declared.line.Line.{Line};
+ghost use Rattle.std.specs.Prelude.{◌≡◌, ℕ, [], length, None, Some, IfOk, MatchResult};
 ghost use Rattle.pyx_core.specs.declared.mode.Mode.{Mode};
-ghost use Rattle.pyx_core.specs.declared.mode.Mode.TheVariants.{Fragment};
-ghost use Rattle.pyx_core.specs.Before.{is_fragment, is_second, has_item, makes_item, misplaced, lacking, kept, is_outside, at_top, open_names, is_innermost, takes_attribute, is_text, pending};
-ghost use Rattle.pyx_core.specs.Reading.{judge};
-ghost use Rattle.pyx_core.specs.Standing.{Reads, Settles, Takes, Ends};
+ghost use Rattle.pyx_core.specs.Reader.{Reads, Refuses, waiting, IfFault, ReadsAll};
+ghost use Rattle.pyx_core.specs.Reading.{fault_of, events_of, events_before_fault};
 
-use super::begun::{Begun, Events};
-use super::line::{Line, line_of};
-use super::{Event, Mode, PyxKind};
-use sch_base::{Text, is_whitespace};
+use crate::{FeedError, LocatedList, Mode, PyxFault, Reader};
 use std::alloc::{AllocError, Global};
 
-/// What is kept of the lines that were read.
+/// The events of a text up to its end, or up to its first fault.
 #[derive(Debug, Drop)]
-pub struct Reading {
-    pub mode: Mode,
-    /// The names of the open elements, the innermost last.
-    pub opened: Vec<Text>,
-    /// Whether the item that the text may have once at its top has begun.
-    pub has_item: bool,
-    pub events: Events,
+pub struct Front {
+    /// The events; before a fault those that are completed by the lines before it.
+    pub events: LocatedList,
+    /// The first fault, if the text has one.
+    pub fault: Option<PyxFault>,
 }
 
-fn is_fragment(mode: Mode) -> bool
-    ensures { result ≡ is_fragment mode }
+/// Feeds the whole text.
+fn feed_whole(reader: &mut Reader, bytes: &[u8]) -> Result<(), FeedError>
+    ensures { (mode : Mode) → Reads reader.old mode [] [] → ReadsAll reader.new mode bytes.now result }
 {
-    matches!(mode, Mode::Fragment)
+    reader.feed(bytes)?;
+    reader.finish()
 }
 
-/// Whether the line stands for an item that the text may have once at its top, if no element is open.
-fn makes_item(mode: Mode, line: &Line) -> bool
-    ensures { result ≡ makes_item mode line.now }
+/// Feeds the whole text, and answers its fault.
+fn fault_of_whole(reader: &mut Reader, bytes: &[u8]) -> Result<Option<PyxFault>, AllocError>
+    ensures { (mode : Mode) → Reads reader.old mode [] [] → IfOk result (λ fault. (fault ≡ fault_of mode bytes.now)
+        × (waiting reader.new ≡ events_before_fault mode bytes.now)) }
 {
-    match line {
-        Line::Start { .. } => true,
-        Line::Chars { text } => is_fragment(mode) && !text.as_str().is_empty(),
-        Line::Pi { .. } => is_fragment(mode),
-        Line::Comment { .. } => is_fragment(mode),
-        Line::Skipped => false,
-        Line::Attribute { .. } => false,
-        Line::End { .. } => false,
+    match feed_whole(reader, bytes) {
+        Ok(()) => Ok(None),
+        Err(FeedError::Fault(fault)) => Ok(Some(fault)),
+        Err(FeedError::Memory) => Err(AllocError),
     }
 }
 
-fn is_whitespace_alone(text: &str) -> bool
-    ensures { result ≡ list_all is_whitespace (chars text.now) }
+/// Takes all events that wait.
+fn take_all(alloc: Global, reader: &mut Reader) -> Result<LocatedList, AllocError>
+    ensures { IfOk result (λ events. events ≡ waiting reader.old) }
 {
-    text.chars().all(|c| is_whitespace(c))
+    let mut events = LocatedList::new(alloc);
+    while let Some(event) = reader.next_event() {
+        events.push(event)?;
+    }
+    Ok(events)
 }
 
-/// Puts a name to those of the open elements.
-fn open_name(alloc: Global, opened: &mut Vec<Text>, name: &Text) -> Result<(), AllocError>
-    ensures opened { OnOk result (opened.new.items ≡ opened.old.items ++ name.now ∷ []) }
-    ensures unchanged { OnErr result (opened.new.items ≡ opened.old.items) }
+/// Reads a text as far as it has no fault.
+///
+/// The time grows with the bytes.
+pub fn read_front(alloc: Global, mode: Mode, bytes: &[u8]) -> Result<Front, AllocError>
+    ensures fault { IfOk result (λ front. front.fault ≡ fault_of mode bytes.now) }
+    ensures events { IfOk result (λ front. front.events ≡ events_before_fault mode bytes.now) }
 {
-    let name = Text::copy(alloc, name.as_str())?;
-    opened.push(name)?;
-    Ok(())
+    let mut reader = Reader::new(alloc, mode);
+    let fault = fault_of_whole(&mut reader, bytes)?;
+    let events = take_all(alloc, &mut reader)?;
+    Ok(Front { events, fault })
 }
 
-/// The text of a character line, of which nothing is kept outside the document element.
-fn kept(is_outside: bool, text: &str) -> &str
-    ensures { result.now ≡ kept is_outside text.now }
+/// Reads a text that has to be a document or a fragment.
+///
+/// The time grows with the bytes.
+pub fn read_events(alloc: Global, mode: Mode, bytes: &[u8]) -> Result<LocatedList, FeedError>
+    ensures { MatchResult result (λ events. (fault_of mode bytes.now ≡ None) × (events ≡ events_of mode bytes.now))
+        (IfFault (λ fault. fault_of mode bytes.now ≡ Some fault)) }
 {
-    if is_outside { "" } else { text }
-}
-
-impl Reading {
-    pub fn new(alloc: Global, mode: Mode) -> Reading
-        ensures { Reads result mode [] [] }
-    {
-        Reading {
-            mode,
-            opened: Vec::new(alloc),
-            has_item: false,
-            events: Events::new(alloc),
-        }
-    }
-
-    /// Whether an element begins with the newest lines, so that attributes may follow.
-    fn takes_attribute(&self) -> bool
-        ensures { (mode : Mode) (taken : List Located) (before : List Line) → Reads self.now mode taken before →
-            result ≡ takes_attribute before }
-    {
-        matches!(self.events.begun, Begun::Element { .. })
-    }
-
-    /// Whether the newest lines have begun characters.
-    fn is_text(&self) -> bool
-        ensures { (mode : Mode) (taken : List Located) (before : List Line) → Reads self.now mode taken before →
-            result ≡ is_text (pending mode before) }
-    {
-        matches!(self.events.begun, Begun::Text { .. })
-    }
-
-    fn at_top(&self) -> bool
-        ensures { (mode : Mode) (taken : List Located) (before : List Line) → Reads self.now mode taken before →
-            result ≡ at_top before }
-    {
-        self.opened.is_empty()
-    }
-
-    fn is_innermost(&self, name: &Text) -> bool
-        ensures { (mode : Mode) (taken : List Located) (before : List Line) → Reads self.now mode taken before →
-            result ≡ is_innermost name.now (open_names before) }
-    {
-        match self.opened.last() {
-            Some(top) => top.as_str() == name.as_str(),
-            None => false,
-        }
-    }
-
-    /// Whether the line would be a second item at the top.
-    fn is_second(&self, line: &Line) -> bool
-        ensures { (mode : Mode) (taken : List Located) (before : List Line) → Reads self.now mode taken before →
-            result ≡ is_second mode before line.now }
-    {
-        makes_item(self.mode, line) && self.at_top() && self.has_item
-    }
-
-    /// Whether characters would be a second item at the top of a fragment, and don't go on with the first.
-    fn is_second_text(&self, text: &str) -> bool
-        ensures { (taken : List Located) (before : List Line) → Reads self.now Fragment taken before →
-            result ≡ (is_second Fragment before (line_of.Chars text.now) && not (is_text (pending Fragment before))) }
-    {
-        !text.is_empty() && self.at_top() && self.has_item && !self.is_text()
-    }
-
-    /// Whether the top item has begun behind the line.
-    fn has_item_behind(&self, line: &Line) -> bool
-        ensures { (mode : Mode) (taken : List Located) (before : List Line) → Reads self.now mode taken before →
-            result ≡ has_item mode (line.now ∷ before) }
-    {
-        makes_item(self.mode, line) || self.has_item
-    }
-
-    /// The rule that the line breaks behind those before it.
-    fn misplaced(&self, line: &Line) -> Option<PyxKind>
-        ensures { (mode : Mode) (taken : List Located) (before : List Line) → Reads self.now mode taken before →
-            result ≡ misplaced mode before line.now }
-    {
-        match line {
-            Line::Skipped => None,
-            Line::Attribute { .. } => (!self.takes_attribute()).then_some(PyxKind::AttributePlace),
-            Line::End { name } => (!self.is_innermost(name)).then_some(PyxKind::WrongEnd),
-            Line::Chars { text } => self.misplaced_text(text),
-            Line::Start { .. } => self.is_second(line).then_some(PyxKind::SecondRoot),
-            Line::Pi { .. } => self.is_second(line).then_some(PyxKind::SecondRoot),
-            Line::Comment { .. } => self.is_second(line).then_some(PyxKind::SecondRoot),
-        }
-    }
-
-    fn misplaced_text(&self, text: &Text) -> Option<PyxKind>
-        ensures { (mode : Mode) (taken : List Located) (before : List Line) → Reads self.now mode taken before →
-            result ≡ misplaced mode before (line_of.Chars text.now) }
-    {
-        let text = text.as_str();
-        match self.mode {
-            Mode::Document => {
-                (self.at_top() && !is_whitespace_alone(text)).then_some(PyxKind::TextOutside)
-            }
-            Mode::Fragment => { self.is_second_text(text).then_some(PyxKind::SecondRoot) }
-        }
-    }
-
-    /// Whether no element is open behind a line that has its place.
-    fn ends_at_top(&self, line: &Line) -> bool
-        ensures { (mode : Mode) (taken : List Located) (before : List Line) → Reads self.now mode taken before →
-            result ≡ at_top (line.now ∷ before) }
-    {
-        match line {
-            Line::Start { .. } => false,
-            Line::End { .. } => self.opened.len() <= 1,
-            _ => self.opened.is_empty(),
-        }
-    }
-
-    /// The rule that the text breaks if it ends behind the line.
-    fn lacking(&self, line: &Line) -> Option<PyxKind>
-        ensures { (mode : Mode) (taken : List Located) (before : List Line) → Reads self.now mode taken before →
-            result ≡ lacking mode (line.now ∷ before) }
-    {
-        if !self.has_item_behind(line) {
-            return Some(PyxKind::NoRoot);
-        }
-        (!self.ends_at_top(line)).then_some(PyxKind::Unfinished)
-    }
-
-    /// Whether the next line stands outside the document element.
-    fn is_outside(&self) -> bool
-        ensures { (mode : Mode) (taken : List Located) (before : List Line) → Reads self.now mode taken before →
-            result ≡ is_outside mode before }
-    {
-        !is_fragment(self.mode) && self.at_top()
-    }
-
-    /// Takes a line that has its place.
-    fn settle(&mut self, alloc: Global, number: u64, line: Line) -> Result<(), AllocError>
-        ensures { (mode : Mode) (taken : List Located) (before : List Line) → Reads self.old mode taken before →
-            number ≡ suc (length before) → Settles self.new mode taken before line result }
-    {
-        let is_outside = self.is_outside();
-        self.has_item = self.has_item_behind(&line);
-        match line {
-            Line::Skipped => Ok(()),
-            Line::Start { name } => {
-                open_name(alloc, &mut self.opened, &name)?;
-                self.events.start(alloc, number, name)
-            }
-            Line::Attribute { attr } => self.events.attribute(attr),
-            Line::End { name } => {
-                let _ = self.opened.pop();
-                self.events.whole(number, Event::End { name })
-            }
-            Line::Chars { text } => {
-                let kept = kept(is_outside, text.as_str());
-                self.events.text(alloc, number, kept)
-            }
-            Line::Pi { target, body } => self.events.whole(number, Event::Pi { target, body }),
-            Line::Comment { text } => self.events.whole(number, Event::Comment { text }),
-        }
-    }
-
-    /// Judges the line with these bytes, and takes it if it is good; else the answer is the rule that it breaks.
-    pub fn take(
-        &mut self,
-        alloc: Global,
-        number: u64,
-        bytes: &[u8],
-    ) -> Result<Option<PyxKind>, AllocError>
-        ensures { (mode : Mode) (taken : List Located) (before : List Line) → Reads self.old mode taken before →
-            number ≡ suc (length before) → Takes self.new mode taken before (judge mode before bytes.now) result }
-    {
-        let line = match line_of(alloc, bytes)? {
-            Ok(line) => line,
-            Err(kind) => return Ok(Some(kind)),
-        };
-        if let Some(kind) = self.misplaced(&line) {
-            return Ok(Some(kind));
-        }
-        self.settle(alloc, number, line)?;
-        Ok(None)
-    }
-
-    /// Judges the last line and the end of the text behind it, and takes the line and completes the begun event if
-    /// both are good; else the answer is the rule that is broken.
-    pub fn finish(
-        &mut self,
-        alloc: Global,
-        number: u64,
-        bytes: &[u8],
-    ) -> Result<Option<PyxKind>, AllocError>
-        ensures { (mode : Mode) (taken : List Located) (before : List Line) → Reads self.old mode taken before →
-            number ≡ suc (length before) → Ends self.new mode taken before (judge mode before bytes.now) result }
-    {
-        let line = match line_of(alloc, bytes)? {
-            Ok(line) => line,
-            Err(kind) => return Ok(Some(kind)),
-        };
-        if let Some(kind) = self.misplaced(&line) {
-            return Ok(Some(kind));
-        }
-        if let Some(kind) = self.lacking(&line) {
-            return Ok(Some(kind));
-        }
-        self.settle(alloc, number, line)?;
-        self.events.complete()?;
-        Ok(None)
+    let front = read_front(alloc, mode, bytes)?;
+    match front.fault {
+        Some(fault) => Err(FeedError::Fault(fault)),
+        None => Ok(front.events),
     }
 }

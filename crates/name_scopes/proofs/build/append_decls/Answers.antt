@@ -7,7 +7,7 @@ use Rattle.doc_tree.specs.Table.{Table}
 use Rattle.doc_tree.specs.Scope.{Decl, first_declared}
 use Rattle.doc_tree.specs.Declaring.{Declared}
 use Rattle.name_scopes.specs.Declarations.{declaration_of, declarations}
-use Rattle.name_scopes.specs.Building.{DeclaresAll}
+use Rattle.name_scopes.specs.inner.Build.{DeclaresAll}
 use Rattle.name_scopes.proofs.StartLemmas.{Declaring, declaring-none, declaring-more, declared-next, next-undeclared}
 use Rattle.name_scopes.proofs.build.append_decls.Goals as goal
 use Rattle.name_scopes.proofs.build.append_decls.Goals.{in-Some+in_ok-append_decl, in_default}

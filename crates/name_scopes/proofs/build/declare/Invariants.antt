@@ -2,7 +2,7 @@ use Rattle.std.proofs.Common.{◌≡◌, ◌≤◌, ◌++◌, drop, length}
 use Rattle.name_scopes.specs.Declarations.{declarations}
 use Rattle.name_scopes.proofs.build.declare.Given as goal
 
--- what the attributes behind declare is in scope
+-- what the attributes after declare is in scope
 abbrev pub invariant-loop-left : goal.invariant-loop-left
 invariant-loop-left l = record {
   within : l.left ≤ length l.attrs;

@@ -2,7 +2,7 @@
 use Rattle.std.proofs.Common.{◌≡◌, ◌≤◌, sym, ◌∙◌, arith, sum_by}
 use Rattle.pyx_core.specs.declared.mode.Mode.TheVariants.{Document}
 use Rattle.pyx_core.specs.Nesting.{bare}
-use Rattle.name_scopes.specs.Building.{event_text}
+use Rattle.name_scopes.specs.inner.Build.{event_text}
 use Rattle.name_scopes.proofs.TextBound.{front-text}
 use Rattle.name_scopes.proofs.WholeLemmas.{loaded}
 use Rattle.name_scopes.proofs.load.load_tree.Goals as goal

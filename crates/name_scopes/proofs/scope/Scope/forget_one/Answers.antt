@@ -2,7 +2,7 @@
 use Rattle.std.proofs.Common.{◌≡◌, ◌++◌, ◌∷◌, [], List, sym, ap, ◌∙◌, subst, drop}
 use Rattle.std.specs.Option.{option_to_list}
 use Rattle.name_scopes.specs.declared.scope.Binding.{Binding}
-use Rattle.name_scopes.specs.Bindings.{Bound}
+use Rattle.name_scopes.specs.inner.Scope.{Bound}
 use Rattle.name_scopes.proofs.BindingLemmas.{bound-less, forgotten}
 use Rattle.name_scopes.proofs.scope.Scope.forget_one.Goals as goal
 

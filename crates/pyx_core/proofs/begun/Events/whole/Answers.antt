@@ -2,7 +2,7 @@ use Rattle.std.specs.Option.{option_to_list}
 use Rattle.std.proofs.lemmas.Result.{MatchResult-from_err}
 use Rattle.pyx_core.specs.Before.{located}
 use Rattle.std.proofs.Common.{◌∷◌, []}
-use Rattle.pyx_core.proofs.TellingLemmas.{front_longer, goes_put}
+use Rattle.pyx_core.proofs.BegunLemmas.{front_longer, goes_put}
 use Rattle.pyx_core.proofs.begun.Events.whole.Goals as goal
 
 pub returns-in_err-complete : goal.returns-in_err-complete

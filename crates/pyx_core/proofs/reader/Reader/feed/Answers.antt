@@ -1,5 +1,5 @@
 use Rattle.std.proofs.Common.{◌++◌, ◌∙◌, ap}
-use Rattle.pyx_core.specs.Feeding.{error_of, stops}
+use Rattle.pyx_core.specs.Reader.{error_of, stops}
 use Rattle.pyx_core.proofs.ReaderLemmas.{feeds}
 use Rattle.pyx_core.proofs.reader.Reader.feed.Goals as goal
 

@@ -1,0 +1,22 @@
+use Rattle.std.proofs.Common.{◌∷◌, sym, ◌∙◌}
+use Rattle.std.specs.Option.{option_to_list}
+use Rattle.std.proofs.lemmas.Result.{MatchResult-from_err}
+use Rattle.pyx_core.specs.Before.{closed, pending}
+use Rattle.pyx_core.specs.Reading.{judge}
+use Rattle.pyx_core.proofs.StandingLemmas.{ends_none}
+use Rattle.pyx_core.proofs.BegunLemmas.{front_more}
+use Rattle.pyx_core.proofs.standing.Standing.finish.Goals as goal
+
+pub returns-in_err-line : goal.returns-in_err-line
+returns-in_err-line c = λ mode taken before reads number.
+    ends_none c.args.self.now mode taken before (judge mode before c.args.bytes.now) c.from_residual.result reads
+    c.from_residual.ensures.0
+
+pub returns-in_err-settle : goal.returns-in_err-settle
+returns-in_err-settle c = λ mode taken before reads number.
+    let good = sym (c.in_ok-line.ensures mode taken before reads) ∙ c.in-Ok.is in
+    let whole = sym (c.in_default.ensures mode taken before reads) in
+    rw (good, whole)
+    (MatchResult-from_err c.from_residual-in_err-settle.result _ _ c.from_residual-in_err-settle.ensures.0
+    (λ _. front_more _ (closed mode (c.in-Ok.line ∷ before)) (option_to_list (pending mode (c.in-Ok.line ∷ before)))
+    (c.in_err-settle.ensures mode taken before reads number)))

@@ -1,0 +1,172 @@
+//! What a line is by itself: the table of lines by their first character.
+
+ghost use Rattle.std.specs.Prelude.{◌≡◌, true, false, IfOk, MatchOption};
+ghost use Rattle.std.specs.List.{list_all, after_first};
+ghost use Rattle.std.specs.Str.{chars, is_utf8};
+ghost use Rattle.sch_base.specs.Characters.{is_xml_char};
+ghost use Rattle.pyx_core.specs.LineTable.{is_space, is_qname, is_target, name_part, read_start, read_end, read_chars, read_comment, read_attribute, read_pi, read_marked, read_text, line_of};
+
+use crate::escapes::unescape;
+use crate::{Attr, PyxKind};
+use sch_base::{Text, is_ncname, is_xml_char, split_qname};
+use std::alloc::{AllocError, Global};
+
+/// A good line by itself, with its escapes undone.
+#[derive(Debug, Drop)]
+pub enum Line {
+    /// An empty line, or one that begins with `D`, `N` or `U`.
+    Skipped,
+    Start { name: Text },
+    Attribute { attr: Attr },
+    End { name: Text },
+    Chars { text: Text },
+    Pi { target: Text, body: Text },
+    Comment { text: Text },
+}
+
+/// What the line with these bytes is by itself, or the first rule that it breaks.
+///
+/// The time grows with its length.
+pub fn line_of(alloc: Global, bytes: &[u8]) -> Result<Result<Line, PyxKind>, AllocError>
+    ensures { IfOk result (λ found. found ≡ line_of bytes.now) }
+{
+    let Some(text) = utf8_text(bytes) else {
+        return Ok(Err(PyxKind::NotUtf8));
+    };
+    if !is_of_chars(text) {
+        return Ok(Err(PyxKind::BadChar));
+    }
+    read_text(alloc, text)
+}
+
+/// The bytes as a text, where they are UTF-8.
+#[tactic(auto, using(crate::proofs::LineTableLemmas::not_utf8, crate::proofs::LineTableLemmas::is_utf8_text))]
+fn utf8_text(bytes: &[u8]) -> Option<&str>
+    ensures { MatchOption result (is_utf8 bytes.now ≡ false) (λ text. (is_utf8 bytes.now ≡ true) × (text.now ≡ bytes.now)) }
+{
+    match simdutf8::basic::from_utf8(bytes) {
+        Ok(text) => Some(text),
+        Err(_) => None,
+    }
+}
+
+/// Whether each character is a Char (XML 1.0, section 2.2).
+fn is_of_chars(text: &str) -> bool
+    ensures { result ≡ list_all is_xml_char (chars text.now) }
+{
+    text.chars().all(|c| is_xml_char(c))
+}
+
+#[tactic(auto, using(crate::proofs::LineTableLemmas::read_text_by_char))]
+fn read_text(alloc: Global, text: &str) -> Result<Result<Line, PyxKind>, AllocError>
+    ensures { IfOk result (λ found. found ≡ read_text text.now) }
+{
+    let mut chars = text.chars();
+    match chars.next() {
+        Some(mark) => read_marked(alloc, mark, chars.as_str()),
+        None => Ok(Ok(Line::Skipped)),
+    }
+}
+
+/// A line after its mark.
+fn read_marked(alloc: Global, mark: char, body: &str) -> Result<Result<Line, PyxKind>, AllocError>
+    ensures { IfOk result (λ found. found ≡ read_marked mark body.now) }
+{
+    match mark {
+        '(' => read_start(alloc, body),
+        'A' => read_attribute(alloc, body),
+        ')' => read_end(alloc, body),
+        '-' | '[' => read_chars(alloc, body),
+        '?' => read_pi(alloc, body),
+        'C' => read_comment(alloc, body),
+        'D' | 'N' | 'U' => Ok(Ok(Line::Skipped)),
+        '&' => Ok(Err(PyxKind::EntityLine)),
+        _ => Ok(Err(PyxKind::UnknownLine)),
+    }
+}
+
+/// Whether the text is a QName (Namespaces in XML 1.0, section 4).
+fn is_qname(text: &str) -> bool
+    ensures { result ≡ is_qname text.now }
+{
+    split_qname(text).is_some()
+}
+
+/// Whether the text is the target of a processing instruction (XML 1.0, section 2.6).
+fn is_target(text: &str) -> bool
+    ensures { result ≡ is_target text.now }
+{
+    is_ncname(text) && !text.eq_ignore_ascii_case("xml")
+}
+
+fn read_start(alloc: Global, body: &str) -> Result<Result<Line, PyxKind>, AllocError>
+    ensures { IfOk result (λ found. found ≡ read_start body.now) }
+{
+    if !is_qname(body) {
+        return Ok(Err(PyxKind::BadName));
+    }
+    let name = Text::copy(alloc, body)?;
+    Ok(Ok(Line::Start { name }))
+}
+
+fn read_end(alloc: Global, body: &str) -> Result<Result<Line, PyxKind>, AllocError>
+    ensures { IfOk result (λ found. found ≡ read_end body.now) }
+{
+    if !is_qname(body) {
+        return Ok(Err(PyxKind::BadName));
+    }
+    let name = Text::copy(alloc, body)?;
+    Ok(Ok(Line::End { name }))
+}
+
+fn read_chars(alloc: Global, body: &str) -> Result<Result<Line, PyxKind>, AllocError>
+    ensures { IfOk result (λ found. found ≡ read_chars body.now) }
+{
+    let text = unescape(alloc, body)?;
+    Ok(Ok(Line::Chars { text }))
+}
+
+fn read_comment(alloc: Global, body: &str) -> Result<Result<Line, PyxKind>, AllocError>
+    ensures { IfOk result (λ found. found ≡ read_comment body.now) }
+{
+    let text = unescape(alloc, body)?;
+    Ok(Ok(Line::Comment { text }))
+}
+
+/// A name and what is after the space that ends it, still escaped; without a space there is nothing after it.
+#[tactic(auto, using(crate::proofs::LineTableLemmas::before_none, crate::proofs::LineTableLemmas::after_none))]
+fn parts(body: &str) -> (&str, &str)
+    ensures name { result.0.now ≡ name_part body.now }
+    ensures text { result.1.now ≡ after_first is_space body.now }
+{
+    match body.split_once(' ') {
+        Some((name, text)) => (name, text),
+        None => (body, ""),
+    }
+}
+
+fn read_attribute(alloc: Global, body: &str) -> Result<Result<Line, PyxKind>, AllocError>
+    ensures { IfOk result (λ found. found ≡ read_attribute body.now) }
+{
+    let (name, value) = parts(body);
+    if !is_qname(name) {
+        return Ok(Err(PyxKind::BadName));
+    }
+    let name = Text::copy(alloc, name)?;
+    let value = unescape(alloc, value)?;
+    Ok(Ok(Line::Attribute {
+        attr: Attr { name, value },
+    }))
+}
+
+fn read_pi(alloc: Global, body: &str) -> Result<Result<Line, PyxKind>, AllocError>
+    ensures { IfOk result (λ found. found ≡ read_pi body.now) }
+{
+    let (target, text) = parts(body);
+    if !is_target(target) {
+        return Ok(Err(PyxKind::BadName));
+    }
+    let target = Text::copy(alloc, target)?;
+    let body = unescape(alloc, text)?;
+    Ok(Ok(Line::Pi { target, body }))
+}
