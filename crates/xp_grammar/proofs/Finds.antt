@@ -60,7 +60,7 @@ want_exists : (limit : ℕ) (b : Bool) (j : ℕ) (c : Bool) (k : List Bracket) (
 want_exists limit b j true k s room ends = inl (of_steps limit b j (length k) (Ends limit k) (at_zero (token.Name []) ∷ s) room (steps_exist limit (length k) (Ends limit k) s ends))
 want_exists limit b j false k s room ends = of_steps limit b j (length k) (Ends limit k) (at_zero (token.Name []) ∷ s) room (steps_exist limit (length k) (Ends limit k) s ends)
 
-after_exists : (limit : ℕ) (e : Ending) (d : ℕ) (P : List Placed → Type 0) (s : List Placed) → P s → AfterThen limit e d P s
+pub after_exists : (limit : ℕ) (e : Ending) (d : ℕ) (P : List Placed → Type 0) (s : List Placed) → P s → AfterThen limit e d P s
 after_exists limit full d P s ends = full_end limit d P s ends
 after_exists limit bare d P s ends = bare_of limit d P s (nothing_more limit d P s ends)
 after_exists limit at_root d P s ends = inl (nothing_more limit d P s ends)
@@ -122,7 +122,7 @@ within_load : (limit : ℕ) {m m' : Mode} {k k' : List Bracket} {s : List Placed
 within_load limit (stays m k) room = room
 within_load limit (turns m m' k k' p s mv is fits more) room = within_load limit more fits
 
-within_back : (limit : ℕ) {m m' : Mode} {k k' : List Bracket} {s : List Placed} → Within limit m k s m' k' →
+pub within_back : (limit : ℕ) {m m' : Mode} {k k' : List Bracket} {s : List Placed} → Within limit m k s m' k' →
     load m k ≤ limit → (t : List Placed) → Rest limit m' k' t → Rest limit m k (s ++ t)
 within_back limit (stays m k) room t r = r
 within_back limit (turns m m' k k' p s mv is fits more) room t r =
@@ -200,7 +200,7 @@ ran limit m k [] h is = ran_here limit m k [] h is
 ran limit m k (p ∷ s) h is =
     ran_on limit m k p s h (λ m' k' on. ran limit m' k' s h on) (turn m k p.token) refl is
 
-load_start : (limit : ℕ) → load (want true 0 false) [] ≤ limit
+pub load_start : (limit : ℕ) → load (want true 0 false) [] ≤ limit
 unfolding load
 load_start limit = omega arith
 

@@ -3,6 +3,7 @@ pub mod Drives
 pub mod Completes
 pub mod Back
 pub mod Finds
+pub mod Judged
 pub mod Bottoms
 pub mod Runs
 pub mod Frames
@@ -10,3 +11,4 @@ pub mod PatternDrives
 pub mod PatternCompletes
 pub mod PatternBack
 pub mod PatternFinds
+pub mod PatternJudged

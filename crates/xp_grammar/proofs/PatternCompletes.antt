@@ -120,13 +120,13 @@ predicate_of limit p s is x =
 abbrev at_zero : Token → Placed
 at_zero t = record { offset = 0; token = t }
 
-end_exists : (limit : ℕ) → PathsThen limit []
+pub end_exists : (limit : ℕ) → PathsThen limit []
 end_exists limit = (_, no_more_paths [])
 
-steps_end : (limit : ℕ) → StepsMay limit []
+pub steps_end : (limit : ℕ) → StepsMay limit []
 steps_end limit = steps_may limit [] (end_exists limit)
 
-predicates_end : (limit : ℕ) → PredicatesMay limit []
+pub predicates_end : (limit : ℕ) → PredicatesMay limit []
 predicates_end limit = predicates_may limit [] (steps_end limit)
 
 abbrev named : List Placed

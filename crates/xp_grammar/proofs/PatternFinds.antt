@@ -26,7 +26,7 @@ goes_load : (limit : ℕ) {a b : Place} {s : List Placed} → Goes limit a s b �
 goes_load limit (rests a) room = room
 goes_load limit (goes_on a b c p s is fits more) room = goes_load limit more fits
 
-goes_back : (limit : ℕ) {a b : Place} {s : List Placed} → Goes limit a s b → pattern_load a ≤ limit → (t : List Placed) →
+pub goes_back : (limit : ℕ) {a b : Place} {s : List Placed} → Goes limit a s b → pattern_load a ≤ limit → (t : List Placed) →
     PatternRest limit b t → PatternRest limit a (s ++ t)
 goes_back limit (rests a) room t r = r
 goes_back limit (goes_on a b c p s is fits more) room t r =
@@ -100,7 +100,7 @@ unfolding pattern_halt
 went limit a [] h is = went_here limit a [] h is
 went limit a (p ∷ s) h is = went_on limit a p s h (λ b on. went limit b s h on) (pattern_turn a p.token) refl is
 
-load_start : (limit : ℕ) → pattern_load want_path ≤ limit
+pub load_start : (limit : ℕ) → pattern_load want_path ≤ limit
 unfolding pattern_load
 load_start limit = omega arith
 

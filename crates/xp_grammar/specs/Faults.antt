@@ -1,6 +1,6 @@
 -- The first fault of a list of tokens, as an expression (XPath 1.0, section 3) or as a match pattern (XSLT 1.0, section
 -- 5.2): the first token, or the end, with which nothing goes on that begins with the tokens before it.
-use Rattle.std.specs.Prelude.{ℕ, Bool, true, false, List, [], ◌∷◌, ◌++◌}
+use Rattle.std.specs.Prelude.{◌≡◌, ℕ, ◌⊎◌, Bool, true, false, List, [], ◌∷◌, ◌++◌}
 use Rattle.xp_tree.specs.Tree.{Tree}
 use Rattle.xp_tree.specs.PatternTree.{PathTree}
 use Rattle.xp_grammar.specs.declared.token.Placed.{Placed}
@@ -46,11 +46,16 @@ abbrev pub IsFirstPatternFault : ℕ → List Placed → Bool → ℕ → Syntax
 IsFirstPatternFault limit tokens whole end kind offset =
     IsFirstFaultIn (List PathTree) DerivesPattern limit tokens whole end kind offset
 
--- the tokens before any place of an expression begin an expression
-abbrev pub EachSpellingBegins : Type 0
-EachSpellingBegins = (limit : ℕ) (before after : List Placed) (e : Tree) → Derives limit (before ++ after) e → Begins limit before
+-- the tokens of a whole text derive something, or the tokens have a first fault
+abbrev pub DerivesOrFails : (A : Type 0) → (ℕ → List Placed → A → Type 0) → ℕ → List Placed → Bool → ℕ → Type 0
+DerivesOrFails A Grammar limit tokens whole end = ((whole ≡ true) × (it : A) × Grammar limit tokens it)
+    ⊎ ((k : SyntaxKind) × (offset : ℕ) × IsFirstFaultIn A Grammar limit tokens whole end k offset)
 
--- the tokens before any place of a pattern begin a pattern
-abbrev pub EachPatternBegins : Type 0
-EachPatternBegins =
-    (limit : ℕ) (before after : List Placed) (paths : List PathTree) → DerivesPattern limit (before ++ after) paths → BeginsPattern limit before
+-- each list of tokens derives an expression, or has a first fault as an expression
+abbrev pub EachDerivesOrFails : Type 0
+EachDerivesOrFails = (limit : ℕ) (tokens : List Placed) (whole : Bool) (end : ℕ) → DerivesOrFails Tree Derives limit tokens whole end
+
+-- each list of tokens derives a pattern, or has a first fault as a pattern
+abbrev pub EachDerivesAPatternOrFails : Type 0
+EachDerivesAPatternOrFails =
+    (limit : ℕ) (tokens : List Placed) (whole : Bool) (end : ℕ) → DerivesOrFails (List PathTree) DerivesPattern limit tokens whole end

@@ -1,13 +1,13 @@
 //! Laws of the definitions, for the proofs of callers.
 
-ghost use Rattle.xp_grammar.specs.Faults.{EachPatternBegins, EachSpellingBegins};
+ghost use Rattle.xp_grammar.specs.Faults.{EachDerivesAPatternOrFails, EachDerivesOrFails};
 
-/// The tokens before any place of an expression begin an expression.
-pub fn each_spelling_begins()
-    ensures { EachSpellingBegins }
+/// Tokens of a whole text derive an expression, or they have a first fault as an expression.
+pub fn each_derives_or_fails()
+    ensures { EachDerivesOrFails }
 {}
 
-/// The tokens before any place of a pattern begin a pattern.
-pub fn each_pattern_begins()
-    ensures { EachPatternBegins }
+/// Tokens of a whole text derive a pattern, or they have a first fault as a pattern.
+pub fn each_derives_a_pattern_or_fails()
+    ensures { EachDerivesAPatternOrFails }
 {}

@@ -6,5 +6,5 @@ mod laws;
 mod token;
 
 pub use fault::{SyntaxFault, SyntaxKind};
-pub use laws::{each_pattern_begins, each_spelling_begins};
+pub use laws::{each_derives_a_pattern_or_fails, each_derives_or_fails};
 pub use token::{NodeType, Placed, Token, Word};

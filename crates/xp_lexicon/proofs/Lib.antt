@@ -9,3 +9,4 @@ pub mod Firsts
 pub mod Same
 pub mod Tokens
 pub mod Readings
+pub mod Read

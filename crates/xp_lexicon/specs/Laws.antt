@@ -18,3 +18,8 @@ abbrev pub TextsReadOnce : Type 0
 TextsReadOnce =
     (text : List ℕ) (tokens others : List Placed) (whole other_whole : Bool) (end other_end : ℕ) → Tokenized text tokens whole end →
     Tokenized text others other_whole other_end → IsSameReading tokens others whole other_whole end other_end
+
+-- no text is without tokens up to its end, or up to where no token can be read
+abbrev pub NoTextIsUnread : Type 0
+NoTextIsUnread =
+    (text : List ℕ) → ((tokens : List Placed) (whole : Bool) (end : ℕ) → Tokenized text tokens whole end → ⊥) → ⊥

@@ -1,6 +1,6 @@
 //! Laws of the definitions, for the proofs of callers.
 
-ghost use Rattle.xp_lexicon.specs.Laws.{WholeTextsEnd, TextsReadOnce};
+ghost use Rattle.xp_lexicon.specs.Laws.{NoTextIsUnread, TextsReadOnce, WholeTextsEnd};
 
 /// A text that is read whole ends at its length.
 pub fn whole_texts_end()
@@ -10,4 +10,9 @@ pub fn whole_texts_end()
 /// A text has one list of tokens, and one place where reading ends.
 pub fn texts_read_once()
     ensures { TextsReadOnce }
+{}
+
+/// No text is without tokens up to its end, or up to where no token can be read.
+pub fn no_text_is_unread()
+    ensures { NoTextIsUnread }
 {}

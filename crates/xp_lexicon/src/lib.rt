@@ -11,6 +11,6 @@ mod symbol;
 mod token;
 mod words;
 
-pub use laws::{texts_read_once, whole_texts_end};
+pub use laws::{no_text_is_unread, texts_read_once, whole_texts_end};
 pub use lexeme::Lexeme;
 pub use lexer::{Lexed, tokenize};

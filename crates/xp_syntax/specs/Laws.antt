@@ -43,6 +43,18 @@ FaultyTextsSpellNoPattern =
     (limit : ℕ) (text : List ℕ) (kind : SyntaxKind) (offset : ℕ) (paths : List PathTree) → IsPatternFault limit text kind offset →
     SpellsPattern limit text paths → ⊥
 
+-- no text neither spells an expression nor has a fault
+abbrev pub NoTextIsUnjudged : Type 0
+NoTextIsUnjudged =
+    (limit : ℕ) (text : List ℕ) → ((e : Tree) → Spells limit text e → ⊥) →
+    ((kind : SyntaxKind) (offset : ℕ) → IsSyntaxFault limit text kind offset → ⊥) → ⊥
+
+-- no text neither spells a pattern nor has a fault as a pattern
+abbrev pub NoTextIsUnjudgedAsAPattern : Type 0
+NoTextIsUnjudgedAsAPattern =
+    (limit : ℕ) (text : List ℕ) → ((paths : List PathTree) → SpellsPattern limit text paths → ⊥) →
+    ((kind : SyntaxKind) (offset : ℕ) → IsPatternFault limit text kind offset → ⊥) → ⊥
+
 -- the tokens, all at one offset
 abbrev pub placed_at : ℕ → List Token → List Placed
 placed_at offset tokens = map (λ t. record { offset = offset; token = t }) tokens

@@ -6,7 +6,8 @@ mod parse;
 
 pub use laws::{
     abbreviations_are_written_out, faulty_texts_spell_no_pattern, faulty_texts_spell_nothing,
-    first_faults_are_unique, first_pattern_faults_are_unique, one_pattern_spelling, one_spelling,
+    first_faults_are_unique, first_pattern_faults_are_unique, no_text_is_unjudged,
+    no_text_is_unjudged_as_a_pattern, one_pattern_spelling, one_spelling,
 };
 pub use parse::{parse_expr, parse_pattern};
 pub use sch_base::MAX_EXPRESSION_BYTES;
