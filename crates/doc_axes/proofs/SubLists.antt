@@ -3,6 +3,8 @@ use Rattle.std.proofs.Common.{◌≡◌, ℕ, ◌≤◌, Bool, true, false, cond
 use Rattle.std.specs.Prelude.{filter}
 use Rattle.doc_tree.specs.Lists.{mem, occurs, Distinct}
 use Rattle.doc_tree.proofs.ListLemmas.{In, In-mem, mem-In, none-mem, occurs-append, occurs-head, occurs-same, mem-head}
+use Rattle.std.specs.Prelude.{reverse}
+use Rattle.sch_base.proofs.Lists.{reverse-cons}
 use Rattle.doc_axes.specs.Axes.{backwards}
 
 -- the first list keeps some of the second
@@ -79,6 +81,11 @@ backwards-append (x ∷ xs) ys = ap (λ l. l ++ x ∷ []) (backwards-append xs y
 pub backwards-twice : (xs : List ℕ) → backwards (backwards xs) ≡ xs
 backwards-twice [] = refl
 backwards-twice (x ∷ xs) = backwards-append (backwards xs) (x ∷ []) ∙ ap (λ l. x ∷ l) (backwards-twice xs)
+
+-- a list from its end, as std says it
+pub backwards_reverse : (xs : List ℕ) → reverse xs ≡ backwards xs
+backwards_reverse [] = refl
+backwards_reverse (x ∷ xs) = reverse-cons x xs ∙ ap (λ l. l ++ x ∷ []) (backwards_reverse xs)
 
 pub occurs-backwards : (m : ℕ) (xs : List ℕ) → occurs m (backwards xs) ≡ occurs m xs
 occurs-backwards m [] = refl

@@ -1,7 +1,8 @@
--- Axes (XPath 1.0 section 2.2): which nodes stand on an axis from a node, by ways up and places in document order.
+-- Axes (XPath 1.0, section 2.2): which nodes stand on an axis from a node, by ways up and places in document order.
 use Rattle.std.specs.Prelude.{◌≡◌, ℕ, ◌==◌, Bool, true, false, not, ◌&&◌, ◌||◌, List, [], ◌∷◌, ◌++◌, Option, None, Some, filter, count_by, if◌then◌else◌}
 use Rattle.doc_tree.specs.kind.Kind.{Kind}
 use Rattle.doc_tree.specs.kind.Kind.TheVariants as kinds
+use Rattle.doc_tree.specs.Kinds.{is_kind}
 use Rattle.doc_tree.specs.declared.axes.Axis.{Axis}
 use Rattle.doc_tree.specs.declared.axes.Axis.TheVariants.{Ancestor, AncestorOrSelf, Attribute, Child, Descendant, DescendantOrSelf, Following, FollowingSibling, Parent, Preceding, PrecedingSibling, SelfNode}
 use Rattle.doc_tree.specs.Lists.{mem}
@@ -11,18 +12,12 @@ use Rattle.doc_tree.specs.Order.{after}
 
 -- whether the kind is an attribute's
 abbrev pub is_attribute_kind : Option Kind → Bool
-is_attribute_kind None = false
-is_attribute_kind (Some kinds.Root) = false
-is_attribute_kind (Some kinds.Element) = false
-is_attribute_kind (Some kinds.Attribute) = true
-is_attribute_kind (Some kinds.Text) = false
-is_attribute_kind (Some kinds.Comment) = false
-is_attribute_kind (Some kinds.Pi) = false
+is_attribute_kind kind = is_kind kinds.Attribute kind
 
 abbrev pub is_attribute : Table → ℕ → Bool
 is_attribute T m = is_attribute_kind (kind_of T m)
 
--- whether m stands behind n in document order
+-- whether m stands after n in document order
 abbrev pub is_after : Table → ℕ → ℕ → Bool
 is_after T n m = mem m (after n (order T))
 
@@ -32,7 +27,7 @@ is_ancestor T n m = mem m (ancestors T n)
 abbrev pub is_descendant : Table → ℕ → ℕ → Bool
 is_descendant T n m = is_ancestor T m n && not (is_attribute T m)
 
--- the nodes behind a node but its descendants, and those before it but its ancestors; no attributes
+-- the nodes after a node but its descendants, and those before it but its ancestors; no attributes
 abbrev pub is_following : Table → ℕ → ℕ → Bool
 is_following T n m = is_after T n m && not (is_ancestor T m n) && not (is_attribute T m)
 
@@ -75,16 +70,9 @@ on_axis T SelfNode n m = m == n
 abbrev pub is_reverse : Axis → Bool
 is_reverse Ancestor = true
 is_reverse AncestorOrSelf = true
-is_reverse Attribute = false
-is_reverse Child = false
-is_reverse Descendant = false
-is_reverse DescendantOrSelf = false
-is_reverse Following = false
-is_reverse FollowingSibling = false
-is_reverse Parent = false
 is_reverse Preceding = true
 is_reverse PrecedingSibling = true
-is_reverse SelfNode = false
+is_reverse axis = false
 
 -- a list from its end
 abbrev pub backwards : List ℕ → List ℕ

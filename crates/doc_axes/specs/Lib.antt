@@ -3,3 +3,5 @@ pub mod NodeTests
 pub mod Sets
 pub mod Siblings
 pub mod Plain
+pub mod AxesByCells
+pub mod inner

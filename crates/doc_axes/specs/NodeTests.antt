@@ -1,52 +1,26 @@
--- Node tests (XPath 1.0 section 2.3).
-use Rattle.std.specs.Prelude.{ℕ, Bool, true, false, ◌&&◌, Option, None, Some, bytes_eq}
+-- Node tests (XPath 1.0, section 2.3).
+use Rattle.std.specs.Prelude.{ℕ, Bool, true, ◌&&◌, Option, bytes_eq}
 use Rattle.doc_tree.specs.kind.Kind.{Kind}
 use Rattle.doc_tree.specs.kind.Kind.TheVariants as kinds
 use Rattle.doc_tree.specs.declared.axes.Axis.{Axis}
 use Rattle.doc_tree.specs.declared.axes.Axis.TheVariants as axes
 use Rattle.doc_tree.specs.declared.axes.NodeTest.{NodeTest}
 use Rattle.doc_tree.specs.declared.axes.NodeTest.TheVariants.{Any, Star, InNamespace, Named, Text, Comment, Pi, PiNamed}
-use Rattle.doc_tree.specs.Table.{Table, Name, kind_of, name_of}
-use Rattle.doc_tree.specs.Kinds.{is_element, is_text}
+use Rattle.doc_tree.specs.Table.{Table, kind_of, name_of}
+use Rattle.doc_tree.specs.Kinds.{is_kind, is_element, is_text}
+pub use Rattle.doc_tree.specs.NameTests.{named}
 use Rattle.doc_axes.specs.Axes.{is_attribute_kind}
 
 -- whether the kind is the one that names test on the axis: attributes on the attribute axis, else elements
 abbrev pub is_principal : Axis → Option Kind → Bool
-is_principal axes.Ancestor kind = is_element kind
-is_principal axes.AncestorOrSelf kind = is_element kind
 is_principal axes.Attribute kind = is_attribute_kind kind
-is_principal axes.Child kind = is_element kind
-is_principal axes.Descendant kind = is_element kind
-is_principal axes.DescendantOrSelf kind = is_element kind
-is_principal axes.Following kind = is_element kind
-is_principal axes.FollowingSibling kind = is_element kind
-is_principal axes.Parent kind = is_element kind
-is_principal axes.Preceding kind = is_element kind
-is_principal axes.PrecedingSibling kind = is_element kind
-is_principal axes.SelfNode kind = is_element kind
+is_principal axis kind = is_element kind
 
 abbrev pub is_comment : Option Kind → Bool
-is_comment None = false
-is_comment (Some kinds.Root) = false
-is_comment (Some kinds.Element) = false
-is_comment (Some kinds.Attribute) = false
-is_comment (Some kinds.Text) = false
-is_comment (Some kinds.Comment) = true
-is_comment (Some kinds.Pi) = false
+is_comment kind = is_kind kinds.Comment kind
 
 abbrev pub is_instruction : Option Kind → Bool
-is_instruction None = false
-is_instruction (Some kinds.Root) = false
-is_instruction (Some kinds.Element) = false
-is_instruction (Some kinds.Attribute) = false
-is_instruction (Some kinds.Text) = false
-is_instruction (Some kinds.Comment) = false
-is_instruction (Some kinds.Pi) = true
-
--- a test of a name, which fails where there is none
-abbrev pub named : Option Name → (Name → Bool) → Bool
-named None test = false
-named (Some name) test = test name
+is_instruction kind = is_kind kinds.Pi kind
 
 -- whether a node on an axis passes a node test
 abbrev pub passes : Table → Axis → NodeTest → ℕ → Bool

@@ -1,9 +1,9 @@
--- The kids of a node before and behind one of them.
+-- The kids of a node before and after one of them.
 use Rattle.std.specs.Prelude.{ℕ, ◌==◌, List, [], ◌∷◌, if◌then◌else◌}
 use Rattle.doc_tree.specs.Lists.{mem}
 use Rattle.doc_tree.specs.Order.{after}
 
--- the kids behind one of them; all of them where the node is none
+-- the kids after one of them; all of them where the node is none
 abbrev pub kids_behind : ℕ → List ℕ → List ℕ
 kids_behind n kids = if mem n kids then after n kids else kids
 

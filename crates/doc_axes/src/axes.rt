@@ -1,13 +1,13 @@
 //! The nodes on an axis (XPath 1.0, section 2.2).
 
-ghost use Rattle.std.specs.Prelude.{◌≡◌, true, IfOk};
-ghost use Rattle.doc_tree.specs.declared.axes.Axis.TheVariants as axes;
+ghost use Rattle.std.specs.Prelude.{◌≡◌, ◌++◌, true, IfOk, OnOk};
 ghost use Rattle.doc_tree.specs.Table.{is_live};
 ghost use Rattle.doc_axes.specs.Axes.{axis_nodes, kids_beside};
+ghost use Rattle.doc_axes.specs.inner.Found.{found_on};
 
-use crate::sets::push_all;
+use crate::laws::axes_by_cells;
 use crate::siblings::{kids_before, kids_behind};
-use crate::walks::{push_ancestors, push_each_plain, push_following, push_preceding, reversed};
+use crate::walks::{push_ancestors, push_each_plain, push_following, push_preceding};
 use doc_tree::{Axis, Kind, NodeId, NodeList, Tree};
 use sch_base::ItemList;
 use std::alloc::{AllocError, Global};
@@ -17,110 +17,48 @@ use std::alloc::{AllocError, Global};
 /// attribute, and an attribute has no siblings.
 ///
 /// Costs time linear in the nodes that it lists, in the attributes and siblings beside them, and in the way up.
+#[tactic(auto, using(crate::proofs::SubLists::backwards_reverse))]
 pub fn axis_nodes(alloc: Global, tree: &Tree, n: NodeId, axis: Axis) -> Result<NodeList, AllocError>
     requires { is_live tree.now.nodes n ≡ true }
     ensures { IfOk result (λ nodes. nodes ≡ axis_nodes tree.now.nodes axis n) }
 {
+    let mut list = ItemList::new(alloc);
+    push_axis(tree, &mut list, n, axis)?;
+    Ok(match axis {
+        Axis::Preceding | Axis::PrecedingSibling => list.reversed(),
+        _ => list,
+    })
+}
+
+/// Puts the nodes on the axis from a live node at the end of the list, the preceding ones in document order.
+fn push_axis(tree: &Tree, list: &mut NodeList, n: NodeId, axis: Axis) -> Result<(), AllocError>
+    requires { is_live tree.now.nodes n ≡ true }
+    ensures { OnOk result (list.new ≡ list.old ++ found_on tree.now.nodes axis n) }
+{
+    axes_by_cells(tree);
     match axis {
-        Axis::Ancestor => ancestor(alloc, tree, n),
-        Axis::AncestorOrSelf => ancestor_or_self(alloc, tree, n),
-        Axis::Attribute => attribute(alloc, tree, n),
-        Axis::Child => child(alloc, tree, n),
-        Axis::Descendant => descendant(alloc, tree, n),
-        Axis::DescendantOrSelf => descendant_or_self(alloc, tree, n),
-        Axis::Following => following(alloc, tree, n),
-        Axis::FollowingSibling => following_sibling(alloc, tree, n),
-        Axis::Parent => parent(alloc, tree, n),
-        Axis::Preceding => preceding(alloc, tree, n),
-        Axis::PrecedingSibling => preceding_sibling(alloc, tree, n),
-        Axis::SelfNode => self_node(alloc, tree, n),
+        Axis::Ancestor => push_ancestors(tree, list, n),
+        Axis::AncestorOrSelf => {
+            list.push(n)?;
+            push_ancestors(tree, list, n)
+        }
+        Axis::Attribute => list.push_all(tree.attrs(n)),
+        Axis::Child => list.push_all(tree.kids(n)),
+        Axis::Descendant => push_each_plain(tree, list, tree.kids(n)),
+        Axis::DescendantOrSelf => {
+            list.push(n)?;
+            push_each_plain(tree, list, tree.kids(n))
+        }
+        Axis::Following => push_following(tree, list, n),
+        Axis::FollowingSibling => list.push_all(kids_behind(kids_beside(tree, n), n)),
+        Axis::Parent => match tree.parent(n) {
+            Some(parent) => list.push(parent),
+            None => Ok(()),
+        },
+        Axis::Preceding => push_preceding(tree, list, n),
+        Axis::PrecedingSibling => list.push_all(kids_before(kids_beside(tree, n), n)),
+        Axis::SelfNode => list.push(n),
     }
-}
-
-fn ancestor(alloc: Global, tree: &Tree, n: NodeId) -> Result<NodeList, AllocError>
-    requires { is_live tree.now.nodes n ≡ true }
-    ensures { IfOk result (λ nodes. nodes ≡ axis_nodes tree.now.nodes axes.Ancestor n) }
-{
-    tree.laws();
-    tree.nesting();
-    let mut list = ItemList::new(alloc);
-    push_ancestors(tree, &mut list, n)?;
-    Ok(list)
-}
-
-fn ancestor_or_self(alloc: Global, tree: &Tree, n: NodeId) -> Result<NodeList, AllocError>
-    requires { is_live tree.now.nodes n ≡ true }
-    ensures { IfOk result (λ nodes. nodes ≡ axis_nodes tree.now.nodes axes.AncestorOrSelf n) }
-{
-    tree.laws();
-    tree.nesting();
-    let mut list = ItemList::new(alloc);
-    list.push(n)?;
-    push_ancestors(tree, &mut list, n)?;
-    Ok(list)
-}
-
-fn attribute(alloc: Global, tree: &Tree, n: NodeId) -> Result<NodeList, AllocError>
-    requires { is_live tree.now.nodes n ≡ true }
-    ensures { IfOk result (λ nodes. nodes ≡ axis_nodes tree.now.nodes axes.Attribute n) }
-{
-    tree.laws();
-    tree.nesting();
-    let mut list = ItemList::new(alloc);
-    push_all(&mut list, tree.attrs(n))?;
-    Ok(list)
-}
-
-fn child(alloc: Global, tree: &Tree, n: NodeId) -> Result<NodeList, AllocError>
-    requires { is_live tree.now.nodes n ≡ true }
-    ensures { IfOk result (λ nodes. nodes ≡ axis_nodes tree.now.nodes axes.Child n) }
-{
-    tree.laws();
-    tree.nesting();
-    let mut list = ItemList::new(alloc);
-    push_all(&mut list, tree.kids(n))?;
-    Ok(list)
-}
-
-fn descendant(alloc: Global, tree: &Tree, n: NodeId) -> Result<NodeList, AllocError>
-    requires { is_live tree.now.nodes n ≡ true }
-    ensures { IfOk result (λ nodes. nodes ≡ axis_nodes tree.now.nodes axes.Descendant n) }
-{
-    tree.laws();
-    tree.nesting();
-    let mut list = ItemList::new(alloc);
-    push_each_plain(tree, &mut list, tree.kids(n))?;
-    Ok(list)
-}
-
-fn descendant_or_self(alloc: Global, tree: &Tree, n: NodeId) -> Result<NodeList, AllocError>
-    requires { is_live tree.now.nodes n ≡ true }
-    ensures { IfOk result (λ nodes. nodes ≡ axis_nodes tree.now.nodes axes.DescendantOrSelf n) }
-{
-    tree.laws();
-    tree.nesting();
-    let mut list = ItemList::new(alloc);
-    list.push(n)?;
-    push_each_plain(tree, &mut list, tree.kids(n))?;
-    Ok(list)
-}
-
-fn following(alloc: Global, tree: &Tree, n: NodeId) -> Result<NodeList, AllocError>
-    requires { is_live tree.now.nodes n ≡ true }
-    ensures { IfOk result (λ nodes. nodes ≡ axis_nodes tree.now.nodes axes.Following n) }
-{
-    let mut list = ItemList::new(alloc);
-    push_following(tree, &mut list, n)?;
-    Ok(list)
-}
-
-fn preceding(alloc: Global, tree: &Tree, n: NodeId) -> Result<NodeList, AllocError>
-    requires { is_live tree.now.nodes n ≡ true }
-    ensures { IfOk result (λ nodes. nodes ≡ axis_nodes tree.now.nodes axes.Preceding n) }
-{
-    let mut in_order = ItemList::new(alloc);
-    push_preceding(tree, &mut in_order, n)?;
-    reversed(alloc, &in_order)
 }
 
 /// The kids of the node's parent, none for an attribute and for the root.
@@ -135,50 +73,4 @@ fn kids_beside(tree: &Tree, n: NodeId) -> &[NodeId]
         Some(parent) => tree.kids(parent),
         None => &[],
     }
-}
-
-fn following_sibling(alloc: Global, tree: &Tree, n: NodeId) -> Result<NodeList, AllocError>
-    requires { is_live tree.now.nodes n ≡ true }
-    ensures { IfOk result (λ nodes. nodes ≡ axis_nodes tree.now.nodes axes.FollowingSibling n) }
-{
-    tree.laws();
-    tree.nesting();
-    let mut list = ItemList::new(alloc);
-    push_all(&mut list, kids_behind(kids_beside(tree, n), n))?;
-    Ok(list)
-}
-
-fn preceding_sibling(alloc: Global, tree: &Tree, n: NodeId) -> Result<NodeList, AllocError>
-    requires { is_live tree.now.nodes n ≡ true }
-    ensures { IfOk result (λ nodes. nodes ≡ axis_nodes tree.now.nodes axes.PrecedingSibling n) }
-{
-    tree.laws();
-    tree.nesting();
-    let mut list = ItemList::new(alloc);
-    push_all(&mut list, kids_before(kids_beside(tree, n), n))?;
-    reversed(alloc, &list)
-}
-
-fn parent(alloc: Global, tree: &Tree, n: NodeId) -> Result<NodeList, AllocError>
-    requires { is_live tree.now.nodes n ≡ true }
-    ensures { IfOk result (λ nodes. nodes ≡ axis_nodes tree.now.nodes axes.Parent n) }
-{
-    tree.laws();
-    tree.nesting();
-    let mut list = ItemList::new(alloc);
-    if let Some(parent) = tree.parent(n) {
-        list.push(parent)?;
-    }
-    Ok(list)
-}
-
-fn self_node(alloc: Global, tree: &Tree, n: NodeId) -> Result<NodeList, AllocError>
-    requires { is_live tree.now.nodes n ≡ true }
-    ensures { IfOk result (λ nodes. nodes ≡ axis_nodes tree.now.nodes axes.SelfNode n) }
-{
-    tree.laws();
-    tree.nesting();
-    let mut list = ItemList::new(alloc);
-    list.push(n)?;
-    Ok(list)
 }

@@ -1,6 +1,7 @@
 //! Laws of the axes, for the proofs of callers.
 
 ghost use Rattle.doc_axes.specs.Axes.{AxesPartition};
+ghost use Rattle.doc_axes.specs.AxesByCells.{AxesByCells};
 
 use doc_tree::Tree;
 
@@ -10,5 +11,11 @@ pub fn axes_partition(tree: &Tree)
     ensures { AxesPartition tree.now.nodes }
 {
     tree.laws();
-    tree.nesting();
+}
+
+/// What each axis holds by the kids, the attributes, the descendants or the way up that show it (XPath 1.0, section 2.2).
+pub fn axes_by_cells(tree: &Tree)
+    ensures { AxesByCells tree.now.nodes }
+{
+    tree.laws();
 }

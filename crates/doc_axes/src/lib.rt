@@ -3,12 +3,12 @@
 
 mod axes;
 mod laws;
+mod node_test;
 mod sets;
 mod siblings;
-mod tests_of_nodes;
 mod walks;
 
 pub use axes::axis_nodes;
-pub use laws::axes_partition;
+pub use laws::{axes_by_cells, axes_partition};
+pub use node_test::passes;
 pub use sets::{copied_nodes, in_document_order, one_node, push_all, union_in_order};
-pub use tests_of_nodes::passes;

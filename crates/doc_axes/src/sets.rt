@@ -34,8 +34,8 @@ pub fn union_in_order(
     ensures { IfOk result (λ v. v ≡ union tree.now.nodes a.now b.now) }
 {
     let mut both = ItemList::new(alloc);
-    push_all(&mut both, a.as_slice())?;
-    push_all(&mut both, b.as_slice())?;
+    both.push_all(a.as_slice())?;
+    both.push_all(b.as_slice())?;
     in_document_order(alloc, tree, &both)
 }
 
@@ -43,28 +43,21 @@ pub fn union_in_order(
 pub fn push_all(list: &mut NodeList, nodes: &[NodeId]) -> Result<(), AllocError>
     ensures { OnOk result (list.new ≡ list.old ++ nodes.now) }
 {
-    for n in nodes {
-        list.push(*n)?;
-    }
-    Ok(())
+    list.push_all(nodes)
 }
 
 /// The list of one node.
 pub fn one_node(alloc: Global, n: NodeId) -> Result<NodeList, AllocError>
     ensures { IfOk result (λ nodes. nodes ≡ n ∷ []) }
 {
-    let mut nodes = ItemList::new(alloc);
-    nodes.push(n)?;
-    Ok(nodes)
+    ItemList::of_one(alloc, n)
 }
 
 /// The same nodes as a list of its own.
 pub fn copied_nodes(alloc: Global, nodes: &[NodeId]) -> Result<NodeList, AllocError>
     ensures { IfOk result (λ list. list ≡ nodes.now) }
 {
-    let mut list = ItemList::new(alloc);
-    push_all(&mut list, nodes)?;
-    Ok(list)
+    ItemList::copy_of(alloc, nodes)
 }
 
 /// The live ones of some nodes in document order, each once: the two halves are ordered apart, then joined.
@@ -97,7 +90,7 @@ fn few_ordered(alloc: Global, tree: &Tree, nodes: &[NodeId]) -> Result<NodeList,
     Ok(list)
 }
 
-/// The union of two node-sets: where all of one stands before all of the other, the one with the other behind it.
+/// The union of two node-sets: where all of one stands before all of the other, the one and then the other.
 ///
 /// Costs two comparisons at most, and where the sets overlap those of `merged` besides.
 fn joined(alloc: Global, tree: &Tree, a: NodeList, b: NodeList) -> Result<NodeList, AllocError>
@@ -114,11 +107,11 @@ fn joined(alloc: Global, tree: &Tree, a: NodeList, b: NodeList) -> Result<NodeLi
     }
 }
 
-/// The first list with the second behind it.
-fn appended(mut list: NodeList, behind: NodeList) -> Result<NodeList, AllocError>
-    ensures { IfOk result (λ v. v ≡ list ++ behind) }
+/// The first list and then the second.
+fn appended(mut list: NodeList, more: NodeList) -> Result<NodeList, AllocError>
+    ensures { IfOk result (λ v. v ≡ list ++ more) }
 {
-    push_all(&mut list, behind.as_slice())?;
+    list.push_all(more.as_slice())?;
     Ok(list)
 }
 
@@ -166,7 +159,7 @@ fn merged(alloc: Global, tree: &Tree, a: &[NodeId], b: &[NodeId]) -> Result<Node
             rest_b = behind_y;
         }
     }
-    push_all(&mut list, rest_a)?;
-    push_all(&mut list, rest_b)?;
+    list.push_all(rest_a)?;
+    list.push_all(rest_b)?;
     Ok(list)
 }

@@ -1,11 +1,11 @@
-//! The kids of a node before and behind one of them.
+//! The kids of a node before and after one of them.
 
 ghost use Rattle.std.specs.Prelude.{◌≡◌, ◌==◌, position};
 ghost use Rattle.doc_axes.specs.Siblings.{kids_before, kids_behind};
 
 use doc_tree::NodeId;
 
-/// The kids behind one of them; all of them behind a node that is no kid, an attribute.
+/// The kids after one of them; all of them after a node that is no kid, an attribute.
 pub(crate) fn kids_behind(kids: &[NodeId], n: NodeId) -> &[NodeId]
     ensures { result.now ≡ kids_behind n kids.now }
 {

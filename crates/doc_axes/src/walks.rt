@@ -1,17 +1,16 @@
 //! Walks from a node that put nodes at the end of a list, in document order but for the ways up.
 
-ghost use Rattle.std.specs.Prelude.{◌≡◌, ◌++◌, ℕ, true, false, IfOk, OnOk};
+ghost use Rattle.std.specs.Prelude.{◌≡◌, ◌++◌, ℕ, true, false, OnOk};
 ghost use Rattle.doc_tree.specs.declared.axes.Axis.TheVariants as axes;
 ghost use Rattle.doc_tree.specs.Lists.{mem};
 ghost use Rattle.doc_tree.specs.Table.{is_live};
 ghost use Rattle.doc_tree.specs.Walks.{ancestors, below};
-ghost use Rattle.doc_axes.specs.Axes.{axis_order, backwards, is_attribute};
+ghost use Rattle.doc_axes.specs.Axes.{axis_order, is_attribute};
 ghost use Rattle.doc_axes.specs.Plain.{plain, plain_below, NoAttributes};
 
 use crate::siblings::{kids_before, kids_behind};
 use doc_tree::{NodeId, NodeList, Tree};
-use sch_base::ItemList;
-use std::alloc::{AllocError, Global};
+use std::alloc::AllocError;
 
 /// Puts the node's ancestors at the end of the list, nearest first.
 pub(crate) fn push_ancestors(tree: &Tree, list: &mut NodeList, n: NodeId) -> Result<(), AllocError>
@@ -31,7 +30,6 @@ pub(crate) fn push_plain(tree: &Tree, list: &mut NodeList, n: NodeId) -> Result<
     ensures { OnOk result (list.new ≡ list.old ++ plain tree.now.nodes (below tree.now.nodes n)) }
 {
     tree.laws();
-    tree.nesting();
     list.push(n)?;
     for kid in tree.kids(n) {
         push_plain(tree, list, *kid)?;
@@ -60,7 +58,6 @@ pub(crate) fn push_following(tree: &Tree, list: &mut NodeList, n: NodeId) -> Res
     ensures { OnOk result (list.new ≡ list.old ++ axis_order tree.now.nodes axes.Following n) }
 {
     tree.laws();
-    tree.nesting();
     if let Some(parent) = tree.parent(n) {
         push_each_plain(tree, list, kids_behind(tree.kids(parent), n))?;
         push_following(tree, list, parent)?;
@@ -74,23 +71,9 @@ pub(crate) fn push_preceding(tree: &Tree, list: &mut NodeList, n: NodeId) -> Res
     ensures { OnOk result (list.new ≡ list.old ++ axis_order tree.now.nodes axes.Preceding n) }
 {
     tree.laws();
-    tree.nesting();
     if let Some(parent) = tree.parent(n) {
         push_preceding(tree, list, parent)?;
         push_each_plain(tree, list, kids_before(tree.kids(parent), n))?;
     }
     Ok(())
-}
-
-/// The list from its end.
-pub(crate) fn reversed(alloc: Global, list: &NodeList) -> Result<NodeList, AllocError>
-    ensures { IfOk result (λ v. v ≡ backwards list.now) }
-{
-    let mut turned = ItemList::new(alloc);
-    let mut rest = list.as_slice();
-    while let Some((last, front)) = rest.split_last() {
-        turned.push(*last)?;
-        rest = front;
-    }
-    Ok(turned)
 }

@@ -359,6 +359,7 @@ module _ (T : Table) (f : Formed T) where
     some_text = λ n. (f.fits n).some_text;
     texts_apart = λ n. (f.fits n).texts_apart;
     few_nodes = f.few_nodes;
+    few_numbers = f.few_numbers;
     not_deep = λ n. (f.fits n).not_deep;
     little_text = f.little_text;
   }

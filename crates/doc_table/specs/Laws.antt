@@ -2,7 +2,7 @@
 use Rattle.std.specs.Prelude.{◌≡◌, ◌≢◌, ℕ, ◌+◌, ◌<◌, ◌≤◌, true, false, ◌&&◌, List, [], ◌∷◌, ◌++◌, length, None, Some}
 use Rattle.std.specs.List.{flat_map}
 use Rattle.doc_table.specs.declared.kind.Kind.TheVariants.{Root, Element, Attribute, Text}
-use Rattle.doc_table.specs.declared.limits.TheConstants.{MAX_DEPTH, MAX_LIVE_NODES, MAX_LIVE_TEXT_BYTES}
+use Rattle.doc_table.specs.declared.limits.TheConstants.{MAX_DEPTH, MAX_LIVE_NODES, MAX_LIVE_TEXT_BYTES, MAX_NODE_NUMBERS}
 use Rattle.doc_table.specs.Lists.{mem, Distinct}
 use Rattle.doc_table.specs.Table.{Table, parent_of, kids_of, attrs_of, content_of, kind_of, value_of, expanded_of, is_live}
 use Rattle.doc_table.specs.Walks.{order, below, above, ancestors, joined_text, characters_in, text_bytes, is_open}
@@ -41,6 +41,7 @@ pub record WellFormed (T : Table) : Type 0 where
   pub texts_apart : (n : ℕ) → TextsApart T (kids_of T n)
   -- the limits
   pub few_nodes : length (order T) ≤ MAX_LIVE_NODES
+  pub few_numbers : length T ≤ MAX_NODE_NUMBERS
   pub not_deep : (n : ℕ) → kind_of T n ≡ Some Element → length (ancestors T n) ≤ MAX_DEPTH
   pub little_text : text_bytes T ≤ MAX_LIVE_TEXT_BYTES
 

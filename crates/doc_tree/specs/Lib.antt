@@ -9,6 +9,7 @@ pub use Rattle.doc_table.specs.Lines
 pub use Rattle.doc_table.specs.Growth
 pub use Rattle.doc_table.specs.Laws
 pub mod Scope
+pub mod NameTests
 pub use Rattle.doc_table.specs.Declaring
 pub use Rattle.doc_table.specs.declared.kind
 pub use Rattle.doc_table.specs.declared.new_node

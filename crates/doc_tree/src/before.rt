@@ -3,7 +3,7 @@
 ghost use Rattle.std.specs.Prelude.{◌≡◌, ◌≢◌, ℕ, ◌≤◌, ◌++◌, true, length, Some};
 ghost use Rattle.doc_table.specs.inner.Kept.{IsPlace};
 ghost use Rattle.doc_table.specs.Lists.{mem};
-ghost use Rattle.doc_table.specs.Order.{comes_first, is_before, IsUp, Nested};
+ghost use Rattle.doc_table.specs.Order.{comes_first, is_before, IsUp};
 ghost use Rattle.doc_table.specs.Table.{is_live, attrs_of, kids_of, parent_of};
 ghost use Rattle.doc_table.specs.Walks.{ancestors, below};
 
@@ -39,13 +39,6 @@ impl Tree {
         } else {
             self.branch_is_before(branch_a, branch_b)
         }
-    }
-
-    /// Below a node stand just the node itself and the nodes whose ancestor it is: a law, for the proofs of callers.
-    pub fn nesting(&self)
-        ensures { Nested self.now.nodes }
-    {
-        self.laws();
     }
 
     /// How many ancestors a live node has.
@@ -113,7 +106,7 @@ impl Tree {
         ensures { (p : ℕ) → parent_of self.now.nodes n ≡ Some p → result ≡ mem n (attrs_of self.now.nodes p) }
     {
         self.laws();
-        matches!(self.kind_if_live(n), Some(Kind::Attribute))
+        matches!(self.kind_of(n), Some(Kind::Attribute))
     }
 
     /// A node's place among its parent's attributes, or else kids; 0 for the root.

@@ -5,7 +5,7 @@ ghost use Rattle.std.specs.Option.{option_copied};
 ghost use Rattle.std.specs.Str.{bytes_eq};
 ghost use Rattle.doc_table.specs.declared.kind.Kind.TheVariants.{Element};
 ghost use Rattle.doc_table.specs.Table.{kind_of, decls_of};
-ghost use Rattle.doc_tree.specs.Scope.{HasScopes, decl_at, first_declared, namespace_at, scope_at, undeclared, xml_namespace, xml_prefix, xmlns_prefix};
+ghost use Rattle.doc_tree.specs.Scope.{decl_at, first_declared, namespace_at, scope_at, undeclared, xml_namespace, xml_prefix, xmlns_prefix};
 ghost use Rattle.doc_table.specs.Declaring.{Declared};
 
 use crate::tree::Tree;
@@ -80,19 +80,11 @@ impl Tree {
         }
     }
 
-    /// The ways up to the root, and the scopes along them.
-    pub fn scope_laws(&self)
-        ensures { HasScopes self.now.nodes }
-    {
-        self.bare.scope_laws()
-    }
-
     /// The namespace that the nearest declaration of a prefix gives it.
     fn nearest(&self, n: NodeId, prefix: &str) -> Option<&str>
         ensures { option_copied result ≡ first_declared (scope_at self.now.nodes n) prefix.now }
     {
         self.laws();
-        self.scope_laws();
         if let Some(uri) = declared(self.decls(n), prefix) {
             return Some(uri);
         }

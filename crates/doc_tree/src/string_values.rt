@@ -31,7 +31,7 @@ impl Tree {
     fn may_hold(&self, n: NodeId) -> bool
         ensures { result ≡ holds_kids (kind_of self.now.nodes n) }
     {
-        matches!(self.kind_if_live(n), Some(Kind::Root | Kind::Element))
+        matches!(self.kind_of(n), Some(Kind::Root | Kind::Element))
     }
 
     /// The characters of a text node; empty for every other node.

@@ -4,7 +4,8 @@ ghost use Rattle.std.specs.Prelude.{◌≡◌, ◌<◌, true, length, Some, IfOk
 ghost use Rattle.std.specs.Option.{option_map};
 ghost use Rattle.doc_table.specs.Table.{root_alone, kind_of, name_of, parent_of, kids_of, attrs_of, value_of, is_live, numbered};
 ghost use Rattle.doc_names.specs.Numbering.{Numbered};
-ghost use Rattle.doc_table.specs.Kinds.{is_document};
+ghost use Rattle.doc_table.specs.Kinds.{is_document, is_element};
+ghost use Rattle.doc_tree.specs.NameTests.{has_name};
 ghost use Rattle.doc_table.specs.Walks.{order};
 
 use doc_names::NameId;
@@ -79,17 +80,24 @@ impl Tree {
         requires { is_live self.now.nodes n ≡ true }
         ensures { kind_of self.now.nodes n ≡ Some result }
     {
-        match self.kind_if_live(n) {
+        match self.kind_of(n) {
             Some(kind) => kind,
             None => unreachable!(),
         }
     }
 
     /// The kind of a node, None for a number that isn't live.
-    pub(crate) fn kind_if_live(&self, n: NodeId) -> Option<Kind>
+    pub fn kind_of(&self, n: NodeId) -> Option<Kind>
         ensures { result ≡ kind_of self.now.nodes n }
     {
         self.bare.kind_of(n)
+    }
+
+    /// Whether the node is an element; a number that isn't live is none.
+    pub fn is_element(&self, n: NodeId) -> bool
+        ensures { result ≡ is_element (kind_of self.now.nodes n) }
+    {
+        matches!(self.kind_of(n), Some(Kind::Element))
     }
 
     /// Whether the root has exactly one element kid and no text kid.
@@ -99,7 +107,7 @@ impl Tree {
         let mut elements = 0usize;
         let mut texts = 0usize;
         for kid in self.kids(self.root()) {
-            match self.kind_if_live(*kid) {
+            match self.kind_of(*kid) {
                 Some(Kind::Element) => elements += 1,
                 Some(Kind::Text) => texts += 1,
                 _ => (),
@@ -114,6 +122,16 @@ impl Tree {
         ensures known { IfSome result (λ id. id < length self.now.names) }
     {
         self.bare.name(n)
+    }
+
+    /// Whether the node has this expanded name; the namespace is empty for none. A node without a name has no such.
+    pub fn has_name(&self, n: NodeId, uri: &str, local: &str) -> bool
+        ensures { result ≡ has_name self.now.nodes n uri.now local.now }
+    {
+        match self.name(n) {
+            Some(name) => self.uri_of(name) == uri && self.local_of(name) == local,
+            None => false,
+        }
     }
 
     /// The prefix of a name, empty where it has none.

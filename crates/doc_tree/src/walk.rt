@@ -26,20 +26,10 @@ impl Tree {
     {
         self.laws();
         list.push(n)?;
-        push_all(list, self.attrs(n))?;
+        list.push_all(self.attrs(n))?;
         for kid in self.kids(n) {
             self.push_below(list, *kid)?;
         }
         Ok(())
     }
-}
-
-/// Puts nodes at the end of the list.
-fn push_all(list: &mut NodeList, nodes: &[NodeId]) -> Result<(), AllocError>
-    ensures { OnOk result (list.new ≡ list.old ++ nodes.now) }
-{
-    for n in nodes {
-        list.push(*n)?;
-    }
-    Ok(())
 }

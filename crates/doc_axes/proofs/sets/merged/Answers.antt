@@ -96,7 +96,7 @@ returns c =
     let T = c.args.tree.now.nodes in
     let a : List ℕ = c.loop-x.rest_a.now in
     let b : List ℕ = c.loop-x.rest_b.now in
-    let listed : c.push_all-2.new.list ≡ (c.loop-x.list ++ a) ++ b = c.in_ok-push_all-2.ensures ∙ ap (λ l. l ++ b) c.in_ok-push_all.ensures in
+    let listed : c.push_all-2.new.self ≡ (c.loop-x.list ++ a) ++ b = c.in_ok-push_all-2.ensures.pushed ∙ ap (λ l. l ++ b) c.in_ok-push_all.ensures.pushed in
     listed ∙ ended c.loop-x.list a b (union T a b) _
     (elim c.match-split_first.branch [
       | in_default w ↦ none_behind T c.laws.ensures.ordered a b c.loop-x.invariant.a_set (nil_from_length b w.in_default.ensures'.cases)

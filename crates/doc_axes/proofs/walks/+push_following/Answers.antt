@@ -13,7 +13,7 @@ use Rattle.doc_axes.proofs.walks.+push_following.Goals as goal
 pub push_each_plain-requires : goal.push_each_plain-requires
 push_each_plain-requires t c = λ m h.
     let kids = c.kids.result.now in
-    kid-is_plain c.args.tree.now.nodes c.laws.ensures.well_formed c.laws.ensures.ordered c.laws.ensures.ways_up c.nesting.ensures c.in-Some.parent m
+    kid-is_plain c.args.tree.now.nodes c.laws.ensures.well_formed c.laws.ensures.ordered c.laws.ensures.ways_up c.laws.ensures.nested c.in-Some.parent m
     (rw c.kids.ensures at (behind_in m c.args.n kids (rw c.kids_behind.ensures at h)))
 
 pub returns-in_ok-push_following : goal.returns-in_ok-push_following
@@ -25,10 +25,10 @@ returns-in_ok-push_following t c =
     ∙ (ap (λ l. l ++ up) c.in_ok-push_each_plain.ensures
     ∙ (append_assoc c.args.list.now (plain_below table c.kids_behind.result.now) up
     ∙ ap (λ l. c.args.list.now ++ l) (ap (λ ks. plain_below table ks ++ up) behind
-    ∙ sym (following_step table c.laws.ensures.well_formed c.laws.ensures.ordered c.laws.ensures.ways_up c.nesting.ensures c.args.n c.in-Some.parent (sym c.parent.ensures ∙ c.in-Some.is)))))
+    ∙ sym (following_step table c.laws.ensures.well_formed c.laws.ensures.ordered c.laws.ensures.ways_up c.laws.ensures.nested c.args.n c.in-Some.parent (sym c.parent.ensures ∙ c.in-Some.is)))))
 
 pub returns-in_default : goal.returns-in_default
 returns-in_default t c =
     sym (ap (λ l. c.args.list.now ++ l)
-    (no_following c.args.tree.now.nodes c.laws.ensures.well_formed c.laws.ensures.ordered c.laws.ensures.ways_up c.nesting.ensures c.args.n c.requires (sym c.parent.ensures ∙ c.in_default.is))
+    (no_following c.args.tree.now.nodes c.laws.ensures.well_formed c.laws.ensures.ordered c.laws.ensures.ways_up c.laws.ensures.nested c.args.n c.requires (sym c.parent.ensures ∙ c.in_default.is))
     ∙ append-nil c.args.list.now)

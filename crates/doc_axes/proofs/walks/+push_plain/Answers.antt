@@ -18,7 +18,7 @@ push_plain-requires t c =
     let up : ancestors c.args.tree.now.nodes kid ≡ c.args.n ∷ ancestors c.args.tree.now.nodes c.args.n =
     c.laws.ensures.ways_up.ancestors_at kid c.args.n (c.laws.ensures.well_formed.kid_parent c.args.n kid member) in (
       omega (arith, c.decreases, ap length up, c.laws.ensures.ways_up.ancestors_bound kid),
-      kid-is_plain c.args.tree.now.nodes c.laws.ensures.well_formed c.laws.ensures.ordered c.laws.ensures.ways_up c.nesting.ensures c.args.n kid member,
+      kid-is_plain c.args.tree.now.nodes c.laws.ensures.well_formed c.laws.ensures.ordered c.laws.ensures.ways_up c.laws.ensures.nested c.args.n kid member,
     )
 
 pub returns : goal.returns
@@ -30,4 +30,4 @@ returns t c =
     c.loop-kid.invariant
     ∙ (ap₂ (λ l ks. l ++ plain_below table ks) c.in_ok-push.ensures.pushed all
     ∙ (append_assoc c.args.list.now (c.args.n ∷ []) (plain_below table (kids_of table c.args.n))
-    ∙ ap (λ l. c.args.list.now ++ l) (sym (plain_at table laws.well_formed laws.ordered laws.ways_up c.nesting.ensures c.args.n c.requires))))
+    ∙ ap (λ l. c.args.list.now ++ l) (sym (plain_at table laws.well_formed laws.ordered laws.ways_up c.laws.ensures.nested c.args.n c.requires))))

@@ -20,4 +20,4 @@ returns-in-Some-parent t c =
     ap (λ l. first_declared l c.args.prefix.now) (sym c.decls.ensures) ∙ (sym c.declared.ensures ∙ ap option_copied c.in_default.is) in
     c.nearest.ensures
     ∙ (sym (first-behind (decls_of c.args.self.now.nodes c.args.n) (scope_at c.args.self.now.nodes c.in-Some-parent.parent) c.args.prefix.now none)
-    ∙ ap (λ l. first_declared l c.args.prefix.now) (sym (c.scope_laws.ensures.under c.args.n c.in-Some-parent.parent (sym c.parent.ensures ∙ c.in-Some-parent.is))))
+    ∙ ap (λ l. first_declared l c.args.prefix.now) (sym (c.laws.ensures.scopes.under c.args.n c.in-Some-parent.parent (sym c.parent.ensures ∙ c.in-Some-parent.is))))

@@ -1,10 +1,10 @@
 //! Node tests (XPath 1.0, section 2.3).
 
-ghost use Rattle.std.specs.Prelude.{◌≡◌, ◌<◌, ◌&&◌, true, Some, length, bytes_eq};
-ghost use Rattle.doc_tree.specs.Table.{is_live, kind_of, name_of, numbered};
+ghost use Rattle.std.specs.Prelude.{◌≡◌, true, Some, bytes_eq};
+ghost use Rattle.doc_tree.specs.Table.{is_live, name_of};
 ghost use Rattle.doc_axes.specs.NodeTests.{passes, is_principal, named};
 
-use doc_tree::{Axis, Kind, NameId, NodeId, NodeTest, Tree};
+use doc_tree::{Axis, Kind, NodeId, NodeTest, Tree};
 
 /// Whether a live node on an axis passes a node test: `*` and names test the axis's principal kind, attributes on the
 /// attribute axis and else elements.
@@ -18,7 +18,7 @@ pub fn passes(tree: &Tree, n: NodeId, axis: Axis, test: &NodeTest) -> bool
         NodeTest::Star => is_principal(axis, kind),
         NodeTest::InNamespace { uri } => is_principal(axis, kind) && has_uri(tree, n, uri.as_str()),
         NodeTest::Named { uri, local } => {
-            is_principal(axis, kind) && has_name(tree, n, uri.as_str(), local.as_str())
+            is_principal(axis, kind) && tree.has_name(n, uri.as_str(), local.as_str())
         }
         NodeTest::Text => kind == Kind::Text,
         NodeTest::Comment => kind == Kind::Comment,
@@ -43,16 +43,6 @@ fn has_uri(tree: &Tree, n: NodeId, uri: &str) -> bool
 {
     match tree.name(n) {
         Some(name) => tree.uri_of(name) == uri,
-        None => false,
-    }
-}
-
-/// Whether the node has this expanded name.
-fn has_name(tree: &Tree, n: NodeId, uri: &str, local: &str) -> bool
-    ensures { result ≡ named (name_of tree.now.nodes n) (λ name. bytes_eq name.uri uri.now && bytes_eq name.local local.now) }
-{
-    match tree.name(n) {
-        Some(name) => tree.uri_of(name) == uri && tree.local_of(name) == local,
         None => false,
     }
 }

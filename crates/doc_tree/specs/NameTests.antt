@@ -1,0 +1,11 @@
+-- Tests of the names of nodes, which fail where there is no name.
+use Rattle.std.specs.Prelude.{ℕ, Bool, false, ◌&&◌, List, Option, None, Some, bytes_eq}
+use Rattle.doc_table.specs.Table.{Table, Name, name_of}
+
+abbrev pub named : Option Name → (Name → Bool) → Bool
+named None test = false
+named (Some name) test = test name
+
+-- whether a node has this expanded name: the namespace, empty for none, and the local part
+abbrev pub has_name : Table → ℕ → List ℕ → List ℕ → Bool
+has_name T n uri local = named (name_of T n) (λ name. bytes_eq name.uri uri && bytes_eq name.local local)
