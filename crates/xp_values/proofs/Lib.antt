@@ -4,3 +4,4 @@ pub mod CompareLemmas
 pub mod PositionLemmas
 pub mod SpaceLemmas
 pub mod ReplaceLemmas
+mod SameLemmas

@@ -1,13 +1,13 @@
 -- Texts read as numbers: what stands at the front, and the value of digits.
-use Rattle.std.proofs.Common.{◌≡◌, ℕ, ℤ, pos, negsuc, neg_ℤ, ◌+◌, ◌-◌, ◌*◌, ◌<◌, ◌≤◌, suc, zero, Bool, true, false, not, cond, List, [], ◌∷◌, length, take, drop, fold, Option, None, Some, Ok, Err, refl, sym, ap, ◌∙◌, true≢false, arith, nat_le, leb, ltb, eqb, ltb-true, ltb-false}
-use Rattle.std.specs.Prelude.{unsigned_abs, if◌then◌else◌}
-use Rattle.std.specs.List.{position, prefix_len, list_all}
+use Rattle.std.proofs.Common.{◌≡◌, ℕ, ◌+◌, ◌-◌, ◌*◌, ◌<◌, ◌≤◌, suc, zero, Bool, true, false, not, cond, List, [], ◌∷◌, length, take, drop, fold, None, Some, Ok, Err, refl, sym, ap, ◌∙◌, arith, nat_le, ltb, ltb-false}
+use Rattle.std.specs.Prelude.{unsigned_abs}
+use Rattle.std.specs.List.{position, prefix_len}
 use Rattle.std.proofs.Math.Numerals.{one-add}
 use Rattle.std.proofs.lemmas.List.{take_all, drop_all}
-use Rattle.std.proofs.lemmas.Bool.{leb-true, leb-false}
-use Rattle.xp_values.specs.declared.numbers.Num.TheVariants.{NaN, Whole}
+use Rattle.std.proofs.lemmas.Bool.{leb-true}
+use Rattle.xp_values.specs.declared.numbers.Num.TheVariants.{Whole}
 use Rattle.xp_tree.specs.declared.numbers.TheConstants.{MAX_WHOLE}
-use Rattle.xp_values.specs.declared.values.EvalFault.TheVariants.{NotWhole, NumberRange}
+use Rattle.xp_values.specs.declared.values.EvalFault.TheVariants.{NumberRange}
 use Rattle.xp_values.specs.Numbers.{whole_number}
 use Rattle.xp_tree.specs.Decimals.{decimal_value}
 use Rattle.xp_values.specs.Numerals.{front, past, bounded, signed, are_zeros, number_written}

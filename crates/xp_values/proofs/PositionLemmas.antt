@@ -1,6 +1,6 @@
 -- Characters at positions, as some passed over and some kept.
-use Rattle.std.proofs.Common.{◌≡◌, ℕ, ℤ, pos, negsuc, ◌+◌, ◌-◌, ◌^◌, ◌<◌, ◌≤◌, ◌+ℤ◌, suc, zero, Bool, true, false, List, [], ◌∷◌, length, take, drop, Option, None, Some, refl, sym, ap, ◌∙◌, true≢false, arith, add-zero}
-use Rattle.std.specs.Prelude.{◌≤ℤ◌, ◌<ℤ◌, int_le, int_lt, ◌↔◌, ◌&&◌}
+use Rattle.std.proofs.Common.{◌≡◌, ℕ, ℤ, pos, negsuc, ◌+◌, ◌-◌, ◌<◌, ◌≤◌, ◌+ℤ◌, suc, zero, Bool, true, false, List, [], ◌∷◌, length, take, drop, Option, None, Some, refl, ap, ◌∙◌, arith, add-zero}
+use Rattle.std.specs.Prelude.{◌≤ℤ◌, ◌<ℤ◌, int_le, int_lt}
 use Rattle.std.proofs.lemmas.Int.{ints}
 use Rattle.xp_values.specs.declared.numbers.Num.{Num}
 use Rattle.xp_values.specs.declared.numbers.Num.TheVariants.{NaN, Whole}

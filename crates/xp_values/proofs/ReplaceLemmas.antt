@@ -1,13 +1,13 @@
 -- Characters and their counterparts, and a text that grows up to its limit.
-use Rattle.std.proofs.Common.{◌≡◌, ℕ, ◌+◌, ◌<◌, ◌≤◌, Bool, true, false, cond, List, [], ◌∷◌, ◌++◌, length, take, get_or, slice_get, eqb, eqb-true, is_some, Option, None, Some, Result, Ok, Err, refl, sym, ap, ap₂, ◌∙◌, true≢false, arith, length-append, append-nil, append_assoc}
-use Rattle.std.specs.Prelude.{encode_utf8_all, option_to_list, nat_le, if◌then◌else◌}
+use Rattle.std.proofs.Common.{◌≡◌, ℕ, ◌+◌, ◌<◌, ◌≤◌, Bool, true, false, cond, List, [], ◌∷◌, ◌++◌, length, take, get_or, slice_get, eqb, eqb-true, is_some, Option, None, Some, Ok, Err, refl, sym, ap, ◌∙◌, true≢false, arith, length-append, append-nil, append_assoc}
+use Rattle.std.specs.Prelude.{encode_utf8_all, nat_le}
 use Rattle.std.specs.List.{flat_map}
 use Rattle.std.proofs.lemmas.Str.{encodes-append}
 use Rattle.std.proofs.lemmas.Bool.{leb-true, leb-false}
 use Rattle.std.proofs.lemmas.List.{take_more, length-take}
 use Rattle.sch_base.specs.declared.limits.TheConstants.{MAX_TEXT_BYTES}
 use Rattle.xp_values.specs.declared.values.EvalFault.TheVariants.{TextLimit}
-use Rattle.xp_values.specs.Texts.{counterpart, replaced_by, replacement, limited}
+use Rattle.xp_values.specs.Texts.{counterpart, limited}
 
 abbrev or_else : Option (Option ℕ) → Option (Option ℕ) → Option (Option ℕ)
 or_else (Some x) other = Some x

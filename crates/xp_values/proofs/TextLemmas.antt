@@ -1,11 +1,10 @@
 -- Parts of texts: where they stand, and that a text may be cut there.
-use Rattle.std.proofs.Common.{◌≡◌, ℕ, ◌+◌, ◌<◌, ◌≤◌, suc, zero, Bool, true, false, cond, List, [], ◌∷◌, ◌++◌, length, take, drop, get_or, min, Option, None, Some, option_map, refl, sym, ap, ◌∙◌, subst, true≢false, arith, ltb, ltb-true, ltb-false}
+use Rattle.std.proofs.Common.{◌≡◌, ℕ, ◌+◌, ◌<◌, ◌≤◌, suc, zero, Bool, true, false, cond, List, [], ◌∷◌, length, take, drop, Option, None, Some, option_map, refl, sym, ap, ◌∙◌, subst, true≢false, arith, ltb, ltb-true, ltb-false}
 use Rattle.std.specs.Prelude.{IsUtf8, IsCharBoundary, slice_index}
 use Rattle.std.proofs.Common.{add-zero}
-use Rattle.std.specs.Str.{bytes_eq}
 use Rattle.std.proofs.lemmas.List.{length-take, length-drop}
 use Rattle.std.proofs.lemmas.Slice.Eq.{bytes_eq-Decides}
-use Rattle.std.proofs.lemmas.Str.{IsUtf8-drop, IsCharBoundary-start, IsCharBoundary-from_take, IsCharBoundary-from_rest}
+use Rattle.std.proofs.lemmas.Str.{IsUtf8-drop, IsCharBoundary-start, IsCharBoundary-from_take}
 use Rattle.memchr.specs.Find.{OccursAt, FindsNeedle}
 use Rattle.memchr.proofs.lemmas.MatchLemmas.{OccursAt-part, OccursAt-from_part}
 use Rattle.xp_values.specs.Texts.{begins_with, first_place}

@@ -1,5 +1,5 @@
 -- Conversions (XPath 1.0, sections 4.2 to 4.4).
-use Rattle.std.specs.Prelude.{ℕ, pos, negsuc, ◌==◌, Bool, true, false, not, List, [], ◌∷◌, length, codes, Result, Ok}
+use Rattle.std.specs.Prelude.{ℕ, pos, ◌==◌, Bool, true, false, not, List, [], ◌∷◌, length, codes, Result, Ok}
 use Rattle.std.specs.Fmt.{signed_decimal}
 use Rattle.std.specs.Ordering.{int_eq}
 use Rattle.doc_tree.specs.Table.{Table}

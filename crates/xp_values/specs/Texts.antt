@@ -1,5 +1,5 @@
 -- Functions on texts (XPath 1.0, section 4.2). Positions and lengths count characters.
-use Rattle.std.specs.Prelude.{ℕ, ℤ, pos, suc, ◌+◌, ◌+ℤ◌, ◌==◌, Bool, true, false, not, ◌&&◌, nat_le, nat_eq, int_le, int_lt, List, [], ◌∷◌, ◌++◌, length, take, drop, Option, None, Some, is_some, option_map, option_to_list, Result, Ok, Err, chars, encode_utf8_all, flat_map, if◌then◌else◌}
+use Rattle.std.specs.Prelude.{ℕ, pos, suc, ◌+◌, ◌+ℤ◌, ◌==◌, Bool, false, not, ◌&&◌, nat_le, nat_eq, int_le, int_lt, List, [], ◌∷◌, ◌++◌, length, take, drop, Option, None, Some, is_some, option_map, option_to_list, Result, Ok, Err, chars, encode_utf8_all, flat_map, if◌then◌else◌}
 use Rattle.std.specs.List.{starts_with}
 use Rattle.sch_base.specs.Characters.{is_whitespace}
 use Rattle.sch_base.specs.declared.limits.TheConstants.{MAX_TEXT_BYTES}

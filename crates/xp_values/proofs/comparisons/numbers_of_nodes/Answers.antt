@@ -1,5 +1,4 @@
 -- One text more is converted, or its fault is that of all.
-use Rattle.std.proofs.Common.{sym, ap, ◌∙◌}
 use Rattle.doc_tree.specs.Walks.{string_value_of}
 use Rattle.xp_values.proofs.CompareLemmas.{numbers_step, error_step, exit}
 use Rattle.xp_values.proofs.comparisons.numbers_of_nodes.Goals as goal

@@ -1,5 +1,5 @@
 -- The first byte that isn't whitespace begins what stands after it.
-use Rattle.std.proofs.Common.{sym, ◌∙◌, arith}
+use Rattle.std.proofs.Common.{sym, ◌∙◌}
 use Rattle.xp_values.specs.Numerals.{is_space}
 use Rattle.xp_values.proofs.NumeralLemmas.{cut_at, cut_none}
 use Rattle.xp_values.proofs.numerals.past_spaces.Goals as goal

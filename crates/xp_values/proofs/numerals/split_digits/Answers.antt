@@ -1,7 +1,7 @@
 -- The first byte that is no digit begins what stands after the digits.
 use Rattle.std.proofs.Common.{sym, ◌∙◌}
 use Rattle.xp_values.specs.Numerals.{is_digit}
-use Rattle.xp_values.proofs.NumeralLemmas.{CutAt, cut_at, cut_none}
+use Rattle.xp_values.proofs.NumeralLemmas.{cut_at, cut_none}
 use Rattle.xp_values.proofs.numerals.split_digits.Goals as goal
 
 pub split_at-requires : goal.split_at-requires

@@ -1,6 +1,5 @@
 -- One character more, which counts where it is new.
-use Rattle.std.proofs.Common.{◌≡◌, ℕ, is_some, nat_eq, true, false, take, sym, ap, ◌∙◌}
-use Rattle.std.specs.HashMap.{get}
+use Rattle.std.proofs.Common.{◌≡◌, ℕ, is_some, take, sym, ap, ◌∙◌}
 use Rattle.xp_values.specs.Texts.{counterpart}
 use Rattle.xp_values.proofs.ReplaceLemmas.{new_counterpart, old_counterpart}
 use Rattle.xp_values.proofs.replacing.counterparts.Goals as goal

@@ -1,5 +1,5 @@
 -- One character more, up to all of them.
-use Rattle.std.proofs.Common.{◌≡◌, string_bytes, chars, map, map-id, sym, ap, ◌∙◌}
+use Rattle.std.proofs.Common.{◌≡◌, string_bytes, chars, map-id, sym, ap, ◌∙◌}
 use Rattle.std.specs.Prelude.{encode_utf8_all}
 use Rattle.std.proofs.lemmas.Iterator.{YieldsList-from_chars}
 use Rattle.std.proofs.lemmas.Iterator.Consumers.{YieldsList-end}

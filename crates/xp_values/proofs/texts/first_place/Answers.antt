@@ -1,5 +1,4 @@
 -- A search finds the first place.
-use Rattle.std.proofs.Common.{sym, ◌∙◌}
 use Rattle.xp_values.proofs.TextLemmas.{found_place}
 use Rattle.xp_values.proofs.texts.first_place.Goals as goal
 

@@ -1,9 +1,7 @@
 -- The positions from a number on are those after the ones before it.
-use Rattle.std.proofs.Common.{◌≡◌, sym, ap, ◌∙◌, refl, arith, rules, w64, Some, None}
-use Rattle.std.specs.Prelude.{FitsSigned}
+use Rattle.std.proofs.Common.{w64}
 use Rattle.std.proofs.lemmas.Int.{to_z-of_z}
-use Rattle.xp_values.specs.inner.Positions.{positions_before}
-use Rattle.xp_values.proofs.PositionLemmas.{keeps_none_of, keeps_all, keeps_some}
+use Rattle.xp_values.proofs.PositionLemmas.{keeps_all}
 use Rattle.xp_values.proofs.texts.kept_after.Goals as goal
 
 pub returns-in-None : goal.returns-in-None

@@ -1,5 +1,5 @@
 -- The positions from a number on are those after the ones before it.
-use Rattle.std.proofs.Common.{◌≡◌, rules, w64}
+use Rattle.std.proofs.Common.{rules, w64}
 use Rattle.std.specs.Prelude.{FitsSigned}
 use Rattle.std.proofs.lemmas.Int.{to_z-of_z}
 use Rattle.xp_values.proofs.PositionLemmas.{keeps_none_of, keeps_some}

@@ -1,5 +1,5 @@
 -- From NaN on there are no positions.
-use Rattle.std.proofs.Common.{◌≡◌, sym, ap, ◌∙◌, refl, arith, rules, w64, Some, None}
+use Rattle.std.proofs.Common.{rules, w64}
 use Rattle.std.specs.Prelude.{FitsSigned}
 use Rattle.std.proofs.lemmas.Int.{to_z-of_z}
 use Rattle.xp_values.proofs.PositionLemmas.{keeps_none_from}

@@ -1,5 +1,5 @@
 -- A text may be cut before and after the first place of another.
-use Rattle.std.proofs.Common.{sym, ◌∙◌, arith}
+use Rattle.std.proofs.Common.{sym, ◌∙◌}
 use Rattle.xp_values.proofs.TextLemmas.{place_cuts}
 use Rattle.xp_values.proofs.texts.substring_after.Goals as goal
 
