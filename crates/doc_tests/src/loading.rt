@@ -1,119 +1,88 @@
-//! Outside examples: documents with namespaces, their nodes, their first faults, and their texts written again.
+//! Documents with namespaces, their nodes, their first faults, and their texts written again.
 
-use super::{DocFault, DocKind, LoadError, load_tree, write_tree};
-use doc_tree::Tree;
-use pyx_core::PyxKind;
+use crate::rows::{sides, text_of};
+use doc_tree::{MAX_TEXT_BYTES, Tree};
+use name_scopes::{DocFault, DocKind, LoadError, load_tree, write_tree};
 use sch_io::{Failed, MemorySink};
+use std::alloc::Global;
+use std::process::Abort;
 use std::test::Fail;
 
-/// The nodes in document order: of each that has a name its namespace and its local part, and its value.
-fn shown(rt: &HostRuntime, tree: &Tree) -> Result<String, Fail> {
-    let mut text = String::new(rt.alloc());
-    let nodes = tree.nodes_in_order(rt.alloc())?;
+/// Documents and their nodes in document order: of each that has a name its namespace and its local part, and the
+/// value.
+const DOCUMENTS: &str = "\
+(inv:invoice|Aid 7|Axmlns:inv urn:example:inv|-\\n|(inv:line|-10|-0|)inv:line|-\\n|)inv:invoice| => \
+=; {urn:example:inv}invoice=; {}id=7; =|; {urn:example:inv}line=; =100; =|\n\
+(a|Axmlns u|Ak 1|(b|Axmlns |)b|(c|)c|)a| => =; {u}a=; {}k=1; {}b=; {u}c=\n\
+(p:a|Axmlns:p u|(p:b|Ap:k 1|Axmlns:p v|)p:b|(p:c|)p:c|)p:a| => =; {u}a=; {v}b=; {v}k=1; {u}c=\n\
+?t d|(a|Axml:lang en|)a|Cc| => =; {}t=d; {}a=; {http://www.w3.org/XML/1998/namespace}lang=en; =c\n";
+
+/// Documents and their first faults.
+const FAULTY_DOCUMENTS: &str = " => line 1: Pyx(NoRoot)\n\
+(p:a|)p:a| => line 1: NoPrefix\n\
+(a|Ap:k 1|)a| => line 1: NoPrefix\n\
+(xmlns:a|)xmlns:a| => line 1: NoPrefix\n\
+(a|(p:b|Axmlns:p u|)p:b|(p:c|)p:c|)a| => line 5: NoPrefix\n\
+(a|Ax 1|Ax 2|)a| => line 1: SameAttribute\n\
+(a|Axmlns:p u|Axmlns:p u|)a| => line 1: SameAttribute\n\
+(a||(b|Axmlns:p u|Axmlns:q u|Ap:k 1|Aq:k 2|)b|)a| => line 3: SameAttribute\n\
+(a|Axmlns:p|)a| => line 1: BadDeclaration\n\
+(p:a|Axmlns:p|)p:a| => line 1: BadDeclaration\n\
+(a|Axmlns:xmlns u|)a| => line 1: BadDeclaration\n\
+(a|Axmlns:xml u|)a| => line 1: BadDeclaration\n\
+(a|Axmlns http://www.w3.org/2000/xmlns/|)a| => line 1: BadDeclaration\n\
+(a|Axmlns:p it's\"|)a| => line 1: BothQuotes\n\
+(p:a|-x| => line 1: NoPrefix\n\
+(p:a|-x => line 2: Pyx(Unfinished)\n\
+(p:a|Ax 1|&| => line 3: Pyx(EntityLine)\n\
+(a|(b|)a| => line 3: Pyx(WrongEnd)\n";
+
+/// Loads a text of a test.
+fn loaded(rt: &impl Abort, alloc: Global, text: &str) -> Result<Tree, LoadError> {
+    assert!(rt; text.len() <= MAX_TEXT_BYTES);
+    load_tree(alloc, text.as_bytes())
+}
+
+/// The nodes in document order, as a row of a table shows them.
+fn shown(alloc: Global, tree: &Tree) -> Result<String, Fail> {
+    let mut text = String::new(alloc);
+    let nodes = tree.nodes_in_order(alloc)?;
     for node in nodes.as_slice() {
+        if !text.is_empty() {
+            text.push_str("; ")?;
+        }
         if let Some(name) = tree.name(*node) {
-            text.push('{')?;
-            text.push_str(tree.uri_of(name))?;
-            text.push('}')?;
-            text.push_str(tree.local_of(name))?;
+            let (uri, local) = (tree.uri_of(name), tree.local_of(name));
+            text.push_str(format!(in alloc; "{{{uri}}}{local}")?.as_str())?;
         }
         text.push('=')?;
         text.push_str(tree.value(*node))?;
-        text.push('|')?;
     }
     Ok(text)
 }
 
-/// Loads a text of a test.
-fn loaded(rt: &HostRuntime, text: &str) -> Result<Result<Tree, LoadError>, Fail> {
-    if text.len() > 1000000 {
-        return Err("too long".into());
-    }
-    Ok(load_tree(rt.alloc(), text.as_bytes()))
-}
-
-#[test]
-fn namespaced_invoice(rt: HostRuntime) -> Result<(), Fail> {
-    let text =
-        "(inv:invoice\nAid 7\nAxmlns:inv urn:example:inv\n-\\n\n(inv:line\n-10\n-0\n)inv:line\n-\\n\n)inv:invoice\n";
-    let tree = loaded(&rt, text)??;
-    assert_eq!(rt; tree.live_nodes(), 7);
-    let nodes = shown(&rt, &tree)?;
-    assert_eq!(rt;
-        nodes.as_str(),
-        "=|{urn:example:inv}invoice=|{}id=7|=\n|{urn:example:inv}line=|=100|=\n|"
-    );
-    Ok(())
-}
-
 #[test]
 fn namespaces_of_names(rt: HostRuntime) -> Result<(), Fail> {
-    let cases = [
-        // the default namespace is set, undone and no attribute's
-        (
-            "(a\nAxmlns u\nAk 1\n(b\nAxmlns \n)b\n(c\n)c\n)a\n",
-            "=|{u}a=|{}k=1|{}b=|{u}c=|",
-        ),
-        // a prefix is declared anew, and the outer declaration is back behind the element
-        (
-            "(p:a\nAxmlns:p u\n(p:b\nAp:k 1\nAxmlns:p v\n)p:b\n(p:c\n)p:c\n)p:a\n",
-            "=|{u}a=|{v}b=|{v}k=1|{u}c=|",
-        ),
-        // the prefix xml needs no declaration
-        (
-            "?t d\n(a\nAxml:lang en\n)a\nCc\n",
-            "=|{}t=d|{}a=|{http://www.w3.org/XML/1998/namespace}lang=en|=c|",
-        ),
-    ];
-    for (text, nodes) in cases {
-        let tree = loaded(&rt, text)??;
-        let found = shown(&rt, &tree)?;
-        assert_eq!(rt; found.as_str(), nodes);
+    for row in DOCUMENTS.lines() {
+        let (text, wanted) = sides(row)?;
+        let text = text_of(rt.alloc(), text)?;
+        let tree = loaded(&rt, rt.alloc(), text.as_str())?;
+        let wanted = text_of(rt.alloc(), wanted)?;
+        assert_eq!(rt; shown(rt.alloc(), &tree)?.as_str(), wanted.as_str());
     }
     Ok(())
 }
 
 #[test]
 fn document_faults(rt: HostRuntime) -> Result<(), Fail> {
-    let cases = [
-        ("(p:a\n)p:a\n", 1, DocKind::NoPrefix),
-        ("(a\nAp:k 1\n)a\n", 1, DocKind::NoPrefix),
-        ("(xmlns:a\n)xmlns:a\n", 1, DocKind::NoPrefix),
-        (
-            "(a\n(p:b\nAxmlns:p u\n)p:b\n(p:c\n)p:c\n)a\n",
-            5,
-            DocKind::NoPrefix,
-        ),
-        ("(a\nAx 1\nAx 2\n)a\n", 1, DocKind::SameAttribute),
-        (
-            "(a\nAxmlns:p u\nAxmlns:p u\n)a\n",
-            1,
-            DocKind::SameAttribute,
-        ),
-        (
-            "(a\n\n(b\nAxmlns:p u\nAxmlns:q u\nAp:k 1\nAq:k 2\n)b\n)a\n",
-            3,
-            DocKind::SameAttribute,
-        ),
-        ("(a\nAxmlns:p\n)a\n", 1, DocKind::BadDeclaration),
-        ("(p:a\nAxmlns:p\n)p:a\n", 1, DocKind::BadDeclaration),
-        ("(a\nAxmlns:xmlns u\n)a\n", 1, DocKind::BadDeclaration),
-        ("(a\nAxmlns:xml u\n)a\n", 1, DocKind::BadDeclaration),
-        (
-            "(a\nAxmlns http://www.w3.org/2000/xmlns/\n)a\n",
-            1,
-            DocKind::BadDeclaration,
-        ),
-        ("(a\nAxmlns:p it's\"\n)a\n", 1, DocKind::BothQuotes),
-        ("(p:a\n-x\n", 1, DocKind::NoPrefix),
-        ("(p:a\n-x", 2, DocKind::Pyx(PyxKind::Unfinished)),
-        ("(p:a\nAx 1\n&\n", 3, DocKind::Pyx(PyxKind::EntityLine)),
-        ("(a\n(b\n)a\n", 3, DocKind::Pyx(PyxKind::WrongEnd)),
-        ("", 1, DocKind::Pyx(PyxKind::NoRoot)),
-    ];
-    for (text, line, kind) in cases {
-        match loaded(&rt, text)? {
-            Err(error) => assert_eq!(rt; error, LoadError::Fault(DocFault { line, kind })),
+    for row in FAULTY_DOCUMENTS.lines() {
+        let (text, wanted) = sides(row)?;
+        let text = text_of(rt.alloc(), text)?;
+        match loaded(&rt, rt.alloc(), text.as_str()) {
+            Err(error) => {
+                let told = format!(in rt.alloc(); "{error}")?;
+                assert_eq!(rt; told.as_str(), wanted, "of {row}");
+            }
             Ok(_) => return Err("loaded".into()),
         }
     }
@@ -121,8 +90,8 @@ fn document_faults(rt: HostRuntime) -> Result<(), Fail> {
 }
 
 /// So many elements, each in the one before.
-fn nested(rt: &HostRuntime, count: usize) -> Result<String, Fail> {
-    let mut text = String::new(rt.alloc());
+fn nested(alloc: Global, count: usize) -> Result<String, Fail> {
+    let mut text = String::new(alloc);
     for _ in 0..count {
         text.push_str("(a\n")?;
     }
@@ -134,17 +103,16 @@ fn nested(rt: &HostRuntime, count: usize) -> Result<String, Fail> {
 
 #[test]
 fn depth_limit(rt: HostRuntime) -> Result<(), Fail> {
-    let shallow = nested(&rt, 256)?;
-    let tree = loaded(&rt, shallow.as_str())??;
+    let shallow = nested(rt.alloc(), 256)?;
+    let tree = loaded(&rt, rt.alloc(), shallow.as_str())?;
     assert_eq!(rt; tree.live_nodes(), 257);
-    let deep = nested(&rt, 257)?;
-    match loaded(&rt, deep.as_str())? {
-        Err(LoadError::Fault(fault)) => {
-            assert_eq!(rt; fault.line, 257);
-            assert_eq!(rt; fault.kind, DocKind::TooDeep);
-        }
-        _ => return Err("no fault".into()),
-    }
+    let deep = nested(rt.alloc(), 257)?;
+    let fault = DocFault {
+        line: 257,
+        kind: DocKind::TooDeep,
+    };
+    let found = loaded(&rt, rt.alloc(), deep.as_str());
+    assert_eq!(rt; found.err(), Some(LoadError::Fault(fault)));
     Ok(())
 }
 
@@ -156,7 +124,7 @@ fn written_again(rt: HostRuntime) -> Result<(), Fail> {
     let wanted =
         "?t d\n(p:a\nAxmlns:p u\nAxmlns v\nAid 7\n-a\\nb\n(b\nAp:k 1\\t2\n)b\nCc\\\\\n)p:a\n";
     for document in [text, wanted] {
-        let tree = loaded(&rt, document)??;
+        let tree = loaded(&rt, rt.alloc(), document)?;
         let mut sink = MemorySink::with_room(rt.alloc(), 200)?;
         assert_eq!(rt; write_tree(&tree, &mut sink), Ok(()));
         assert_eq!(rt; sink.written(), wanted.as_bytes());
@@ -166,7 +134,7 @@ fn written_again(rt: HostRuntime) -> Result<(), Fail> {
 
 #[test]
 fn no_room_to_write(rt: HostRuntime) -> Result<(), Fail> {
-    let tree = loaded(&rt, "(a\n-x\n)a\n")??;
+    let tree = loaded(&rt, rt.alloc(), "(a\n-x\n)a\n")?;
     let mut sink = MemorySink::with_room(rt.alloc(), 5)?;
     assert_eq!(rt; write_tree(&tree, &mut sink), Err(Failed));
     assert_eq!(rt; sink.written(), b"(a\n-x".as_slice());

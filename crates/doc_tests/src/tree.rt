@@ -1,57 +1,37 @@
-//! Calls that take memory, with enough of it, and trees that are built node by node.
+//! Trees that are built node by node, and the tables of their names.
 
-ghost use Rattle.std.specs.Prelude.{◌≡◌, ◌<◌, true, length};
-ghost use Rattle.doc_tree.specs.Table.{AllLive, kind_of};
-ghost use Rattle.doc_tree.specs.Kinds.{holds_kids};
-ghost use Rattle.doc_tree.specs.Walks.{is_open};
-
-use crate::{AppendError, Kind, NameId, NewNode, NodeId, Tree};
-use std::alloc::Global;
+use doc_tree::{NameTable, NewNode, NodeId, Tree, WordTable};
 use std::process::Abort;
 use std::test::Fail;
 
-/// A tree, and the node under which the next one comes.
-#[derive(Drop)]
-struct Builder {
-    tree: Tree,
-    at: NodeId,
-    ghost holder: { holds_kids (kind_of tree.nodes at) ≡ true },
-    ghost last: { is_open tree.nodes at ≡ true },
-    ghost all_live: { AllLive tree.nodes },
-}
-
-impl Builder {
-    fn new(alloc: Global) -> Result<Builder, Fail> {
-        let tree = Tree::new(alloc)?;
-        let at = tree.root();
-        Ok(Builder { tree, at })
-    }
-
-    fn start(&mut self, name: &str) -> Result<NodeId, Fail> {
-        let id = self.tree.name_id("", name, "")?;
-        let n = self.tree.append_node(self.at, NewNode::Element(id))?;
-        self.at = n;
-        Ok(n)
-    }
-
-    fn end(&mut self) {
-        self.tree.laws();
-        if let Some(parent) = self.tree.parent(self.at) {
-            self.at = parent;
-        }
-    }
+#[test]
+fn numbers_words_once(rt: HostRuntime) -> Result<(), Fail> {
+    let mut words = WordTable::new(rt.alloc());
+    assert_eq!(rt; words.number(rt.alloc(), "a")?, 0);
+    assert_eq!(rt; words.number(rt.alloc(), "b")?, 1);
+    assert_eq!(rt; words.number(rt.alloc(), "a")?, 0);
+    assert_eq!(rt; words.find("b"), Some(1));
+    assert_eq!(rt; words.find("c"), None);
+    assert_eq!(rt; words.word(1), "b");
+    Ok(())
 }
 
 #[test]
 fn numbers_names_once(rt: HostRuntime) -> Result<(), Fail> {
+    let mut names = NameTable::new(rt.alloc());
+    for (prefix, wanted) in [("p", 0), ("", 1), ("p", 0)] {
+        let id = names.number(rt.alloc(), prefix, "a", "u")?;
+        assert_eq!(rt; id.index(), wanted);
+    }
     let mut tree = Tree::new(rt.alloc())?;
-    let first = tree.name_id("p", "a", "u")?;
-    let second = tree.name_id("", "a", "u")?;
-    let third = tree.name_id("p", "a", "u")?;
-    assert_eq!(rt; first.index(), 0);
-    assert_eq!(rt; second.index(), 1);
-    assert_eq!(rt; third.index(), 0);
-    assert_eq!(rt; tree.nodes_in_order(rt.alloc())?.len(), 1);
+    for (prefix, wanted) in [("p", 0), ("", 1), ("p", 0)] {
+        let id = tree.name_id(prefix, "a", "u")?;
+        assert_eq!(rt; id.index(), wanted);
+    }
+    assert_eq!(rt;
+        tree.nodes_in_order(rt.alloc())?.as_slice(),
+        [tree.root()].as_slice()
+    );
     Ok(())
 }
 
@@ -71,10 +51,16 @@ fn places_and_string_values(rt: HostRuntime) -> Result<(), Fail> {
     let mut tree = Tree::new(rt.alloc())?;
     let name = tree.name_id("", "a", "")?;
     let outer = tree.append_node(tree.root(), NewNode::Element(name))?;
+    tree.append_decl(outer, "p", "u")?;
     let inner = tree.append_node(outer, NewNode::Element(name))?;
     let text = tree.append_node(inner, NewNode::Text("xyz"))?;
+    assert_eq!(rt; tree.lookup(text, "p"), Some("u"));
     let nodes = [tree.root(), outer, inner, text];
     in_order(&rt, &tree, &nodes);
+    assert_eq!(rt;
+        tree.nodes_in_order(rt.alloc())?.as_slice(),
+        nodes.as_slice()
+    );
     for n in nodes {
         assert_eq!(rt; tree.string_value(rt.alloc(), n)?.as_str(), "xyz");
     }
