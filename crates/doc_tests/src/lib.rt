@@ -3,7 +3,6 @@
 
 #[cfg(test)]
 mod loading;
-#[cfg(test)]
-mod rows;
+pub mod rows;
 #[cfg(test)]
 mod tree;

@@ -7,8 +7,7 @@ mod lists;
 mod names;
 #[cfg(test)]
 mod reading;
-#[cfg(test)]
-mod rows;
+pub mod rows;
 #[cfg(test)]
 mod streams;
 #[cfg(test)]

@@ -1,10 +1,14 @@
 //! Rows of tables: each is a line of text with two sides, in which `|` stands for a line end.
 
+ghost use Rattle.std.specs.Prelude.{◌≡◌, ◌++◌, codes, IfOk};
+
 use std::alloc::Global;
 use std::test::Fail;
 
-/// The two sides of a row, about its ` => `.
-pub(crate) fn sides(row: &str) -> Result<(&str, &str), Fail> {
+/// The two sides of a row, about its first ` => `.
+pub fn sides(row: &str) -> Result<(&str, &str), Fail>
+    ensures { IfOk result (λ sides. row.now ≡ sides.0.now ++ (codes " => " ++ sides.1.now)) }
+{
     match row.split_once(" => ") {
         Some(sides) => Ok(sides),
         None => Err("a row without its mark".into()),
@@ -12,12 +16,12 @@ pub(crate) fn sides(row: &str) -> Result<(&str, &str), Fail> {
 }
 
 /// The text of a side of a row.
-pub(crate) fn text_of(alloc: Global, side: &str) -> Result<String, Fail> {
+pub fn text_of(alloc: Global, side: &str) -> Result<String, Fail> {
     Ok(side.replace(alloc, '|', "\n")?)
 }
 
 /// The first word of a call, and what follows the space after it.
-pub(crate) fn first_word(call: &str) -> (&str, &str) {
+pub fn first_word(call: &str) -> (&str, &str) {
     match call.split_once(' ') {
         Some(parts) => parts,
         None => (call, ""),
