@@ -25,7 +25,7 @@ sub-filter p (x ∷ xs) = by (p x) (sub-filter p xs)
 pub sub-in : {xs ys : List ℕ} (m : ℕ) → Sub xs ys → In m xs → In m ys
 sub-in m s h = omega (arith, h, sub-occurs m s)
 
--- what holds behind the first number of a list without repeats
+-- what holds after the first number of a list without repeats
 rest_once : (o : ℕ) (O : List ℕ) → Distinct (o ∷ O) → Distinct O
 rest_once o O once = λ m. omega (arith, once m)
 
@@ -81,7 +81,7 @@ chained (o ∷ O) (a ∷ front) x zs once (keep s) (skip t) = keep (chained O fr
 chained (o ∷ O) (a ∷ front) x zs once (skip s) (keep t) = absurd (differs o o O once (sub-in o s (last-in (a ∷ front) o)) refl)
 chained (o ∷ O) (a ∷ front) x zs once (keep s) (keep t) = absurd (differs o o O once (sub-in o s (last-in front o)) refl)
 
--- a number and one that stands behind it
+-- a number and one that stands after it
 pub pair_kept : (O : List ℕ) (x y : ℕ) → mem y (after x O) ≡ true → Sub (x ∷ y ∷ []) O
 pair_kept [] x y h = absurd (true≢false (sym h))
 pair_kept (o ∷ O) x y h = by (eqb x o) refl h (pair_kept O x y)
@@ -90,7 +90,7 @@ pair_kept (o ∷ O) x y h = by (eqb x o) refl h (pair_kept O x y)
     by true e h more = subst (λ k. Sub (x ∷ y ∷ []) (k ∷ O)) (eqb-true x o e) (keep (sub-one y O (mem-In y O h)))
     by false e h more = skip (more h)
 
--- where of two different numbers the second doesn't stand behind the first, it is the other way
+-- where of two different numbers the second doesn't stand after the first, it is the other way
 pub pair_turned : (O : List ℕ) (x y : ℕ) → In x O → In y O → x ≢ y → mem y (after x O) ≡ false → Sub (y ∷ x ∷ []) O
 pair_turned [] x y hx hy ne h = absurd (omega arith)
 pair_turned (o ∷ O) x y hx hy ne h = by (eqb x o) refl h (In-cons x o O hx) (In-cons y o O hy) (λ kx ky k. pair_turned O x y kx ky ne k)

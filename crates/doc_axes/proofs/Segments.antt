@@ -1,4 +1,4 @@
--- Document order round a node: what stands before it, it and all below it, and what stands behind.
+-- Document order round a node: what stands before it, it and all below it, and what stands after.
 use Rattle.std.proofs.Common.{◌≡◌, ◌≢◌, ℕ, ◌+◌, ◌≤◌, suc, zero, Bool, true, false, ◌||◌, List, [], ◌∷◌, ◌++◌, length, eqb, Some, refl, sym, ap, ◌∙◌, subst, ⊎_elim, true≢false, arith, append_assoc, append-nil, ne_eqb, eq-eqb}
 use Rattle.std.specs.List.{flat_map}
 use Rattle.std.specs.Prelude.{filter}
@@ -8,21 +8,22 @@ use Rattle.doc_tree.specs.Walks.{ancestors, order, below}
 use Rattle.doc_tree.specs.Order.{Nested}
 use Rattle.doc_tree.specs.Laws.{WellFormed, Ordered, HasWaysUp}
 use Rattle.doc_tree.proofs.ListLemmas.{In, In-mem, mem-In, none-mem, occurs-append, occurs-head, eq_or}
-use Rattle.doc_tree.proofs.OrderLemmas.{Apart, SplitAt, split_at, after-self, apart-after, flat_map-append, below-head, below-listed}
+use Rattle.std.proofs.lemmas.Grind.{flat_map-append}
+use Rattle.doc_tree.proofs.OrderLemmas.{Apart, SplitAt, split_at, after-self, apart-after, below-head, below-listed}
 use Rattle.doc_axes.specs.Axes.{backwards, is_after, is_ancestor}
 use Rattle.doc_axes.proofs.SubLists.{Sub, done, keep, sub-none, sub-append, sub-occurs, filter-append, occurs-backwards}
 
 abbrev pub listed : Table → ℕ → List ℕ
 listed T p = attrs_of T p ++ kids_of T p
 
--- where a node stands: what is before it and behind all below it, its ancestors standing before it
+-- where a node stands: what is before it and after all below it, its ancestors standing before it
 pub record Place (T : Table) (n : ℕ) : Type 0 where
   pub front : List ℕ
   pub back : List ℕ
   pub is : order T ≡ front ++ (below T n ++ back)
   pub ups : Sub (backwards (ancestors T n)) front
 
--- how a node m stands to n: behind it, before it, below it, above it, the same
+-- how a node m stands to n: after it, before it, below it, above it, the same
 pub record Stands (T : Table) (n m : ℕ) (behind before under over same : Bool) : Type 0 where
   pub is_behind : is_after T n m ≡ behind
   pub is_before : is_after T m n ≡ before

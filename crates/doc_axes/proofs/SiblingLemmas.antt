@@ -1,4 +1,4 @@
--- The kids before and behind a node, and the axes of siblings.
+-- The kids before and after a node, and the axes of siblings.
 use Rattle.std.proofs.Common.{◌≡◌, ℕ, ◌+◌, ◌<◌, ◌≤◌, suc, Bool, true, false, not, cond, ◌||◌, ◌&&◌, List, [], ◌∷◌, ◌++◌, ◌⊎◌, length, take, drop, eqb, ltb, ltb-true, ltb-false, Option, None, Some, refl, sym, ap, ◌∙◌, subst, ⊎_elim, true≢false, arith, add-one, eq-eqb, append_assoc, inl, inr}
 use Rattle.std.specs.Prelude.{position}
 use Rattle.std.specs.List.{prefix_len}
@@ -96,7 +96,7 @@ before-occurs m n (x ∷ xs) = by (eqb n x) (before-occurs m n xs)
     by true h = omega arith
     by false h = omega (arith, h)
 
--- the kids before and behind one of them are kids
+-- the kids before and after one of them are kids
 pub behind_in : (m n : ℕ) (kids : List ℕ) → mem m (kids_behind n kids) ≡ true → mem m kids ≡ true
 behind_in m n kids h = by (mem n kids) h
   where
@@ -206,7 +206,7 @@ module _ (T : Table) (form : WellFormed T) (ord : Ordered T) (up : HasWaysUp T) 
     earlier : (m : ℕ) → In m s.front → Apart m n (order T)
     earlier m h = sub-apart m n (kids_of T p) (order T) kids (record { front = s.front; back = n ∷ s.back; is = s.is; first = h; second = occurs-head n s.back })
 
-    -- each kid stands before the node, is it, or stands behind it
+    -- each kid stands before the node, is it, or stands after it
     sides : (m : ℕ) → mem m (kids_of T p) ≡ true → In m s.front ⊎ ((m ≡ n) ⊎ In m s.back)
     sides m h =
         ⊎_elim (λ (k : In m s.front). inl k) (λ (k : In m (n ∷ s.back)). inr (In-cons m n s.back k))

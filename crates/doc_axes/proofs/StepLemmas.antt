@@ -9,7 +9,8 @@ use Rattle.doc_tree.specs.Walks.{ancestors, below}
 use Rattle.doc_tree.specs.Order.{Nested}
 use Rattle.doc_tree.specs.Laws.{WellFormed, Ordered, HasWaysUp}
 use Rattle.doc_tree.proofs.ListLemmas.{In, In-mem, mem-In, In-append, none-mem, occurs-append, occurs-head, eq_or}
-use Rattle.doc_tree.proofs.OrderLemmas.{SplitAt, split_at, flat_map-append}
+use Rattle.std.proofs.lemmas.Grind.{flat_map-append}
+use Rattle.doc_tree.proofs.OrderLemmas.{SplitAt, split_at}
 use Rattle.doc_axes.specs.Axes.{is_attribute, is_ancestor, axis_order}
 use Rattle.doc_axes.specs.Plain.{plain, plain_below}
 use Rattle.doc_axes.specs.Siblings.{kids_before, kids_behind}
@@ -76,7 +77,7 @@ module _ (T : Table) (form : WellFormed T) (ord : Ordered T) (up : HasWaysUp T) 
   unfolding place_root
   no_preceding n live none = subst (λ k. axis_order T Preceding k ≡ []) (sym (top n live none)) (preceding_axis T form ord up nest 0 (place_root T form ord up nest))
 
-  -- what follows a node: all below the kids behind it, then what follows its parent
+  -- what follows a node: all below the kids after it, then what follows its parent
   pub following_step : (n p : ℕ) → parent_of T n ≡ Some p →
       axis_order T Following n ≡ plain_below T (kids_behind n (kids_of T p)) ++ axis_order T Following p
   unfolding place_under

@@ -1,4 +1,4 @@
--- Qualified names as they are written (Namespaces in XML 1.0 section 4).
+-- Qualified names as they are written (Namespaces in XML 1.0, section 4).
 use Rattle.std.specs.Prelude.{ℕ, List, [], ◌∷◌, ◌++◌}
 use Rattle.doc_names.specs.Name.{Name}
 

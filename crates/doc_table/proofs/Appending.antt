@@ -12,31 +12,17 @@ use Rattle.doc_table.specs.Lines.{Line, lines, closing, opens, closes, first_lin
 use Rattle.doc_table.specs.Growth.{with_node, with_link, leaf, as_attribute, FitsUnder, is_too_deep, has_too_many, has_too_much_text, passed_limit, Grew}
 use Rattle.doc_table.specs.Kinds.{holds_kids}
 use Rattle.doc_table.specs.inner.Forest.{bare, flat, Whole}
-use Rattle.doc_table.specs.inner.Sound.{Fits, Formed, count_live}
+use Rattle.doc_table.specs.inner.Sound.{Fits, Formed, count_live, text_in, text_held}
 use Rattle.std.proofs.lemmas.Bool.{leb-false}
 use Rattle.doc_table.proofs.ListLemmas.{In, In-mem, occurs-head, flat_map-same, eq_or, last-append, flat_map-nothing, sum_by-same}
 use Rattle.doc_table.proofs.Paths.{Path, plug, owner, chain, Edge}
+use Rattle.doc_table.proofs.Counts.{sum-set, sum-more, live-count, text-count}
 use Rattle.doc_table.proofs.Telling.{order-flat}
 use Rattle.doc_table.proofs.Places.{Hole, open_hole, above-owner}
 use Rattle.doc_table.proofs.Ways.{In-live, above-live, climb-none}
 use Rattle.doc_table.proofs.Growing.{KidGrown, link-live, AttributeGrown, entry-new, parent-kept, content-kept, live-kept, kids-parent, attributes-parent, links-kept, old-number, length-grown}
 use Rattle.doc_table.proofs.Grown.{grown_place, grown_whole, grown_way, walk-grown, way-kept}
 use Rattle.doc_table.proofs.Fitting.{fits-other, fits-parent, fits-new}
-
--- the counts of live nodes
-count-set : (T : Table) (p : ℕ) (v : Option Facts) → is_some v ≡ is_live T p → count_live (set T p v) ≡ count_live T
-count-set [] p v h = refl
-count-set (None ∷ T) zero None h = refl
-count-set (None ∷ T) zero (Some node) h = absurd (true≢false h)
-count-set (Some old ∷ T) zero None h = absurd (true≢false (sym h))
-count-set (Some old ∷ T) zero (Some node) h = refl
-count-set (None ∷ T) (suc p) v h = count-set T p v h
-count-set (Some old ∷ T) (suc p) v h = ap (λ k. 1 + k) (count-set T p v h)
-
-count-more : (T : Table) (node : Facts) → count_live (T ++ Some node ∷ []) ≡ 1 + count_live T
-count-more [] node = refl
-count-more (None ∷ T) node = count-more T node
-count-more (Some old ∷ T) node = ap (λ k. 1 + k) (count-more T node)
 
 pub count-all : (T : Table) → AllLive T → count_live T ≡ length T
 count-all [] all = refl
@@ -165,10 +151,15 @@ module _ (T : Table) (C : Path) (c : Content) (formed : Formed T) (w : Whole T (
       (sum_by-cons (λ m. length (value_of (with_node T (owner C) c) m)) (length T) []
       ∙ ap (λ e. length (value_at (content_at e)) + 0) newest ∙ omega arith))
 
-  counted-grown : count_live (with_node T (owner C) c) ≡ 1 + count_live T
+  counted-grown : count_live (with_node T (owner C) c) ≡ count_live T + 1
   counted-grown =
-      count-more (set T (owner C) (with_link c (length T) (entry_at T (owner C)))) (leaf (owner C) c)
-      ∙ ap (λ k. 1 + k) (count-set T (owner C) (with_link c (length T) (entry_at T (owner C))) (link-live c (length T) (entry_at T (owner C))))
+      sum-more (λ _. 1) (set T (owner C) (with_link c (length T) (entry_at T (owner C)))) (leaf (owner C) c)
+      ∙ ap (λ k. k + 1) (sum-set (λ _. 1) T (owner C) (with_link c (length T)) refl (λ node. refl))
+
+  held-grown : text_held (with_node T (owner C) c) ≡ text_held T + length (value_in c)
+  held-grown =
+      sum-more text_in (set T (owner C) (with_link c (length T) (entry_at T (owner C)))) (leaf (owner C) c)
+      ∙ ap (λ k. k + length (value_in c)) (sum-set text_in T (owner C) (with_link c (length T)) refl (λ node. refl))
 
   fits-grown : (m : ℕ) → Fits (with_node T (owner C) c) m
   fits-grown m =
@@ -193,22 +184,20 @@ module _ (T : Table) (C : Path) (c : Content) (formed : Formed T) (w : Whole T (
   few-before = leb-false MAX_LIVE_NODES (length (order T)) limits.few
 
   few-numbers : length T < MAX_LIVE_NODES
-  few-numbers = omega (arith, count-all T all, formed.counted, few-before)
+  few-numbers = omega (arith, count-all T all, live-count T (plug C bare) w, few-before)
 
   pub formed-grown : Formed (with_node T (owner C) c)
   formed-grown =
       let forest = grown_whole T C c place in
-      let longer : length (order (with_node T (owner C) c)) ≡ length (order T) + 1 = ap length order-grown ∙ length-append (order T) (length T ∷ []) in
       let text : text_bytes T + length (value_in c) ≤ MAX_LIVE_TEXT_BYTES = ltb-false MAX_LIVE_TEXT_BYTES (text_bytes T + length (value_in c)) limits.little in
       record {
         forest = forest.0;
         whole = forest.1;
         root_kind = ap kind_at (content-kept T (owner C) c live 0 (old-number T (owner C) c live 0 (In-live T (plug C bare) w 0 (occurs-head 0 (flat (plug C bare)))))) ∙ formed.root_kind;
         fits = fits-grown;
-        counted = omega (arith, counted-grown, formed.counted, longer);
-        few_nodes = omega (arith, longer, few-before);
+        few_nodes = omega (arith, counted-grown, live-count T (plug C bare) w, few-before);
         few_numbers = omega (arith, length-grown T (owner C) c live, few-numbers);
-        little_text = omega (arith, text-grown, text);
+        little_text = omega (arith, held-grown, text-count T (plug C bare) w, text);
       }
 
   pub grew : Grew T (with_node T (owner C) c) (owner C) (length T) c
@@ -238,11 +227,20 @@ module _ (T : Table) (C : Path) (c : Content) (formed : Formed T) (w : Whole T (
   }
 
 -- what appending a node to a tree's table makes of it
-pub appended : (T : Table) (p : ℕ) (c : Content) → Formed T → holds_kids (kind_of T p) ≡ true → FitsUnder T p c → is_open T p ≡ true → AllLive T → passed_limit T p c ≡ None →
-    Formed (with_node T p c) × Grew T (with_node T p c) p (length T) c
+pub record Appended (T : Table) (p : ℕ) (c : Content) : Type 0 where
+  pub formed : Formed (with_node T p c)
+  pub grew : Grew T (with_node T p c) p (length T) c
+  pub counted : count_live (with_node T p c) ≡ count_live T + 1
+  pub held : text_held (with_node T p c) ≡ text_held T + length (value_in c)
+
+pub appended : (T : Table) (p : ℕ) (c : Content) → Formed T → holds_kids (kind_of T p) ≡ true → FitsUnder T p c → is_open T p ≡ true → AllLive T → passed_limit T p c ≡ None → Appended T p c
 appended T p c formed holder fits open_p all none =
     let hole : Hole formed.forest p = open_hole T formed.forest p formed.whole open_p (λ q k. holder-apart T formed.fits p q holder k) in
-    subst (λ q. holds_kids (kind_of T q) ≡ true → FitsUnder T q c → passed_limit T q c ≡ None → Formed (with_node T q c) × Grew T (with_node T q c) q (length T) c) hole.owns
-    (λ h f n. let w : Whole T (plug hole.path bare) = subst (Whole T) (sym hole.fills) formed.whole in
-    (formed-grown T hole.path c formed w hole.edge h f all n, grew T hole.path c formed w hole.edge h f all n))
+    subst (λ q. holds_kids (kind_of T q) ≡ true → FitsUnder T q c → passed_limit T q c ≡ None → Appended T q c) hole.owns
+    (λ h f n. let w : Whole T (plug hole.path bare) = subst (Whole T) (sym hole.fills) formed.whole in record {
+      formed = formed-grown T hole.path c formed w hole.edge h f all n;
+      grew = grew T hole.path c formed w hole.edge h f all n;
+      counted = counted-grown T hole.path c formed w hole.edge h f all n;
+      held = held-grown T hole.path c formed w hole.edge h f all n;
+    })
     holder fits none

@@ -4,12 +4,12 @@ use Rattle.std.specs.List.{flat_map}
 use Rattle.std.proofs.lemmas.List.{append_cancel_right, map-append}
 use Rattle.doc_table.specs.declared.kind.Kind.TheVariants.{Root, Element, Attribute}
 use Rattle.doc_table.specs.Lists.{mem, occurs, last_or}
-use Rattle.doc_table.specs.Table.{Table, Facts, Name, Content, root, element, attribute, text, comment, instruction, entry_at, parent_at, kids_at, attrs_at, content_at, kind_at, name_at, value_at, decls_at, expanded_in, parent_of, kids_of, attrs_of, content_of, kind_of, name_of, decls_of, value_of, expanded_of, is_live}
+use Rattle.doc_table.specs.Table.{Table, Facts, Name, Content, root, element, attribute, text, comment, instruction, entry_at, value_in, parent_at, kids_at, attrs_at, content_at, kind_at, name_at, value_at, decls_at, expanded_in, parent_of, kids_of, attrs_of, content_of, kind_of, name_of, decls_of, value_of, expanded_of, is_live}
 use Rattle.doc_table.specs.Walks.{walk, walked, climb, ancestors, above, order, is_open, last_node, text_bytes}
 use Rattle.doc_table.specs.Lines.{Line, starts, declares, first_lines, last_lines, lines_at, opens, closes, lines, closing}
 use Rattle.doc_table.specs.Kinds.{holds_kids, can_be_kid}
 use Rattle.doc_table.specs.inner.Forest.{Forest, bare, tree, flat, Whole, alive}
-use Rattle.doc_table.specs.inner.Sound.{Fits, Formed, count_live}
+use Rattle.doc_table.specs.inner.Sound.{Fits, Formed, count_live, text_in, text_held}
 use Rattle.doc_table.specs.Scope.{Decl, HasScopes}
 use Rattle.doc_table.specs.Declaring.{declaring, declaring_at, with_decl, Declared, DeclaredLast}
 use Rattle.doc_table.proofs.ListLemmas.{In, In-mem, mem-In, In-cons, occurs-append, occurs-head, flat_map-same, sum_by-same}
@@ -17,6 +17,7 @@ use Rattle.doc_table.proofs.Paths.{Path, top, under, beside, plug, owner, chain,
 use Rattle.doc_table.proofs.Telling.{told_lead, told-same, walked-edge}
 use Rattle.doc_table.proofs.Places.{Hole, open_hole, above-owner, alive-one}
 use Rattle.doc_table.proofs.Ways.{live-below, above-live}
+use Rattle.doc_table.proofs.Counts.{sum-set}
 use Rattle.doc_table.proofs.Fitting.{texts-kept}
 use Rattle.doc_table.proofs.TreeLaws.{well-formed, ways-up}
 use Rattle.doc_table.proofs.Grown.{some-top}
@@ -128,15 +129,19 @@ module _ (T : Table) (n : ℕ) (d : Decl) where
   pub links-same : (m : ℕ) → SameLinks T (with_decl T n d) m
   links-same m = record { parent = same-parent m; attributes = same-attributes m; kids = same-kids m }
 
-  same-count : count_live (with_decl T n d) ≡ count_live T
-  same-count = by T n
+  pub same-count : count_live (with_decl T n d) ≡ count_live T
+  same-count = sum-set (λ _. 1) T n (declaring_at d) refl (λ node. refl)
+
+  pub same-held : text_held (with_decl T n d) ≡ text_held T
+  same-held = sum-set text_in T n (declaring_at d) refl (λ node. ap (λ value. length value + 0) (by node.content))
     where
-      by : (T : Table) (n : ℕ) → count_live (set T n (declaring_at d (entry_at T n))) ≡ count_live T
-      by [] n = refl
-      by (None ∷ T) zero = refl
-      by (Some node ∷ T) zero = refl
-      by (None ∷ T) (suc n) = by T n
-      by (Some node ∷ T) (suc n) = ap (λ k. 1 + k) (by T n)
+      by : (c : Content) → value_in (declaring d c) ≡ value_in c
+      by root = refl
+      by (element name decls) = refl
+      by (attribute name value) = refl
+      by (text characters) = refl
+      by (comment characters) = refl
+      by (instruction name characters) = refl
 
   -- walks that tell the same of each number
   pub walk-same : {A : Type 0} (tells closes others ends : ℕ → List A) → ((m : ℕ) → others m ≡ tells m) → ((m : ℕ) → ends m ≡ closes m) →
@@ -214,10 +219,9 @@ module _ (T : Table) (n : ℕ) (d : Decl) where
     whole = same-whole s.forest s.whole;
     root_kind = same-kind 0 ∙ s.root_kind;
     fits = λ m. same-fits m (s.fits m);
-    counted = same-count ∙ (s.counted ∙ ap length (sym same-order));
-    few_nodes = rw same-order s.few_nodes;
+    few_nodes = rw same-count s.few_nodes;
     few_numbers = rw same-length s.few_numbers;
-    little_text = rw same-text s.little_text;
+    little_text = rw same-held s.little_text;
   }
 
 lead-same : {A : Type 0} (tells closes others ends : ℕ → List A) (C : Path) → ((m : ℕ) → In m (lead C) → tells m ≡ others m) → ((m : ℕ) → closes m ≡ ends m) →
@@ -289,7 +293,7 @@ module _ (T : Table) (n : ℕ) (d : Decl) (at : IsElementAt T n) where
       let r : kind_of T n ≡ Some Root = ap (kind_of T) (sym e) ∙ root_kind in
       absurd (cc)
 
--- an element with no kid and no attribute at the end of all: its declaration is read behind all that was read before
+-- an element with no kid and no attribute at the end of all: its declaration is read after all that was read before
 front-more : (T : Table) (C : Path) (d : Decl) (at : IsElementAt T (owner C)) → kind_of T 0 ≡ Some Root → Whole T (plug C bare) → kids_of T (owner C) ≡ [] → attrs_of T (owner C) ≡ [] →
     opens (with_decl T (owner C) d) 0 ++ told_lead (opens (with_decl T (owner C) d)) (closes (with_decl T (owner C) d)) C
     ≡ (opens T 0 ++ told_lead (opens T) (closes T) C) ++ declares d ∷ []

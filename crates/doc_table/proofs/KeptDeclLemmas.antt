@@ -17,7 +17,7 @@ use Rattle.doc_table.specs.Declaring.{declaring, declaring_at, with_decl, Declar
 use Rattle.doc_table.specs.inner.Sound.{Sound}
 use Rattle.doc_table.specs.inner.Parts.{Parts, IsSound, table_of}
 use Rattle.doc_table.proofs.SoundLemmas.{seen-entry, number-set}
-use Rattle.doc_table.proofs.DeclareLemmas.{formed-declared, declared, same-live, same-kids, same-attributes, same-ancestors, same-order, same-text}
+use Rattle.doc_table.proofs.DeclareLemmas.{formed-declared, declared, same-live, same-kids, same-attributes, same-ancestors, same-count, same-held}
 
 content-declared : (names : List Name) (d : Decl) (c : NodeContent) → content_seen names (content_declaring d c) ≡ declaring d (content_seen names c)
 content-declared names d kept.Root = refl
@@ -79,8 +79,8 @@ module _ (names : List Name) (nodes : List (Option Node)) (n : ℕ) (d : Decl) w
           known = names-kept (length names) d nodes n s.known;
           depths = rw table-declared depths;
           places = rw table-declared places;
-          live_is = rw table-declared (s.live_is ∙ ap length (sym (same-order T n d)));
-          bytes_is = rw table-declared (s.bytes_is ∙ sym (same-text T n d));
+          live_is = rw table-declared (s.live_is ∙ sym (same-count T n d));
+          bytes_is = rw table-declared (s.bytes_is ∙ sym (same-held T n d));
         },
         rw table-declared (declared T n d s.formed kind),
       )

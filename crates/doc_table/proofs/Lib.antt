@@ -1,12 +1,14 @@
 pub mod ListLemmas
 pub mod Paths
 pub mod Telling
+pub mod Counts
 pub mod Places
 pub mod Ways
 pub mod Growing
 pub mod Grown
 pub mod Fitting
 pub mod Appending
+pub mod Below
 pub mod TreeLaws
 pub mod Siblings
 pub mod SoundLemmas

@@ -67,7 +67,7 @@ pub last-append : (d x : ℕ) (xs ys : List ℕ) → last_or d (xs ++ x ∷ ys) 
 last-append d x [] ys = refl
 last-append d x (y ∷ xs) ys = last-append y x xs ys
 
--- where the last of a list is x, and x does not stand behind x, nothing stands there
+-- where the last of a list is x, and x does not stand after x, nothing stands there
 pub last-end : (x : ℕ) (ys : List ℕ) → last_or x ys ≡ x → occurs x ys ≡ 0 → ys ≡ []
 last-end x [] e none = refl
 last-end x (y ∷ ys) e none = absurd (let h : In (last_or y ys) (y ∷ ys) = last-In y ys in let k : In x (y ∷ ys) = subst (λ m. In m (y ∷ ys)) e h in omega arith)

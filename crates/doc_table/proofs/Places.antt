@@ -42,7 +42,7 @@ find C (tree n ats kids rest) m h =
     (In-append m ats (flat kids ++ flat rest) h1))
     (In-cons m n (ats ++ (flat kids ++ flat rest)) h)
 
--- the hole behind what fills a hole
+-- the hole after what fills a hole
 abbrev pub past : Path → Forest → Path
 past C bare = C
 past C (tree n ats kids rest) = past (beside n ats kids C) rest
@@ -122,7 +122,7 @@ module _ (T : Table) where
       rw (attribute-parent T n ats a o.0.0.hold h)
       (frame-climb T (under n ats rest C) (tops kids) (length T) o.0 (omega (arith, chain-size (under n ats rest C) kids, w.few)))
 
-  -- nothing stands behind the last number
+  -- nothing stands after the last number
   behind : (F : Forest) (x : ℕ) (front ys : List ℕ) → Whole T F → last_or 0 (flat F) ≡ x → flat F ≡ front ++ ys → occurs x ys + 1 ≤ occurs x (flat F) → ys ≡ []
   behind F x front ys w last e h =
       last-front 0 front ys (rw (subst (λ l. last_or 0 l ≡ x) e last) (omega (arith, w.once x, alive-one T x, h)))

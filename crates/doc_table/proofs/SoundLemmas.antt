@@ -95,7 +95,6 @@ sound_alone names = record {
     };
     root_kind = refl;
     fits = lone-fits;
-    counted = refl;
     few_nodes = omega arith;
     few_numbers = omega arith;
     little_text = omega arith;
@@ -284,7 +283,7 @@ module _ (names : List Name) (nodes : List (Option Node)) (p depth place : ℕ) 
       let T : Table = table_seen names nodes in
       let c : Content = content_labelled names l characters in
       let r = appended T p c s.formed holder fits open_p all none in
-      let g : Grew T (with_node T p c) p (length T) c = r.1 in
+      let g : Grew T (with_node T p c) p (length T) c = r.grew in
       let alive_p : is_live T p ≡ true = holder-live T p holder in
       let depths : (m : ℕ) → is_live (with_node T p c) m ≡ true → depth_at (get_or (grown_nodes nodes p depth place l characters) m None) ≡ length (ancestors (with_node T p c) m) =
       λ m h. ⊎_elim
@@ -305,16 +304,15 @@ module _ (names : List Name) (nodes : List (Option Node)) (p depth place : ℕ) 
       (λ (ne : m ≢ length T).
       subst (IsPlace (with_node T p c) m) (sym (kept-others place_at (place-linked (length nodes) (label_is_attribute l)) m ne))
       (place-kept T p c s.formed alive_p g m (place_at (get_or nodes m None)) ne (s.places m)))
-      (eq_or m (length T)) in
-      let more : length (order (with_node T p c)) ≡ length (order T) + 1 = ap length g.last_in_order ∙ length-append (order T) (length T ∷ []) in (
+      (eq_or m (length T)) in (
         record {
-          formed = rw table-grown r.0;
+          formed = rw table-grown r.formed;
           known = names-push (length names) (set nodes p (kept_link (length nodes) (label_is_attribute l) (get_or nodes p None))) _
               (names-set (length names) nodes p (length nodes) (label_is_attribute l) s.known) (name-new (length names) l characters known);
           depths = rw table-grown depths;
           places = rw table-grown places;
-          live_is = rw table-grown (omega (arith, s.live_is, more));
-          bytes_is = rw table-grown (omega (arith, s.bytes_is, g.more_text, ap length plain));
+          live_is = rw table-grown (omega (arith, s.live_is, r.counted));
+          bytes_is = rw table-grown (omega (arith, s.bytes_is, r.held, ap length plain));
         },
         rw (table-grown, ← seen-length names nodes) g,
       )

@@ -14,6 +14,8 @@ use Rattle.doc_table.specs.inner.Forest.{Forest, bare, tree, tops, flat, size, S
 use Rattle.doc_table.specs.inner.Sound.{Formed}
 use Rattle.doc_table.proofs.ListLemmas.{In, In-mem, mem-In, In-cons, none-mem, occurs-append, occurs-head, mem-append, flat_map-nothing, flat_map-same, singles}
 use Rattle.doc_table.proofs.Paths.{Path, top, under, beside, plug, owner, chain, lead, tail, elders, opened, frame-kids, occurs-plug, flat-plug, chain-size}
+use Rattle.doc_table.proofs.Counts.{live-count, text-count}
+use Rattle.doc_table.proofs.Below.{told_below}
 use Rattle.doc_table.proofs.Telling.{told, told-flat, walk-shows, order-flat}
 use Rattle.doc_table.proofs.Places.{NodePlace, AttributePlace, Place, above-owner, ancestors-node, ancestors-attribute, attribute-parent, alive-one}
 use Rattle.doc_table.proofs.Ways.{live-below, live-In, place-of, parent-live, parent-has, climb-none}
@@ -358,10 +360,10 @@ module _ (T : Table) (f : Formed T) where
     names_differ = λ n. (f.fits n).names_differ;
     some_text = λ n. (f.fits n).some_text;
     texts_apart = λ n. (f.fits n).texts_apart;
-    few_nodes = f.few_nodes;
+    few_nodes = omega (arith, live-count T f.forest f.whole, f.few_nodes);
     few_numbers = f.few_numbers;
     not_deep = λ n. (f.fits n).not_deep;
-    little_text = f.little_text;
+    little_text = omega (arith, text-count T f.forest f.whole, f.little_text);
   }
 
   pub ordered : Ordered T
@@ -391,6 +393,7 @@ module _ (T : Table) (f : Formed T) where
   pub walks : Walks T
   walks = record {
     lines_at = walked-at (opens T) (closes T) T f.forest f.whole;
+    told_at = λ g n. told_below g T ordered n;
     text_at = λ n.
         walked-at (λ m. characters_in (content_of T m)) (λ _. []) T f.forest f.whole n
         ∙ rw (

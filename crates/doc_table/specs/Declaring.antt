@@ -23,7 +23,7 @@ declaring_at decl (Some node) = Some (record node { content = declaring decl nod
 abbrev pub with_decl : Table → ℕ → Decl → Table
 with_decl T n decl = slice_set T n (declaring_at decl (entry_at T n))
 
--- a declaration at an element that holds nothing yet and behind which nothing stands
+-- a declaration at an element that holds nothing yet and after which nothing stands
 pub record DeclaredLast (T U : Table) (n : ℕ) (decl : Decl) : Type 0 where
   -- the document: what was read before, the declaration, and the ends of what is open
   pub read_on : (before : List Line) → is_open T n ≡ true → lines T ≡ before ++ closing T n → lines U ≡ (before ++ declares decl ∷ []) ++ closing U n

@@ -15,7 +15,7 @@ TextsApart T [] = Unit {0}
 TextsApart T (n ∷ []) = Unit {0}
 TextsApart T (n ∷ m ∷ ms) = ((is_text (kind_of T n) && is_text (kind_of T m)) ≡ false) × TextsApart T (m ∷ ms)
 
--- a well-formed tree table (XPath 1.0 section 5)
+-- a well-formed tree table (XPath 1.0, section 5)
 pub record WellFormed (T : Table) : Type 0 where
   -- one root, number 0
   pub root_kind : kind_of T 0 ≡ Some Root
@@ -72,4 +72,7 @@ pub record HasWaysUp (T : Table) : Type 0 where
 pub record Walks (T : Table) : Type 0 where
   pub lines_at : (n : ℕ) →
       lines_below T n ≡ (opens T n ++ flat_map (opens T) (attrs_of T n)) ++ (flat_map (lines_below T) (kids_of T n) ++ closes T n)
+  -- what is told along document order
+  pub told_at : (f : ℕ → List ℕ) (n : ℕ) →
+      flat_map f (below T n) ≡ f n ++ (flat_map f (attrs_of T n) ++ flat_map (λ k. flat_map f (below T k)) (kids_of T n))
   pub text_at : (n : ℕ) → joined_text T n ≡ characters_in (content_of T n) ++ flat_map (joined_text T) (kids_of T n)

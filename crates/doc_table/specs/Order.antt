@@ -1,10 +1,10 @@
--- Places in document order (XPath 1.0 section 5): what stands before what, and what stands below what.
+-- Places in document order (XPath 1.0, section 5): what stands before what, and what stands below what.
 use Rattle.std.specs.Prelude.{◌≡◌, ℕ, ◌+◌, ◌==◌, Bool, true, false, List, [], ◌∷◌, length, if◌then◌else◌}
 use Rattle.doc_table.specs.Lists.{mem}
 use Rattle.doc_table.specs.Table.{Table, is_live}
 use Rattle.doc_table.specs.Walks.{order, below, above, ancestors}
 
--- what stands behind a number in a list; nothing where the number isn't there
+-- what stands after a number in a list; nothing where the number isn't there
 abbrev pub after : ℕ → List ℕ → List ℕ
 after n [] = []
 after n (m ∷ ms) = if n == m then ms else after n ms

@@ -1,4 +1,4 @@
--- The tree table (XPath 1.0 section 5): what stands at each node number.
+-- The tree table (XPath 1.0, section 5): what stands at each node number.
 use Rattle.std.specs.Prelude.{◌≡◌, ℕ, ◌<◌, Bool, true, List, [], ◌∷◌, length, Option, None, Some, is_some, slice_index_or}
 pub use Rattle.doc_names.specs.Name.{Name, expanded, no_name, numbered}
 use Rattle.doc_table.specs.declared.kind.Kind.{Kind}

@@ -1,4 +1,4 @@
--- Ways through a table: upwards to the root, and down in document order (XPath 1.0 section 5).
+-- Ways through a table: upwards to the root, and down in document order (XPath 1.0, section 5).
 use Rattle.std.specs.Prelude.{ℕ, zero, suc, Bool, List, [], ◌∷◌, ◌++◌, length, Option, None, Some, sum_by}
 use Rattle.std.specs.List.{flat_map}
 use Rattle.doc_table.specs.Lists.{mem, last_or}
@@ -51,7 +51,7 @@ characters_in (Some (instruction _ _)) = []
 abbrev pub joined_text : Table → ℕ → List ℕ
 joined_text T n = walked T (λ m. characters_in (content_of T m)) (λ _. []) n
 
--- the string-value of a node with a content (XPath 1.0 section 5)
+-- the string-value of a node with a content (XPath 1.0, section 5)
 abbrev pub string_value_in : Table → ℕ → Option Content → List ℕ
 string_value_in T n None = []
 string_value_in T n (Some root) = joined_text T n

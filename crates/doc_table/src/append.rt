@@ -95,13 +95,13 @@ impl Bare {
         ensures within { OnOk result (passed_limit (table_of self.now) parent (content_labelled self.now.names label.now text.now) ≡ None) }
         ensures refused { IfErr result (λ e. passed_limit (table_of self.now) parent (content_labelled self.now.names label.now text.now) ≡ Some e) }
     {
-        if self.live >= MAX_LIVE_NODES {
+        if self.live_nodes() >= MAX_LIVE_NODES {
             return Err(AppendError::TooManyNodes);
         }
         if label.is_element() && depth > MAX_DEPTH {
             return Err(AppendError::TooDeep);
         }
-        if text.len() > MAX_LIVE_TEXT_BYTES - self.text_bytes {
+        if text.len() > MAX_LIVE_TEXT_BYTES - self.live_text() {
             return Err(AppendError::TooMuchText);
         }
         Ok(())

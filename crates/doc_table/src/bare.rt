@@ -4,7 +4,8 @@ ghost use Rattle.std.specs.Prelude.{◌≡◌, ◌<◌, ◌≤◌, ℕ, true, le
 ghost use Rattle.std.specs.Option.{option_copied, option_map};
 ghost use Rattle.doc_names.specs.Numbering.{Numbered};
 ghost use Rattle.doc_table.specs.Table.{root_alone, kind_of, name_of, parent_of, kids_of, attrs_of, content_of, value_of, decls_of, is_live, numbered};
-ghost use Rattle.doc_table.specs.Walks.{order, ancestors, characters_in};
+ghost use Rattle.doc_table.specs.Walks.{order, ancestors, characters_in, text_bytes};
+ghost use Rattle.doc_table.specs.declared.limits.TheConstants.{MAX_LIVE_TEXT_BYTES};
 ghost use Rattle.doc_table.specs.inner.Kept.{IsPlace};
 ghost use Rattle.doc_table.specs.inner.Parts.{IsSound, contents, table_of};
 
@@ -102,6 +103,15 @@ impl Bare {
         ensures { result ≡ length (order (table_of self.now)) }
     {
         self.live
+    }
+
+    /// How many bytes of text live: attribute values, texts, comments and the data of processing instructions.
+    pub fn live_text(&self) -> usize
+        requires { IsSound self.now }
+        ensures bytes { result ≡ text_bytes (table_of self.now) }
+        ensures small { result ≤ MAX_LIVE_TEXT_BYTES }
+    {
+        self.text_bytes
     }
 
     /// The kind of a node, None for a number that isn't live.

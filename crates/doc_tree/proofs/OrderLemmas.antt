@@ -1,6 +1,7 @@
 -- Places in document order, from the laws of a tree: what stands before what, and below what.
 use Rattle.std.proofs.Common.{◌≡◌, ◌≢◌, ℕ, ◌+◌, ◌-◌, ◌<◌, ◌≤◌, suc, zero, Bool, true, false, cond, List, [], ◌∷◌, ◌++◌, ◌⊎◌, length, Option, None, Some, refl, sym, ap, ◌∙◌, subst, inl, inr, ⊎_elim, true≢false, arith, append_assoc, eqb, ltb, eqb-true, eq-eqb, ltb-true, ltb-false}
 use Rattle.std.specs.List.{flat_map}
+use Rattle.std.proofs.lemmas.Grind.{flat_map-append}
 use Rattle.doc_table.specs.declared.limits.TheConstants.{MAX_DEPTH}
 use Rattle.doc_table.specs.Lists.{mem, occurs, Distinct}
 use Rattle.doc_table.specs.Table.{Table, parent_of, kids_of, attrs_of, is_live}
@@ -30,7 +31,7 @@ split_at n (x ∷ xs) h =
     (λ (g : In n xs). let s : SplitAt n xs = split_at n xs g in let r : SplitAt n (x ∷ xs) = record { front = x ∷ s.front; back = s.back; is = ap (λ l. x ∷ l) s.is } in r)
     (In-cons n x xs h)
 
--- what stands behind a number is what follows its first place
+-- what stands after a number is what follows its first place
 pub after-split : (n : ℕ) (xs ys : List ℕ) → occurs n xs ≡ 0 → after n (xs ++ n ∷ ys) ≡ ys
 after-split n [] ys none = rw (eq-eqb n n refl) refl
 after-split n (x ∷ xs) ys none = by (eqb n x) refl none (λ h. after-split n xs ys h)
@@ -39,7 +40,7 @@ after-split n (x ∷ xs) ys none = by (eqb n x) refl none (λ h. after-split n x
     by true e none more = absurd (omega arith)
     by false e none more = more (omega arith)
 
--- a number that stands once does not stand behind itself
+-- a number that stands once does not stand after itself
 pub after-self : (n : ℕ) (xs : List ℕ) → occurs n xs ≤ 1 → mem n (after n xs) ≡ false
 after-self n [] h = refl
 after-self n (x ∷ xs) h = by (eqb n x) h (λ k. after-self n xs k)
@@ -48,7 +49,7 @@ after-self n (x ∷ xs) h = by (eqb n x) h (λ k. after-self n xs k)
     by true h more = none-mem n xs (omega arith)
     by false h more = more (omega arith)
 
--- of two numbers apart in a list without repeats the second stands behind the first, and not the other way
+-- of two numbers apart in a list without repeats the second stands after the first, and not the other way
 pub apart-after : (a b : ℕ) (xs : List ℕ) → Distinct xs → Apart a b xs → (mem b (after a xs) ≡ true) × (mem a (after b xs) ≡ false)
 apart-after a b xs once apart =
     let s : SplitAt a apart.front = split_at a apart.front apart.first in
@@ -66,10 +67,6 @@ apart-after a b xs once apart =
           ∙ In-mem b (s.back ++ apart.back) (omega (arith, apart.second, occurs-append b s.back apart.back))),
       ap (λ l. mem a (after b l)) at_b ∙ (ap (mem a) (after-split b (apart.front ++ t.front) t.back none_b) ∙ none-mem a t.back behind),
     )
-
-pub flat_map-append : (f : ℕ → List ℕ) (xs ys : List ℕ) → flat_map f (xs ++ ys) ≡ flat_map f xs ++ flat_map f ys
-flat_map-append f [] ys = refl
-flat_map-append f (x ∷ xs) ys = ap (λ l. f x ++ l) (flat_map-append f xs ys) ∙ sym (append_assoc (f x) (flat_map f xs) (flat_map f ys))
 
 pub In-flat_map : (f : ℕ → List ℕ) (n x : ℕ) (xs : List ℕ) → In n xs → In x (f n) → In x (flat_map f xs)
 In-flat_map f n x [] h k = absurd (omega arith)

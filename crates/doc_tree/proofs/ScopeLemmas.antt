@@ -1,4 +1,4 @@
--- The first declaration of a prefix in two lists, one behind the other.
+-- The first declaration of a prefix in two lists, one after the other.
 use Rattle.std.proofs.Common.{◌≡◌, Bool, true, false, ℕ, List, [], ◌∷◌, ◌++◌, Option, None, Some, refl}
 use Rattle.std.specs.Prelude.{if◌then◌else◌}
 use Rattle.std.specs.Str.{bytes_eq}

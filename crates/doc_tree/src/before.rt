@@ -11,7 +11,7 @@ use crate::tree::Tree;
 use doc_table::{Kind, NodeId};
 
 impl Tree {
-    /// Whether `a` stands before `b` in document order (XPath 1.0 section 5).
+    /// Whether `a` stands before `b` in document order (XPath 1.0, section 5).
     ///
     /// Costs the ways up to where the two part, and takes no memory.
     pub fn is_before(&self, a: NodeId, b: NodeId) -> bool

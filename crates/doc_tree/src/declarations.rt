@@ -14,7 +14,7 @@ use std::alloc::AllocError;
 
 impl Tree {
     /// Declares the namespace of a prefix at an element that doesn't declare it yet; the empty prefix stands for the
-    /// default namespace (Namespaces in XML 1.0 sections 3 and 6.2). The declaration becomes the element's last one.
+    /// default namespace (Namespaces in XML 1.0, sections 3 and 6.2). The declaration becomes the element's last one.
     ///
     /// After want of memory nothing has changed. Costs the copying of the two texts.
     pub fn append_decl(
@@ -62,7 +62,7 @@ impl Tree {
 
     /// The namespace of a prefix in scope at a node, by the nearest declaration upwards; the empty prefix stands for the
     /// default namespace, which is empty where none is declared. The prefix `xml` is always in scope and `xmlns` never;
-    /// None where the prefix isn't in scope (Namespaces in XML 1.0 sections 3 and 6).
+    /// None where the prefix isn't in scope (Namespaces in XML 1.0, sections 3 and 6).
     ///
     /// Costs a comparison for each declaration at the node and above it.
     pub fn lookup(&self, n: NodeId, prefix: &str) -> Option<&str>

@@ -1,4 +1,4 @@
-//! The string-values of nodes (XPath 1.0 section 5).
+//! The string-values of nodes (XPath 1.0, section 5).
 
 ghost use Rattle.std.specs.Prelude.{◌≡◌, ◌++◌, IfOk, OnOk, string_bytes};
 ghost use Rattle.doc_table.specs.Kinds.{holds_kids};

@@ -13,7 +13,7 @@ use doc_table::{Bare, Kind, NodeId};
 use std::alloc::{AllocError, Global};
 use std::marker::Model;
 
-/// A document as a tree of numbered nodes (XPath 1.0 section 5), with the names that it has numbered.
+/// A document as a tree of numbered nodes (XPath 1.0, section 5), with the names that it has numbered.
 ///
 /// Contracts see its table of nodes and its list of names. The calls that ask for a live node say so; the others
 /// answer of a number that isn't live as of a node that holds nothing.

@@ -21,7 +21,7 @@ abbrev pub KeysAreBelow : ℕ → List NameKey → Type 0
 KeysAreBelow count [] = Unit {0}
 KeysAreBelow count (key ∷ keys) = KeyIsBelow count key × KeysAreBelow count keys
 
--- words that stay, with perhaps more behind them
+-- words that stay, with perhaps more after them
 pub record Extends (before after : List (List ℕ)) : Type 0 where
   pub kept : (i : ℕ) → i < length before → slice_index_or after i [] ≡ slice_index_or before i []
   pub longer : length before ≤ length after

@@ -5,8 +5,8 @@ use Rattle.doc_table.specs.declared.kind.Kind.TheVariants.{Root, Element, Attrib
 use Rattle.doc_table.specs.declared.node.Node.{Node}
 use Rattle.doc_table.specs.inner.Kept.{depth_at, place_at, IsPlace, NamesAreBelow}
 use Rattle.doc_table.specs.Lists.{mem}
-use Rattle.doc_table.specs.Table.{Table, Name, is_live, kids_of, attrs_of, kind_of, value_of, expanded_of}
-use Rattle.doc_table.specs.Walks.{order, ancestors, text_bytes}
+use Rattle.doc_table.specs.Table.{Table, Facts, Name, value_in, is_live, kids_of, attrs_of, kind_of, value_of, expanded_of}
+use Rattle.doc_table.specs.Walks.{ancestors}
 use Rattle.doc_table.specs.Kinds.{holds_kids, can_be_kid}
 use Rattle.doc_table.specs.Laws.{TextsApart}
 use Rattle.doc_table.specs.inner.Forest.{Forest, Whole}
@@ -24,11 +24,22 @@ pub record Fits (T : Table) (n : ℕ) : Type 0 where
   pub texts_apart : TextsApart T (kids_of T n)
   pub not_deep : kind_of T n ≡ Some Element → length (ancestors T n) ≤ MAX_DEPTH
 
+-- the sum over the nodes of a table
+abbrev pub table_sum : (Facts → ℕ) → Table → ℕ
+table_sum f [] = 0
+table_sum f (None ∷ T) = table_sum f T
+table_sum f (Some node ∷ T) = f node + table_sum f T
+
 -- how many nodes live
 abbrev pub count_live : Table → ℕ
-count_live [] = 0
-count_live (None ∷ T) = count_live T
-count_live (Some _ ∷ T) = 1 + count_live T
+count_live T = table_sum (λ _. 1) T
+
+-- the bytes of live text
+abbrev pub text_in : Facts → ℕ
+text_in node = length (value_in node.content)
+
+abbrev pub text_held : Table → ℕ
+text_held T = table_sum text_in T
 
 -- the table of a tree: it shows a forest, each number fits, and the limits hold
 pub record Formed (T : Table) : Type 0 where
@@ -36,10 +47,9 @@ pub record Formed (T : Table) : Type 0 where
   pub whole : Whole T forest
   pub root_kind : kind_of T 0 ≡ Some Root
   pub fits : (n : ℕ) → Fits T n
-  pub counted : count_live T ≡ length (order T)
-  pub few_nodes : length (order T) ≤ MAX_LIVE_NODES
+  pub few_nodes : count_live T ≤ MAX_LIVE_NODES
   pub few_numbers : length T ≤ MAX_NODE_NUMBERS
-  pub little_text : text_bytes T ≤ MAX_LIVE_TEXT_BYTES
+  pub little_text : text_held T ≤ MAX_LIVE_TEXT_BYTES
 
 -- the kept nodes show such a table, and what is kept beside them is as the table says
 pub record Sound (nodes : List (Option Node)) (names : List Name) (live bytes : ℕ) : Type 0 where
@@ -48,5 +58,5 @@ pub record Sound (nodes : List (Option Node)) (names : List Name) (live bytes : 
   pub depths : (n : ℕ) → is_live (table_seen names nodes) n ≡ true →
       depth_at (slice_index_or nodes n None) ≡ length (ancestors (table_seen names nodes) n)
   pub places : (n : ℕ) → IsPlace (table_seen names nodes) n (place_at (slice_index_or nodes n None))
-  pub live_is : live ≡ length (order (table_seen names nodes))
-  pub bytes_is : bytes ≡ text_bytes (table_seen names nodes)
+  pub live_is : live ≡ count_live (table_seen names nodes)
+  pub bytes_is : bytes ≡ text_held (table_seen names nodes)

@@ -1,4 +1,4 @@
--- Each node stands before the given one, is it, or stands below or behind it.
+-- Each node stands before the given one, is it, or stands below or after it.
 use Rattle.doc_axes.proofs.AxisLemmas.{partition}
 use Rattle.doc_axes.proofs.laws.axes_partition.Goals as goal
 

@@ -1,4 +1,4 @@
--- What follows a node is all below the kids behind it, and what follows its parent.
+-- What follows a node is all below the kids after it, and what follows its parent.
 use Rattle.std.proofs.Common.{◌≡◌, ◌++◌, List, ℕ, sym, ap, ◌∙◌, append_assoc, append-nil}
 use Rattle.doc_tree.specs.declared.axes.Axis.TheVariants.{Following}
 use Rattle.doc_tree.specs.Table.{kids_of}
