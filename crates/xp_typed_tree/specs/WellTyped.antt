@@ -120,12 +120,18 @@ abbrev pub IsWanted : Bool → TypedTree → Type 0
 IsWanted true t = type_of t ≡ types.NodeSet
 IsWanted false t = Unit {0}
 
--- node-sets stand where node-sets are wanted, and calls have the arguments that their functions take
+-- a comparison has two sides: XPath 1.0, section 3.4
+abbrev pub Compares : Comparands → Type 0
+Compares no_comparands = ⊥
+Compares (comparand operator operand rest) = Unit {0}
+
+-- node-sets stand where node-sets are wanted, comparisons have two sides, and calls have the arguments that their
+-- functions take
 abbrev mutual
   pub WellTyped : Bool → TypedTree → Type 0
   WellTyped p (disjunction ts) = AllTyped p false ts
   WellTyped p (conjunction ts) = AllTyped p false ts
-  WellTyped p (comparison first rest) = WellTyped p first × ComparandsTyped p rest
+  WellTyped p (comparison first rest) = Compares rest × WellTyped p first × ComparandsTyped p rest
   WellTyped p (arithmetic first rest) = WellTyped p first × CombinandsTyped p rest
   WellTyped p (negation count operand) = WellTyped p operand
   WellTyped p (union ts) = AllTyped p true ts

@@ -1,5 +1,5 @@
 -- What the loops over the parts of an expression keep: whoever types the rest has typed the whole.
-use Rattle.std.proofs.Common.{◌≡◌, ℕ, ◌+◌, ◌<◌, ◌≤◌, Bool, false, Ok, Err, List, [], ◌∷◌, ◌++◌, length, drop, get_or, refl, sym, ap, ◌∙◌, subst}
+use Rattle.std.proofs.Common.{◌≡◌, ℕ, ◌+◌, ◌<◌, ◌≤◌, Bool, false, Ok, Err, List, [], ◌∷◌, ◌++◌, length, drop, get_or, refl, sym, ap, ◌∙◌, subst, arith}
 use Rattle.std.proofs.Math.Seq.{drop-cons}
 use Rattle.std.proofs.lemmas.List.{drop_all}
 use Rattle.std.proofs.Math.Numerals.{add-one}
@@ -27,7 +27,7 @@ use Rattle.xp_types.specs.declared.faults.CheckError.{CheckError}
 use Rattle.xp_types.specs.Scope.{Scope}
 use Rattle.xp_types.specs.inner.ChainParts.{first_in, rest_in}
 use Rattle.xp_types.specs.Checked.{Checked, after, ChecksAs}
-use Rattle.xp_types.specs.Typing.{typing, wanted, comparison_of, arith_of, axis_of, resolved, all_typed, operands_typed, comparands_typed, combinands_typed, steps_typed, chain_typed, comparison_typed, arithmetic_typed}
+use Rattle.xp_types.specs.Typing.{typing, wanted, compared_with, comparison_of, arith_of, axis_of, resolved, all_typed, operands_typed, comparands_typed, combinands_typed, steps_typed, chain_typed, comparison_typed, arithmetic_typed}
 use Rattle.xp_types.proofs.Giving.{stops, gives-same, after-value}
 
 -- the expressions done, before those that come
@@ -55,7 +55,7 @@ pub record ChainOnto (S : Scope) (nodes : Bool) (c : Chain) (i : ℕ) (done : Li
 
 pub record ComparedOnto (S : Scope) (c : Chain) (i : ℕ) (t : TypedExpr) (done : List Compared) : Type 0 where
   pub onto : comparison_typed S (first_in c) (rest_in c)
-      ≡ after (comparands_typed S (operands_seen (drop i (out-Chain c).rest.items))) (λ cs. Ok (comparison (typed_tree_of t) (comparands_joined (compared_list_seen done) cs)))
+      ≡ after (comparands_typed S (operands_seen (drop i (out-Chain c).rest.items))) (λ cs. Ok (compared_with (typed_tree_of t) (comparands_joined (compared_list_seen done) cs)))
 
 pub record CombinedOnto (S : Scope) (c : Chain) (i : ℕ) (t : TypedExpr) (done : List Combined) : Type 0 where
   pub onto : arithmetic_typed S (first_in c) (rest_in c)
@@ -220,7 +220,7 @@ pub comparison-begins : (S : Scope) (c : Chain) (first : Expr) (t b : TypedExpr)
 comparison-begins S c first t b done is g boxed none =
     subst (ComparedOnto S c 0 b) (sym none) (subst (λ u. ComparedOnto S c 0 u []) (sym boxed) (record {
       onto = ap (λ e. comparison_typed S (tree_of e) (rest_in c)) (sym is)
-          ∙ after-value (typing S (tree_of first)) (λ v. after (comparands_typed S (rest_in c)) (λ cs. Ok (comparison v cs))) (typed_tree_of t) g.given;
+          ∙ after-value (typing S (tree_of first)) (λ v. after (comparands_typed S (rest_in c)) (λ cs. Ok (compared_with v cs))) (typed_tree_of t) g.given;
     }))
 
 pub comparison-fails : (S : Scope) (c : Chain) (first : Expr) (x : CheckError) → first ≡ (out-Chain c).first.value →
@@ -230,30 +230,39 @@ comparison-fails S c first x is g = gives-same (ap (λ e. comparison_typed S (tr
 comparison-next : (S : Scope) (c : Chain) (i : ℕ) (b : TypedExpr) (done : List Compared) (o : Operand) → i < length (out-Chain c).rest.items → o ≡ get_or (out-Chain c).rest.items i o → ComparedOnto S c i b done →
     comparison_typed S (first_in c) (rest_in c)
     ≡ after (comparands_typed S (operand (out-Operand o).operator (out-Operand o).offset (tree_of (out-Operand o).expr) (operands_seen (drop (i + 1) (out-Chain c).rest.items))))
-    (λ cs. Ok (comparison (typed_tree_of b) (comparands_joined (compared_list_seen done) cs)))
+    (λ cs. Ok (compared_with (typed_tree_of b) (comparands_joined (compared_list_seen done) cs)))
 comparison-next S c i b done o lt is so =
-    so.onto ∙ ap (λ r. after (comparands_typed S r) (λ cs. Ok (comparison (typed_tree_of b) (comparands_joined (compared_list_seen done) cs)))) (operand-next (out-Chain c).rest.items i o lt is)
+    so.onto ∙ ap (λ r. after (comparands_typed S r) (λ cs. Ok (compared_with (typed_tree_of b) (comparands_joined (compared_list_seen done) cs)))) (operand-next (out-Chain c).rest.items i o lt is)
 
 pub comparison-goes : (S : Scope) (c : Chain) (i : ℕ) (b : TypedExpr) (done all : List Compared) (o : Operand) (k : Comparison) (t : TypedExpr) (d : Compared) → i < length (out-Chain c).rest.items → o ≡ get_or (out-Chain c).rest.items i o → ComparedOnto S c i b done →
     ChecksAs (typing S (tree_of (out-Operand o).expr)) typed_tree_of (Ok t) → k ≡ comparison_of (out-Operand o).operator → ((r : Comparands) → compared_of d r ≡ comparand k (typed_tree_of t) r) → all ≡ done ++ d ∷ [] →
     ComparedOnto S c (i + 1) b all
 comparison-goes S c i b done all o k t d lt is so g kept made grown = subst (ComparedOnto S c (i + 1) b) (sym grown) (record {
   onto = advance (comparison_typed S (first_in c) (rest_in c)) (typing S (tree_of (out-Operand o).expr)) (comparands_typed S (operands_seen (drop (i + 1) (out-Chain c).rest.items))) (comparand (comparison_of (out-Operand o).operator))
-      (λ cs. comparison (typed_tree_of b) (comparands_joined (compared_list_seen done) cs)) (λ cs. comparison (typed_tree_of b) (comparands_joined (compared_list_seen (done ++ d ∷ [])) cs)) (typed_tree_of t) g.given
-      (λ cs. ap (comparison (typed_tree_of b)) (ap (λ q. comparands_joined (compared_list_seen done) (comparand q (typed_tree_of t) cs)) (sym kept) ∙ comparands-push done k (typed_tree_of t) d cs made)) (comparison-next S c i b done o lt is so);
+      (λ cs. compared_with (typed_tree_of b) (comparands_joined (compared_list_seen done) cs)) (λ cs. compared_with (typed_tree_of b) (comparands_joined (compared_list_seen (done ++ d ∷ [])) cs)) (typed_tree_of t) g.given
+      (λ cs. ap (compared_with (typed_tree_of b)) (ap (λ q. comparands_joined (compared_list_seen done) (comparand q (typed_tree_of t) cs)) (sym kept) ∙ comparands-push done k (typed_tree_of t) d cs made)) (comparison-next S c i b done o lt is so);
 })
 
 pub comparison-stops : (S : Scope) (c : Chain) (i : ℕ) (b : TypedExpr) (done : List Compared) (o : Operand) (x : CheckError) → i < length (out-Chain c).rest.items → o ≡ get_or (out-Chain c).rest.items i o → ComparedOnto S c i b done →
     ChecksAs (typing S (tree_of (out-Operand o).expr)) typed_tree_of (Err x) → ChecksAs (comparison_typed S (first_in c) (rest_in c)) typed_tree_of (Err x)
 comparison-stops S c i b done o x lt is so g = gives-same (comparison-next S c i b done o lt is so) (stops _ _ (λ (u : Comparands). u) typed_tree_of x (stops _ _ typed_tree_of (λ (u : Comparands). u) x g))
 
-pub comparison-ends : (S : Scope) (c : Chain) (i : ℕ) (b : TypedExpr) (done : List Compared) (e : TypedExpr) → length (out-Chain c).rest.items ≤ i → ComparedOnto S c i b done →
-    typed_tree_of e ≡ comparison (typed_tree_of b) (compared_list_seen done) → ChecksAs (comparison_typed S (first_in c) (rest_in c)) typed_tree_of (Ok e)
-comparison-ends S c i b done e ge so made = record {
-  given = so.onto ∙ ap (λ r. after (comparands_typed S (operands_seen r)) (λ cs. Ok (comparison (typed_tree_of b) (comparands_joined (compared_list_seen done) cs)))) (drop-end (out-Chain c).rest.items i ge)
-      ∙ after-value (Ok no_comparands) (λ cs. Ok (comparison (typed_tree_of b) (comparands_joined (compared_list_seen done) cs))) no_comparands refl
-      ∙ ap Ok (ap (comparison (typed_tree_of b)) (comparands-none (compared_list_seen done)) ∙ sym made);
-}
+pub comparison-ends : (S : Scope) (c : Chain) (i : ℕ) (b : TypedExpr) (done : List Compared) → length (out-Chain c).rest.items ≤ i → ComparedOnto S c i b done →
+    comparison_typed S (first_in c) (rest_in c) ≡ Ok (compared_with (typed_tree_of b) (compared_list_seen done))
+comparison-ends S c i b done ge so =
+    so.onto ∙ ap (λ r. after (comparands_typed S (operands_seen r)) (λ cs. Ok (compared_with (typed_tree_of b) (comparands_joined (compared_list_seen done) cs)))) (drop-end (out-Chain c).rest.items i ge)
+    ∙ after-value (Ok no_comparands) (λ cs. Ok (compared_with (typed_tree_of b) (comparands_joined (compared_list_seen done) cs))) no_comparands refl
+    ∙ ap Ok (ap (compared_with (typed_tree_of b)) (comparands-none (compared_list_seen done)))
+
+-- an operand alone, and one with others after it
+pub compared-alone : (t : TypedTree) (cs : List Compared) → length cs ≡ 0 → compared_with t (compared_list_seen cs) ≡ t
+compared-alone t [] none = refl
+compared-alone t (c ∷ cs) none = absurd (omega (arith, none))
+
+pub compared-on : (t : TypedTree) (cs : List Compared) → 0 < length cs → compared_with t (compared_list_seen cs) ≡ comparison t (compared_list_seen cs)
+compared-on t [] some = absurd (omega (arith, some))
+compared-on t (c ∷ cs) some =
+    ap (compared_with t) (of-compared c (compared_list_seen cs)) ∙ sym (ap (comparison t) (of-compared c (compared_list_seen cs)))
 
 -- ---- operators on numbers
 

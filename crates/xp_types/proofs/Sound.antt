@@ -13,13 +13,13 @@ use Rattle.xp_tree.specs.Decimals.{decimal_value}
 use Rattle.xp_typed_tree.specs.declared.value_type.ValueType.{ValueType}
 use Rattle.xp_typed_tree.specs.declared.value_type.ValueType.TheVariants as types
 use Rattle.xp_typed_tree.specs.declared.function.Function.{Function}
-use Rattle.xp_typed_tree.specs.TypedTree.{TypedTree, TypedPlace, TypedSteps, Comparands, Combinands, TypedTrees, TypedPatternStepTree, TypedPathTree, slot, whole, no_typed}
+use Rattle.xp_typed_tree.specs.TypedTree.{TypedTree, TypedPlace, TypedSteps, Comparands, Combinands, TypedTrees, TypedPatternStepTree, TypedPathTree, slot, whole, no_typed, no_comparands, comparand}
 use Rattle.xp_typed_tree.specs.WellTyped.{type_of, takes, wants_nodes, may_call, count_of, is_pattern_axis, IsWanted, WellTyped, PlaceTyped, StepsTyped, ComparandsTyped, CombinandsTyped, AllTyped, PatternStepsTyped, PathsTyped}
 use Rattle.xp_types.specs.declared.env.Variable.{Variable}
 use Rattle.xp_types.specs.Scope.{Scope, variable_of}
 use Rattle.xp_types.specs.FunctionNames.{function_named, is_left_out}
 use Rattle.xp_types.specs.Checked.{Checked, after}
-use Rattle.xp_types.specs.Typing.{typing, wanted, node_set_at, all_typed, operands_typed, comparands_typed, combinands_typed, steps_typed, place_typed, called, function_called, variable_typed, number_of_trees, axis_of, resolved, arith_of, has_point, pattern_axis, pattern_start, pattern_steps_typed, pattern_typing}
+use Rattle.xp_types.specs.Typing.{typing, wanted, compared_with, node_set_at, all_typed, operands_typed, comparands_typed, combinands_typed, steps_typed, place_typed, called, function_called, variable_typed, number_of_trees, axis_of, resolved, arith_of, has_point, pattern_axis, pattern_start, pattern_steps_typed, pattern_typing}
 
 -- a chain of checks gave a value: its parts did
 pub record Went {A B : Type 0} (m : Checked A) (f : A → Checked B) (b : B) : Type 0 where
@@ -63,6 +63,10 @@ point-sound : (p : Bool) (digits : List ℕ) (offset : ℕ) (point : Bool) (t : 
     (cond (nat_le (decimal_value digits) MAX_WHOLE) (Ok (whole (pos (decimal_value digits)))) (Err (record { kind = kinds.NumberTooLarge; offset = offset })))) (Ok t) → WellTyped p t
 point-sound p digits offset true t h = absurd (cc)
 point-sound p digits offset false t h = number-sound p offset (decimal_value digits) (nat_le (decimal_value digits) MAX_WHOLE) t refl h
+
+compared-sound : (p : Bool) (t : TypedTree) (cs : Comparands) → WellTyped p t → ComparandsTyped p cs → WellTyped p (compared_with t cs)
+compared-sound p t no_comparands first rest = first
+compared-sound p t (comparand operator u cs) first rest = (tt, first, rest)
 
 variable-sound : (p : Bool) (v : Option Variable) (offset : ℕ) (t : TypedTree) → variable_typed v offset ≡ Ok t → WellTyped p t
 variable-sound p (Some v) offset t h = subst (WellTyped p) (same (slot v.slot v.ty) t h) tt
@@ -113,11 +117,11 @@ mutual
   typing-sound S (chain levels.Equal offset first rest) t h =
       let a = went (typing S first) _ t h in
       let b = went (comparands_typed S rest) _ t a.next in
-      subst (WellTyped S.in_pattern) (same _ t b.next) (typing-sound S first a.value a.had, comparands-sound S rest b.value b.had)
+      subst (WellTyped S.in_pattern) (same _ t b.next) (compared-sound S.in_pattern a.value b.value (typing-sound S first a.value a.had) (comparands-sound S rest b.value b.had))
   typing-sound S (chain levels.Rel offset first rest) t h =
       let a = went (typing S first) _ t h in
       let b = went (comparands_typed S rest) _ t a.next in
-      subst (WellTyped S.in_pattern) (same _ t b.next) (typing-sound S first a.value a.had, comparands-sound S rest b.value b.had)
+      subst (WellTyped S.in_pattern) (same _ t b.next) (compared-sound S.in_pattern a.value b.value (typing-sound S first a.value a.had) (comparands-sound S rest b.value b.had))
   typing-sound S (chain levels.Sum offset first rest) t h =
       let a = went (typing S first) _ t h in
       let b = went (combinands_typed S rest) _ t a.next in

@@ -7,17 +7,17 @@ use Rattle.xp_tree.specs.declared.terms.Level.TheVariants as levels
 use Rattle.xp_tree.specs.Tree.{Tree, PathStart, Steps, Operands, Trees, chain, negated, path, filtered, variable, literal, number, call, root, here, from, no_steps, step, no_operands, operand, no_trees, tree}
 use Rattle.xp_tree.specs.declared.operators.ArithOp.{ArithOp}
 use Rattle.xp_typed_tree.specs.declared.function.Function.{Function}
-use Rattle.xp_typed_tree.specs.TypedTree.{TypedTree, TypedPlace, TypedSteps, Comparands, Combinands, TypedTrees, disjunction, conjunction, comparison, arithmetic, negation, union, location, selection, text, application, at_root, at_context, at_nodes, no_more_steps, typed_step, no_comparands, comparand, no_combinands, combinand, no_typed, typed}
+use Rattle.xp_typed_tree.specs.TypedTree.{TypedTree, TypedPlace, TypedSteps, Comparands, Combinands, TypedTrees, disjunction, conjunction, arithmetic, negation, union, location, selection, text, application, at_root, at_context, at_nodes, no_more_steps, typed_step, no_comparands, comparand, no_combinands, combinand, no_typed, typed}
 use Rattle.xp_typed_tree.specs.WellTyped.{wants_nodes, IsWanted}
 use Rattle.xp_types.specs.Scope.{Scope, variable_of}
-use Rattle.xp_types.specs.Typing.{typing, called, number_typed, variable_typed, number_of_trees, axis_of, resolved, arith_of, comparison_of}
+use Rattle.xp_types.specs.Typing.{typing, called, number_typed, variable_typed, number_of_trees, axis_of, resolved, arith_of, comparison_of, compared_with}
 
 abbrev mutual
   pub HasType : Scope → Tree → TypedTree → Type 0
   HasType S (chain levels.Or offset first rest) u = (t : TypedTree) × (ts : TypedTrees) × HasType S first t × OperandsHaveTypes S false rest ts × (disjunction (typed t ts) ≡ u)
   HasType S (chain levels.And offset first rest) u = (t : TypedTree) × (ts : TypedTrees) × HasType S first t × OperandsHaveTypes S false rest ts × (conjunction (typed t ts) ≡ u)
-  HasType S (chain levels.Equal offset first rest) u = (t : TypedTree) × (cs : Comparands) × HasType S first t × ComparandsHaveTypes S rest cs × (comparison t cs ≡ u)
-  HasType S (chain levels.Rel offset first rest) u = (t : TypedTree) × (cs : Comparands) × HasType S first t × ComparandsHaveTypes S rest cs × (comparison t cs ≡ u)
+  HasType S (chain levels.Equal offset first rest) u = (t : TypedTree) × (cs : Comparands) × HasType S first t × ComparandsHaveTypes S rest cs × (compared_with t cs ≡ u)
+  HasType S (chain levels.Rel offset first rest) u = (t : TypedTree) × (cs : Comparands) × HasType S first t × ComparandsHaveTypes S rest cs × (compared_with t cs ≡ u)
   HasType S (chain levels.Sum offset first rest) u = (t : TypedTree) × (cs : Combinands) × HasType S first t × CombinandsHaveTypes S rest cs × (arithmetic t cs ≡ u)
   HasType S (chain levels.Prod offset first rest) u = (t : TypedTree) × (cs : Combinands) × HasType S first t × CombinandsHaveTypes S rest cs × (arithmetic t cs ≡ u)
   HasType S (chain levels.Union offset first rest) u =

@@ -116,6 +116,11 @@ abbrev pub called : Scope → List ℕ → ℕ → ℕ → Checked Function
 called S name offset count =
     if list_any (λ c. c == 58) name then fault (kinds.Refused name) offset else function_called S name offset count (function_named name)
 
+-- an operand that is compared with later ones; a chain of one operand is that operand
+abbrev pub compared_with : TypedTree → Comparands → TypedTree
+compared_with t no_comparands = t
+compared_with t (comparand operator u cs) = comparison t (comparand operator u cs)
+
 abbrev pub number_of_trees : Trees → ℕ
 number_of_trees no_trees = 0
 number_of_trees (tree e es) = suc (number_of_trees es)
@@ -125,8 +130,8 @@ abbrev mutual
   pub typing : Scope → Tree → Checked TypedTree
   typing S (chain levels.Or offset first rest) = after (typing S first) (λ t. after (operands_typed S false rest) (λ ts. Ok (disjunction (typed t ts))))
   typing S (chain levels.And offset first rest) = after (typing S first) (λ t. after (operands_typed S false rest) (λ ts. Ok (conjunction (typed t ts))))
-  typing S (chain levels.Equal offset first rest) = after (typing S first) (λ t. after (comparands_typed S rest) (λ cs. Ok (comparison t cs)))
-  typing S (chain levels.Rel offset first rest) = after (typing S first) (λ t. after (comparands_typed S rest) (λ cs. Ok (comparison t cs)))
+  typing S (chain levels.Equal offset first rest) = after (typing S first) (λ t. after (comparands_typed S rest) (λ cs. Ok (compared_with t cs)))
+  typing S (chain levels.Rel offset first rest) = after (typing S first) (λ t. after (comparands_typed S rest) (λ cs. Ok (compared_with t cs)))
   typing S (chain levels.Sum offset first rest) = after (typing S first) (λ t. after (combinands_typed S rest) (λ cs. Ok (arithmetic t cs)))
   typing S (chain levels.Prod offset first rest) = after (typing S first) (λ t. after (combinands_typed S rest) (λ cs. Ok (arithmetic t cs)))
   typing S (chain levels.Union offset first rest) =
@@ -177,7 +182,7 @@ chain_typed S nodes first rest =
     after (after (typing S first) (wanted nodes (offset_of first))) (λ t. after (operands_typed S nodes rest) (λ ts. Ok (typed t ts)))
 
 abbrev pub comparison_typed : Scope → Tree → Operands → Checked TypedTree
-comparison_typed S first rest = after (typing S first) (λ t. after (comparands_typed S rest) (λ cs. Ok (comparison t cs)))
+comparison_typed S first rest = after (typing S first) (λ t. after (comparands_typed S rest) (λ cs. Ok (compared_with t cs)))
 
 abbrev pub arithmetic_typed : Scope → Tree → Operands → Checked TypedTree
 arithmetic_typed S first rest = after (typing S first) (λ t. after (combinands_typed S rest) (λ cs. Ok (arithmetic t cs)))

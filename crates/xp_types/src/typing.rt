@@ -2,12 +2,13 @@
 //!
 //! Costs time linear in the expression's size.
 
+ghost use Rattle.std.specs.Prelude.{Ok};
 ghost use Rattle.xp_tree.specs.View.{tree_of, start_of, trees_seen, steps_seen};
 ghost use Rattle.xp_tree.specs.Tree.{offset_of};
-ghost use Rattle.xp_typed_tree.specs.TypedView.{typed_tree_of, place_of, typed_seen, typed_steps_seen};
+ghost use Rattle.xp_typed_tree.specs.TypedView.{typed_tree_of, place_of, typed_seen, compared_list_seen, typed_steps_seen};
 ghost use Rattle.xp_types.specs.inner.ChainParts.{first_in, rest_in};
 ghost use Rattle.xp_types.specs.Checked.{ChecksAs, after};
-ghost use Rattle.xp_types.specs.Typing.{typing, wanted, all_typed, chain_typed, comparison_typed, arithmetic_typed, place_typed, steps_typed};
+ghost use Rattle.xp_types.specs.Typing.{typing, wanted, all_typed, chain_typed, compared_with, comparison_typed, arithmetic_typed, place_typed, steps_typed};
 
 use crate::env::Env;
 use crate::faults::CheckError;
@@ -110,13 +111,27 @@ fn type_chain(
 fn type_comparison(alloc: Global, chain: &Chain, env: &Env) -> Result<TypedExpr, CheckError>
     ensures { ChecksAs (comparison_typed env.now (first_in chain.now) (rest_in chain.now)) typed_tree_of result }
 {
-    let first = Box::new(alloc, type_expr(alloc, &chain.first, env)?)?;
+    let first = type_expr(alloc, &chain.first, env)?;
     let mut compared = Vec::new(alloc);
     for operand in &chain.rest {
         let expr = type_expr(alloc, &operand.expr, env)?;
         compared.push(Compared::new(comparison_of(operand.operator), expr))?;
     }
-    Ok(TypedExpr::compare(first, compared))
+    compared_with(alloc, first, compared)
+}
+
+/// An operand that is compared with later ones. Where there are none it stands alone, as no text spells it.
+fn compared_with(
+    alloc: Global,
+    first: TypedExpr,
+    rest: Vec<Compared>,
+) -> Result<TypedExpr, CheckError>
+    ensures { ChecksAs (Ok (compared_with (typed_tree_of first) (compared_list_seen rest.items))) typed_tree_of result }
+{
+    if rest.is_empty() {
+        return Ok(first);
+    }
+    Ok(TypedExpr::compare(Box::new(alloc, first)?, rest))
 }
 
 /// Operators on numbers of one level.

@@ -50,22 +50,22 @@ type_chain-loop-operand-preserved t c = chain-goes _ _ _ _ _ _ c.operand-item.re
 pub type_chain-returns : goal.type_chain-returns
 type_chain-returns t c = chain-ends _ _ _ _ _ (rw c.deref-operand-items.ensures.value at c.loop-operand-test.false) c.loop-operand.invariant
 
-pub type_comparison-returns-in_err-type_expr : goal.type_comparison-returns-in_err-type_expr
-type_comparison-returns-in_err-type_expr t c = let p = err_from_is_err_and c.from_residual.result c.from_residual.ensures.1 in
-    rw (p.1, p.2) (comparison-fails _ _ _ _ c.deref.ensures c.in_err-type_expr.ensures)
+pub type_comparison-returns-in_err-first : goal.type_comparison-returns-in_err-first
+type_comparison-returns-in_err-first t c = let p = err_from_is_err_and c.from_residual.result c.from_residual.ensures.1 in
+    rw (p.1, p.2) (comparison-fails _ _ _ _ c.deref.ensures c.in_err-first.ensures)
 
 pub type_comparison-loop-operand-init : goal.type_comparison-loop-operand-init
-type_comparison-loop-operand-init t c = comparison-begins _ _ _ _ _ _ c.deref.ensures c.in_ok-type_expr.ensures c.in_ok-first.ensures.ok c.new-compared.ensures.items
+type_comparison-loop-operand-init t c = comparison-begins _ _ _ _ _ _ c.deref.ensures c.in_ok-first.ensures refl c.new-compared.ensures.items
 
 pub type_comparison-returns-in_err-expr : goal.type_comparison-returns-in_err-expr
 type_comparison-returns-in_err-expr t c = let p = err_from_is_err_and c.from_residual-in_err-expr.result c.from_residual-in_err-expr.ensures.1 in
     rw (p.1, p.2) (comparison-stops _ _ _ _ _ c.operand-item.result _ (rw c.deref-operand-items.ensures.value at c.loop-operand-test.true) (rw c.deref-operand-items.ensures.value at c.operand-item.is) c.loop-operand.invariant c.in_err-expr.ensures)
 
 pub type_comparison-loop-operand-preserved : goal.type_comparison-loop-operand-preserved
-type_comparison-loop-operand-preserved t c = comparison-goes _ _ _ _ _ _ c.operand-item.result c.comparison_of.result c.in_ok-expr.expr _ (rw c.deref-operand-items.ensures.value at c.loop-operand-test.true) (rw c.deref-operand-items.ensures.value at c.operand-item.is) c.loop-operand.invariant c.in_ok-expr.ensures c.comparison_of.ensures c.new-in-loop-operand.ensures c.in_ok-push.ensures.items
+type_comparison-loop-operand-preserved t c = comparison-goes _ _ _ _ _ _ c.operand-item.result c.comparison_of.result c.in_ok-expr.expr _ (rw c.deref-operand-items.ensures.value at c.loop-operand-test.true) (rw c.deref-operand-items.ensures.value at c.operand-item.is) c.loop-operand.invariant c.in_ok-expr.ensures c.comparison_of.ensures c.new.ensures c.in_ok-push.ensures.items
 
 pub type_comparison-returns : goal.type_comparison-returns
-type_comparison-returns t c = comparison-ends _ _ _ _ _ _ (rw c.deref-operand-items.ensures.value at c.loop-operand-test.false) c.loop-operand.invariant c.compare.ensures
+type_comparison-returns t c = gives-same (comparison-ends _ _ _ _ _ (rw c.deref-operand-items.ensures.value at c.loop-operand-test.false) c.loop-operand.invariant) c.compared_with.ensures
 
 pub type_expr-returns-in_err-type_chain-in-Or : goal.type_expr-returns-in_err-type_chain-in-Or
 type_expr-returns-in_err-type_chain-in-Or t c = let p = err_from_is_err_and c.from_residual.result c.from_residual.ensures.1 in
