@@ -3,7 +3,8 @@ use Rattle.std.proofs.Common.{◌≡◌, List, [], ◌∷◌, ◌++◌, None, Re
 use Rattle.std.proofs.lemmas.List.{append-nil}
 use Rattle.pyx_core.specs.declared.begun.Events.{Events}
 use Rattle.pyx_core.specs.declared.event.Located.{Located}
-use Rattle.pyx_core.specs.inner.Begun.{shown, IsFront, Puts, Collected, Goes}
+use Rattle.pyx_core.specs.Fronts.{IsFront}
+use Rattle.pyx_core.specs.inner.Begun.{shown, Puts, Collected, Goes}
 
 -- a front of the events is a front of more of them
 pub front_longer : (front done : List Located) (more again : List Located) → IsFront front (done ++ more) →

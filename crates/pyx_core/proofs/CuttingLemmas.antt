@@ -15,7 +15,7 @@ use Rattle.pyx_core.specs.inner.Cutting.{StandsAt, Cuts, Keeps, FedTo, fault_if}
 use Rattle.pyx_core.specs.Lines.{is_line_end, ended_lines, unended}
 use Rattle.pyx_core.specs.Reading.{Judged, judge, judged, and_then, sound, so_far, in_all, completed, fault_of, events_unless, events_before_fault, fault_in, or_lacking, end_fault, ended}
 use Rattle.pyx_core.specs.inner.Standing.{TakesLine, TakesGoodLast, TakesLast, Has}
-use Rattle.pyx_core.specs.inner.Begun.{IsFront}
+use Rattle.pyx_core.specs.Fronts.{IsFront}
 use Rattle.pyx_core.proofs.LinesLemmas.{has_end, none_ended, all_left, left_none, ended_append, left_append, any_none, half_ended, half_left, few_ended}
 use Rattle.pyx_core.proofs.JudgeLemmas.{judged_behind, closed_front, front_trans, count_good}
 use Rattle.pyx_core.proofs.LineLemmas.{NoEndBelow, first_line, behind_first, no_end, some_end}

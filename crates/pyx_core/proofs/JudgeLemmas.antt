@@ -8,7 +8,7 @@ use Rattle.pyx_core.specs.declared.line_table.Line.{Line}
 use Rattle.pyx_core.specs.declared.mode.Mode.{Mode}
 use Rattle.pyx_core.specs.Before.{closed, completed_by}
 use Rattle.pyx_core.specs.Reading.{Judged, judge, judged, and_then, sound, fault_in}
-use Rattle.pyx_core.specs.inner.Begun.{IsFront}
+use Rattle.pyx_core.specs.Fronts.{IsFront}
 
 -- lines after others are judged where no fault came before
 abbrev pub unless_fault : Mode → List Line → Option PyxFault → List (List ℕ) → Judged

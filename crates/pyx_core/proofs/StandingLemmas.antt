@@ -19,13 +19,13 @@ use Rattle.std.proofs.Math.Seq.{take-append_seam, take-nil}
 use Rattle.pyx_core.specs.declared.standing.Standing.{Standing}
 use Rattle.pyx_core.specs.declared.begun.Begun.{Begun}
 use Rattle.pyx_core.specs.declared.begun.Begun.TheVariants as begun
-use Rattle.pyx_core.specs.Before.{outer, open_names, has_item, closed, completed_by, lacking, takes_attribute, pending, is_outside, kept, attr_onto, with_attr, begin_text, text_onto, with_text}
-use Rattle.pyx_core.specs.inner.Standing.{piled, HasRead, Settles, TakesLine, TakesGoodLast, TakesLast}
+use Rattle.pyx_core.specs.Before.{outer, outermost_first, open_names, has_item, closed, completed_by, lacking, takes_attribute, pending, is_outside, kept, attr_onto, with_attr, begin_text, text_onto, with_text}
+use Rattle.pyx_core.specs.inner.Standing.{HasRead, Settles, TakesLine, TakesGoodLast, TakesLast}
 use Rattle.pyx_core.specs.inner.Begun.{shown, Goes}
 
-pub length_piled : (names : List (List ℕ)) → length (piled names) ≡ length names
-length_piled [] = refl
-length_piled (name ∷ names) = grind (arith, common_steps, length_piled names)
+pub length_outermost_first : (names : List (List ℕ)) → length (outermost_first names) ≡ length names
+length_outermost_first [] = refl
+length_outermost_first (name ∷ names) = grind (arith, common_steps, length_outermost_first names)
 
 -- whether an event is the start of an element
 abbrev pub is_start : Event → Bool
@@ -84,17 +84,17 @@ not_element (begun.Element line name attrs) no_start = absurd (no_start line nam
 not_element (begun.Text line text) no_start = refl
 
 -- the names after an end
-pub popped : (items rest : List (List ℕ)) (count : ℕ) (names : List (List ℕ)) → items ≡ piled names →
-    count ≡ length items → rest ≡ take (count - 1) items → rest ≡ piled (outer names)
+pub popped : (items rest : List (List ℕ)) (count : ℕ) (names : List (List ℕ)) → items ≡ outermost_first names →
+    count ≡ length items → rest ≡ take (count - 1) items → rest ≡ outermost_first (outer names)
 popped items rest count [] is counted pops = pops ∙ (ap (take (count - 1)) is ∙ take-nil (count - 1))
 popped items rest count (name ∷ names) is counted pops =
-    let all : length items ≡ length (piled names) + 1 = rw is (length-append (piled names) (name ∷ [])) in
-    let less : count - 1 ≡ length (piled names) = omega arith in
-    pops ∙ (ap (λ n. take n items) less ∙ (ap (take (length (piled names))) is ∙ take-append_seam (piled names) (name ∷ [])))
+    let all : length items ≡ length (outermost_first names) + 1 = rw is (length-append (outermost_first names) (name ∷ [])) in
+    let less : count - 1 ≡ length (outermost_first names) = omega arith in
+    pops ∙ (ap (λ n. take n items) less ∙ (ap (take (length (outermost_first names))) is ∙ take-append_seam (outermost_first names) (name ∷ [])))
 
 -- a line that left its traces was read
 pub settles : {T E : Type 0} (standing : Standing) (mode : Mode) (taken : List Located) (before : List Line) (line : Line)
-    (result : Result T E) → standing.mode ≡ mode → standing.opened.items ≡ piled (open_names (line ∷ before)) →
+    (result : Result T E) → standing.mode ≡ mode → standing.opened.items ≡ outermost_first (open_names (line ∷ before)) →
     standing.has_item ≡ has_item mode (line ∷ before) →
     Goes standing.events taken (closed mode before) (completed_by mode before line) (pending mode (line ∷ before)) result →
     Settles standing mode taken before line result

@@ -7,7 +7,7 @@ use Rattle.pyx_core.specs.declared.mode.Mode.{Mode}
 use Rattle.pyx_core.specs.Before.{closed, pending}
 use Rattle.pyx_core.specs.Lines.{ended_lines, unended}
 use Rattle.pyx_core.specs.Reading.{Judged, judged, so_far, in_all, completed, FaultsStay, CompletedEventsStay}
-use Rattle.pyx_core.specs.inner.Begun.{IsFront}
+use Rattle.pyx_core.specs.Fronts.{IsFront}
 use Rattle.pyx_core.proofs.LinesLemmas.{ended_append}
 use Rattle.pyx_core.proofs.JudgeLemmas.{judged_stopped, judged_append, unless_fault, closed_front}
 use Rattle.pyx_core.proofs.ReaderLemmas.{fault_stays}

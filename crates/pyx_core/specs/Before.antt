@@ -40,6 +40,11 @@ open_names (Chars text ∷ before) = open_names before
 open_names (Pi target body ∷ before) = open_names before
 open_names (Comment text ∷ before) = open_names before
 
+-- the names with the outermost first
+abbrev pub outermost_first : List (List ℕ) → List (List ℕ)
+outermost_first [] = []
+outermost_first (name ∷ names) = outermost_first names ++ name ∷ []
+
 -- whether no element is open
 abbrev pub at_top : List Line → Bool
 at_top before = is_nil (open_names before)

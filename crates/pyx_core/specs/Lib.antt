@@ -1,5 +1,6 @@
 pub mod Before
 pub mod Escapes
+pub mod Fronts
 pub mod Lines
 pub mod LineTable
 pub mod Nesting

@@ -2,6 +2,8 @@
 use Rattle.std.specs.Prelude.{◌≡◌, ℕ, suc, List, [], ◌∷◌, ◌++◌, length, ◌≤◌, Option, None, Some, Result, Ok, Err}
 use Rattle.std.specs.Option.{option_to_list}
 use Rattle.pyx_core.specs.declared.event.Located.{Located}
+use Rattle.pyx_core.specs.declared.fault.FeedError.{FeedError}
+use Rattle.pyx_core.specs.declared.fault.FeedError.TheVariants.{Fault, Memory}
 use Rattle.pyx_core.specs.declared.fault.PyxFault.{PyxFault}
 use Rattle.pyx_core.specs.declared.fault.PyxKind.{PyxKind}
 use Rattle.pyx_core.specs.declared.line_table.Line.{Line}
@@ -96,6 +98,11 @@ events_unless mode bytes (Some fault) = completed mode bytes
 
 abbrev pub events_before_fault : Mode → List ℕ → List Located
 events_before_fault mode bytes = events_unless mode bytes (fault_of mode bytes)
+
+-- what holds of the fault, where there is one
+abbrev pub IfFault : (PyxFault → Type 0) → FeedError → Type 0
+IfFault P (Fault fault) = P fault
+IfFault P Memory = Unit {0}
 
 -- a fault in the lines that end stays the fault, and no event comes any more
 pub record FaultStays (mode : Mode) (bytes more : List ℕ) (fault : PyxFault) : Type 0 where

@@ -1,3 +1,5 @@
 pub mod Begun
 pub mod Cutting
+pub mod Reader
+pub mod Reading
 pub mod Standing

@@ -5,13 +5,16 @@ ghost use Rattle.std.specs.Option.{option_to_list};
 ghost use Rattle.pyx_core.specs.declared.event.Located.{Located};
 ghost use Rattle.pyx_core.specs.declared.fault.FeedError.{FeedError};
 ghost use Rattle.pyx_core.specs.declared.mode.Mode.{Mode};
-ghost use Rattle.pyx_core.specs.Reader.{Reads, IsStopped, Feeds, Done, Finishes, waiting, error_of, stops, answer_of};
+ghost use Rattle.pyx_core.specs.Reader.{Reads, IsStopped, Feeds, Done, Finishes};
+ghost use Rattle.pyx_core.specs.inner.Reader.{error_of, stops, answer_of};
 
 use crate::cutting::Cutting;
 use crate::{FeedError, Located, Mode, PyxFault};
 use std::alloc::{AllocError, Global};
+use std::marker::Model;
 
-/// A reader of PYX text that comes in pieces, which are cut anywhere, also within a character or an escape.
+/// A reader of PYX text that comes in pieces, which are cut anywhere, also within a character or an escape; seen by
+/// contracts as the events that wait, why it has stopped, and what it keeps of the text.
 ///
 /// It is fed the pieces in their order, then the text's end is told by `finish`; completed events are taken at any time.
 /// A line is judged when its line end was fed, or at the end. After a fault the reader answers this fault from then on,
@@ -24,6 +27,16 @@ pub struct Reader {
     cutting: Cutting,
     /// Why the reader stopped.
     stopped: Option<FeedError>,
+}
+
+impl Model for Reader {
+    ghost use Rattle.pyx_core.specs.Reader.{ReaderState};
+
+    ghost Value = { ReaderState };
+
+    ghost use Rattle.pyx_core.specs.inner.Reader.{state_of};
+
+    ghost view = { λ r. state_of r.cutting r.stopped };
 }
 
 /// The answer where the first fault or want of memory stops the reader.
@@ -62,7 +75,7 @@ impl Reader {
         ensures read { (mode : Mode) (fed : List ℕ) (taken : List Located) → Reads self.old mode fed taken →
             length (fed ++ piece.now) < 2 ^ 64 - 1 → Feeds self.new mode (fed ++ piece.now) taken result }
         ensures stopped { (error : FeedError) → IsStopped self.old error →
-            (result ≡ Err error) × IsStopped self.new error × (waiting self.new ≡ waiting self.old) }
+            (result ≡ Err error) × (self.new ≡ self.old) }
     {
         if let Some(error) = self.stopped {
             return Err(error);
@@ -78,7 +91,7 @@ impl Reader {
         ensures read { (mode : Mode) (fed : List ℕ) (taken : List Located) → Reads self.old mode fed taken →
             Finishes self.new mode fed taken result }
         ensures stopped { (error : FeedError) → IsStopped self.old error →
-            (result ≡ Err error) × IsStopped self.new error × (waiting self.new ≡ waiting self.old) }
+            (result ≡ Err error) × (self.new ≡ self.old) }
     {
         if let Some(error) = self.stopped {
             return Err(error);
@@ -89,13 +102,13 @@ impl Reader {
 
     /// The next completed event; None exactly where none is left to take.
     pub fn next_event(&mut self) -> Option<Located>
-        ensures event { MatchOption result ((waiting self.old ≡ []) × (waiting self.new ≡ []))
-            (λ event. waiting self.old ≡ event ∷ waiting self.new) }
+        ensures event { MatchOption result ((self.old.waiting ≡ []) × (self.new.waiting ≡ []))
+            (λ event. self.old.waiting ≡ event ∷ self.new.waiting) }
         ensures read { (mode : Mode) (fed : List ℕ) (taken : List Located) → Reads self.old mode fed taken →
             Reads self.new mode fed (taken ++ option_to_list result) }
         ensures done { (mode : Mode) (fed : List ℕ) (taken : List Located) → Done self.old mode fed taken →
             Done self.new mode fed (taken ++ option_to_list result) }
-        ensures stopped { (error : FeedError) → IsStopped self.old error → IsStopped self.new error }
+        ensures stopped { self.new.stopped ≡ self.old.stopped }
     {
         self.cutting.standing.events.waiting.pop_front()
     }

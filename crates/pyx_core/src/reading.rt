@@ -2,8 +2,9 @@
 
 ghost use Rattle.std.specs.Prelude.{◌≡◌, ℕ, [], length, None, Some, IfOk, MatchResult};
 ghost use Rattle.pyx_core.specs.declared.mode.Mode.{Mode};
-ghost use Rattle.pyx_core.specs.Reader.{Reads, Refuses, waiting, IfFault, ReadsAll};
-ghost use Rattle.pyx_core.specs.Reading.{fault_of, events_of, events_before_fault};
+ghost use Rattle.pyx_core.specs.Reader.{Reads};
+ghost use Rattle.pyx_core.specs.Reading.{fault_of, events_of, events_before_fault, IfFault};
+ghost use Rattle.pyx_core.specs.inner.Reading.{ReadsAll};
 
 use crate::{FeedError, LocatedList, Mode, PyxFault, Reader};
 use std::alloc::{AllocError, Global};
@@ -28,7 +29,7 @@ fn feed_whole(reader: &mut Reader, bytes: &[u8]) -> Result<(), FeedError>
 /// Feeds the whole text, and answers its fault.
 fn fault_of_whole(reader: &mut Reader, bytes: &[u8]) -> Result<Option<PyxFault>, AllocError>
     ensures { (mode : Mode) → Reads reader.old mode [] [] → IfOk result (λ fault. (fault ≡ fault_of mode bytes.now)
-        × (waiting reader.new ≡ events_before_fault mode bytes.now)) }
+        × (reader.new.waiting ≡ events_before_fault mode bytes.now)) }
 {
     match feed_whole(reader, bytes) {
         Ok(()) => Ok(None),
@@ -39,7 +40,7 @@ fn fault_of_whole(reader: &mut Reader, bytes: &[u8]) -> Result<Option<PyxFault>,
 
 /// Takes all events that wait.
 fn take_all(alloc: Global, reader: &mut Reader) -> Result<LocatedList, AllocError>
-    ensures { IfOk result (λ events. events ≡ waiting reader.old) }
+    ensures { IfOk result (λ events. events ≡ reader.old.waiting) }
 {
     let mut events = LocatedList::new(alloc);
     while let Some(event) = reader.next_event() {

@@ -6,17 +6,13 @@ use Rattle.pyx_core.specs.declared.begun.Events.{Events}
 use Rattle.pyx_core.specs.declared.event.Event.TheVariants as event
 use Rattle.pyx_core.specs.declared.event.Located.{Located}
 use Rattle.pyx_core.specs.Before.{located}
+use Rattle.pyx_core.specs.Fronts.{IsFront}
 
 -- the begun event
 abbrev pub shown : Begun → Option Located
 shown Nothing = None
 shown (Element line name attrs) = Some (located line (event.Start name attrs))
 shown (Text line text) = Some (located line (event.Chars (string_bytes text)))
-
--- a list is the front of another
-pub record IsFront (front events : List Located) : Type 0 where
-  pub later : List Located
-  pub is : events ≡ front ++ later
 
 -- the items came after the old ones, or the list stayed as it was
 abbrev pub Puts : {T E : Type 0} → List Located → List Located → List Located → Result T E → Type 0

@@ -10,7 +10,7 @@ use Rattle.pyx_core.specs.Before.{closed}
 use Rattle.pyx_core.specs.Lines.{unended}
 use Rattle.pyx_core.specs.Reading.{fault_in, sound, so_far, completed, fault_so_far, fault_of, events_before_fault}
 use Rattle.pyx_core.specs.inner.Standing.{HasRead, Drops, Has}
-use Rattle.pyx_core.specs.inner.Begun.{IsFront}
+use Rattle.pyx_core.specs.Fronts.{IsFront}
 
 -- these good lines have ended, newest first, and the half of a line came after them
 pub record StandsAt (lines : Cutting) (mode : Mode) (taken : List Located) (before : List Line) (half : List ℕ) : Type 0 where

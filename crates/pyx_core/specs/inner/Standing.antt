@@ -1,23 +1,19 @@
 -- What is kept of the lines that were read, for judging the next one.
-use Rattle.std.specs.Prelude.{◌≡◌, List, [], ◌∷◌, ◌++◌, ℕ, Option, None, Some, Result, Ok, Err, MatchResult}
+use Rattle.std.specs.Prelude.{◌≡◌, List, ◌∷◌, ◌++◌, Option, None, Some, Result, Ok, Err, MatchResult}
 use Rattle.pyx_core.specs.declared.event.Located.{Located}
 use Rattle.pyx_core.specs.declared.fault.PyxKind.{PyxKind}
 use Rattle.pyx_core.specs.declared.line_table.Line.{Line}
 use Rattle.pyx_core.specs.declared.mode.Mode.{Mode}
 use Rattle.pyx_core.specs.declared.standing.Standing.{Standing}
-use Rattle.pyx_core.specs.Before.{open_names, has_item, pending, closed, lacking}
+use Rattle.pyx_core.specs.Before.{outermost_first, open_names, has_item, pending, closed, lacking}
 use Rattle.pyx_core.specs.Reading.{ended}
-use Rattle.pyx_core.specs.inner.Begun.{IsFront, Collected}
-
--- names that are listed innermost first, with the innermost last
-abbrev pub piled : List (List ℕ) → List (List ℕ)
-piled [] = []
-piled (name ∷ names) = piled names ++ name ∷ []
+use Rattle.pyx_core.specs.Fronts.{IsFront}
+use Rattle.pyx_core.specs.inner.Begun.{Collected}
 
 -- these good lines were read, newest first, and these events were taken
 pub record HasRead (standing : Standing) (mode : Mode) (taken : List Located) (before : List Line) : Type 0 where
   pub mode_is : standing.mode ≡ mode
-  pub opened : standing.opened.items ≡ piled (open_names before)
+  pub opened : standing.opened.items ≡ outermost_first (open_names before)
   pub item : standing.has_item ≡ has_item mode before
   pub told : Collected standing.events taken (closed mode before) (pending mode before)
 

@@ -1,9 +1,8 @@
 use Rattle.std.proofs.Common.{◌≡◌, ◌++◌, length}
-use Rattle.pyx_core.specs.Reader.{waiting}
 use Rattle.pyx_core.proofs.reading.take_all.Given as goal
 
 abbrev pub invariant-loop-event : goal.invariant-loop-event
-invariant-loop-event l = l.events ++ waiting l.reader ≡ waiting l.fn.reader
+invariant-loop-event l = l.events ++ l.reader.waiting ≡ l.fn.reader.waiting
 
 abbrev pub decreases-loop-event : goal.decreases-loop-event
-decreases-loop-event l = length (waiting l.reader)
+decreases-loop-event l = length l.reader.waiting
