@@ -5,7 +5,6 @@ ghost use Rattle.xp_outcome.specs.Running.{Ran};
 ghost use Rattle.xp_meaning.specs.Results.{shown_alloc};
 ghost use Rattle.xp_meaning.specs.Language.{ends_or_goes_on, is_language, is_lang, lang_among, own_language, in_language};
 
-use crate::reading::is_element;
 use doc_tree::{Cell, NodeId, Tree, xml_namespace};
 use std::alloc::AllocError;
 use xp_outcome::Recorder;
@@ -41,7 +40,7 @@ fn own_language(
 ) -> Result<Option<bool>, AllocError>
     ensures { (count : ℕ) → Ran (own_language tree.now.nodes wanted.now n) (shown_alloc result) reads.old reads.new count count }
 {
-    if !is_element(tree, n) {
+    if !tree.is_element(n) {
         return Ok(None);
     }
     reads.add(Cell::Attrs(n))?;
@@ -65,10 +64,7 @@ fn lang_among(tree: &Tree, attributes: &[NodeId]) -> Option<NodeId>
 fn is_lang(tree: &Tree, a: NodeId) -> bool
     ensures { result ≡ is_lang tree.now.nodes a }
 {
-    match tree.name(a) {
-        Some(name) => tree.uri_of(name) == xml_namespace() && tree.local_of(name) == "lang",
-        None => false,
-    }
+    tree.has_name(a, xml_namespace(), "lang")
 }
 
 /// Whether a language tag is the wanted language or a sublanguage of it, ASCII case apart.

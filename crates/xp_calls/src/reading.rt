@@ -3,7 +3,7 @@
 ghost use Rattle.std.specs.Prelude.{◌≡◌, OnOk, OnErr, option_map};
 ghost use Rattle.std.specs.Option.{option_to_list};
 ghost use Rattle.doc_tree.specs.Table.{kind_of};
-ghost use Rattle.doc_tree.specs.Kinds.{holds_kids, is_element};
+ghost use Rattle.doc_tree.specs.Kinds.{holds_kids};
 ghost use Rattle.xp_outcome.specs.Evaluation.{cell, done};
 ghost use Rattle.xp_outcome.specs.Recorded.{note_all};
 ghost use Rattle.xp_outcome.specs.Running.{Ran};
@@ -15,29 +15,11 @@ use std::alloc::AllocError;
 use std::sync::ledger::Ledger;
 use xp_outcome::{Recorder, Steps};
 
-/// The kind of a node, None for a number that isn't live.
-fn kind_of(tree: &Tree, n: NodeId) -> Option<Kind>
-    ensures { result ≡ kind_of tree.now.nodes n }
-{
-    if tree.contains(n) {
-        Some(tree.kind(n))
-    } else {
-        None
-    }
-}
-
 /// Whether the node is of a kind that has kids: the root or an element.
 fn holds_kids(tree: &Tree, n: NodeId) -> bool
     ensures { result ≡ holds_kids (kind_of tree.now.nodes n) }
 {
-    matches!(kind_of(tree, n), Some(Kind::Root | Kind::Element))
-}
-
-/// Whether the node is an element.
-pub(crate) fn is_element(tree: &Tree, n: NodeId) -> bool
-    ensures { result ≡ is_element (kind_of tree.now.nodes n) }
-{
-    matches!(kind_of(tree, n), Some(Kind::Element))
+    matches!(tree.kind_of(n), Some(Kind::Root | Kind::Element))
 }
 
 /// The cell that a step along an axis from a node looks at, if there is one.
@@ -51,7 +33,7 @@ fn axis_cell(tree: &Tree, axis: Axis, n: NodeId) -> Option<Cell>
         }
         Axis::Following | Axis::Preceding => Some(Cell::Shape(tree.root())),
         Axis::FollowingSibling | Axis::PrecedingSibling => sibling_cell(tree, n),
-        Axis::Attribute => is_element(tree, n).then_some(Cell::Attrs(n)),
+        Axis::Attribute => tree.is_element(n).then_some(Cell::Attrs(n)),
         Axis::SelfNode | Axis::Parent | Axis::Ancestor | Axis::AncestorOrSelf => None,
     }
 }
@@ -60,7 +42,7 @@ fn axis_cell(tree: &Tree, axis: Axis, n: NodeId) -> Option<Cell>
 fn sibling_cell(tree: &Tree, n: NodeId) -> Option<Cell>
     ensures { option_to_list (option_map cell result) ≡ sibling_reads tree.now.nodes n }
 {
-    match kind_of(tree, n) {
+    match tree.kind_of(n) {
         Some(Kind::Attribute) => None,
         _ => Some(Cell::Kids(tree.parent(n)?)),
     }

@@ -1,12 +1,12 @@
 -- The language of a node (XPath 1.0, section 4.3, `lang`; XML 1.0, section 2.12).
-use Rattle.std.specs.Prelude.{ℕ, ◌==◌, Bool, true, false, ◌&&◌, bytes_eq, List, [], ◌∷◌, length, take, drop, find, codes, Option, None, Some, if◌then◌else◌}
+use Rattle.std.specs.Prelude.{ℕ, ◌==◌, Bool, true, false, ◌&&◌, List, [], ◌∷◌, length, take, drop, find, codes, Option, None, Some, if◌then◌else◌}
 use Rattle.std.specs.Str.{str_eq_ignore_ascii_case}
 use Rattle.doc_tree.specs.cell.Cell.TheVariants.{Attrs, Value}
-use Rattle.doc_tree.specs.Table.{Table, attrs_of, kind_of, name_of, value_of}
+use Rattle.doc_tree.specs.Table.{Table, attrs_of, kind_of, value_of}
 use Rattle.doc_tree.specs.Kinds.{is_element}
+use Rattle.doc_tree.specs.NameTests.{has_name}
 use Rattle.doc_tree.specs.Scope.{xml_namespace}
 use Rattle.doc_tree.specs.Walks.{above}
-use Rattle.doc_axes.specs.NodeTests.{named}
 use Rattle.xp_outcome.specs.Evaluation.{Evaluation, done, bind, reading, cell}
 use Rattle.xp_values.specs.declared.values.EvalFault.{EvalFault}
 
@@ -21,7 +21,7 @@ is_language tag wanted = str_eq_ignore_ascii_case (take (length wanted) tag) wan
 
 -- whether a node is named `xml:lang`
 abbrev pub is_lang : Table → ℕ → Bool
-is_lang T a = named (name_of T a) (λ name. bytes_eq name.uri xml_namespace && bytes_eq name.local (codes "lang"))
+is_lang T a = has_name T a xml_namespace (codes "lang")
 
 -- the first of some attributes that is `xml:lang`
 abbrev pub lang_among : Table → List ℕ → Option ℕ

@@ -1,27 +1,17 @@
 -- What evaluation reads of nodes: the cells that a step looks at, and the string-values that conversions take.
 use Rattle.std.specs.Prelude.{ℕ, Bool, true, false, List, [], ◌∷◌, map, length, Option, None, Some, if◌then◌else◌}
-use Rattle.doc_tree.specs.kind.Kind.{Kind}
-use Rattle.doc_tree.specs.kind.Kind.TheVariants as kinds
 use Rattle.doc_tree.specs.cell.Cell.{Cell}
 use Rattle.doc_tree.specs.cell.Cell.TheVariants.{Kids, Shape, Attrs, Value, Text}
 use Rattle.doc_tree.specs.declared.axes.Axis.{Axis}
 use Rattle.doc_tree.specs.declared.axes.Axis.TheVariants.{Ancestor, AncestorOrSelf, Attribute, Child, Descendant, DescendantOrSelf, Following, FollowingSibling, Parent, Preceding, PrecedingSibling, SelfNode}
 use Rattle.doc_tree.specs.Table.{Table, kind_of, parent_of}
 use Rattle.doc_tree.specs.Kinds.{holds_kids, is_element}
+use Rattle.doc_axes.specs.Axes.{is_attribute}
 use Rattle.xp_outcome.specs.Evaluation.{Read, cell, Evaluation, all_reading, visits}
 
 -- a cell, where the node's kind has it
 abbrev pub read_if : Bool → Cell → List Read
 read_if has c = if has then cell c ∷ [] else []
-
-abbrev pub is_attribute : Option Kind → Bool
-is_attribute None = false
-is_attribute (Some kinds.Root) = false
-is_attribute (Some kinds.Element) = false
-is_attribute (Some kinds.Attribute) = true
-is_attribute (Some kinds.Text) = false
-is_attribute (Some kinds.Comment) = false
-is_attribute (Some kinds.Pi) = false
 
 -- the list of kids in which a node stands
 abbrev pub kids_of_parent : Option ℕ → List Read
@@ -30,7 +20,7 @@ kids_of_parent (Some p) = cell (Kids p) ∷ []
 
 -- an attribute stands in no list of kids
 abbrev pub sibling_reads : Table → ℕ → List Read
-sibling_reads T n = if is_attribute (kind_of T n) then [] else kids_of_parent (parent_of T n)
+sibling_reads T n = if is_attribute T n then [] else kids_of_parent (parent_of T n)
 
 -- what a step along an axis from a node reads (axes: XPath 1.0, section 2.2)
 abbrev pub axis_reads : Table → Axis → ℕ → List Read
