@@ -1,0 +1,41 @@
+//! Schemas without their abstract parts.
+
+use crate::parts::{AssertionList, DiagnosticList, Head, LetDeclList, NsList, PhaseList};
+use doc_tree::NodeId;
+use sch_base::{ItemList, Text};
+
+/// A rule: the nodes that match its context, its lets in order, and its assertions in order.
+#[derive(Debug, Drop)]
+pub struct FlatRule {
+    pub node: NodeId,
+    pub id: Option<Text>,
+    pub context: Text,
+    pub role: Option<Text>,
+    pub flag: Option<Text>,
+    pub lets: LetDeclList,
+    pub assertions: AssertionList,
+}
+
+/// A pattern: of its rules each node fires the first that matches.
+#[derive(Debug, Drop)]
+pub struct FlatPattern {
+    pub node: NodeId,
+    pub id: Option<Text>,
+    pub lets: LetDeclList,
+    pub rules: FlatRuleList,
+}
+
+/// A schema in which nothing is abstract.
+#[derive(Debug, Drop)]
+pub struct FlatSchema {
+    pub head: Head,
+    pub ns: NsList,
+    pub lets: LetDeclList,
+    pub phases: PhaseList,
+    pub patterns: FlatPatternList,
+    pub diagnostics: DiagnosticList,
+}
+
+pub type FlatRuleList = ItemList<FlatRule>;
+
+pub type FlatPatternList = ItemList<FlatPattern>;

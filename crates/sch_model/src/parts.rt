@@ -1,0 +1,97 @@
+//! The parts that a schema has as it is read and without its abstract parts.
+//!
+//! Each `node` is the element in the schema's tree.
+
+use doc_tree::NodeId;
+use sch_base::{ItemList, Text};
+
+/// What a schema says of itself.
+#[derive(Debug, Drop)]
+pub struct Head {
+    pub node: NodeId,
+    pub schema_version: Option<Text>,
+    pub default_phase: Option<Text>,
+    pub title: Option<Text>,
+}
+
+/// A prefix for the expressions of the schema, and its namespace.
+#[derive(Debug, Drop)]
+pub struct Ns {
+    pub node: NodeId,
+    pub prefix: Text,
+    pub uri: Text,
+}
+
+/// A variable, and the expression that gives its value.
+#[derive(Debug, Drop)]
+pub struct LetDecl {
+    pub node: NodeId,
+    pub name: Text,
+    pub value: Text,
+}
+
+/// A pattern that a phase makes active.
+#[derive(Debug, Drop)]
+pub struct Active {
+    pub node: NodeId,
+    pub pattern: Text,
+}
+
+/// A choice of patterns.
+#[derive(Debug, Drop)]
+pub struct Phase {
+    pub node: NodeId,
+    pub id: Text,
+    pub lets: LetDeclList,
+    pub active: ActiveList,
+}
+
+/// A part of a message.
+#[derive(Debug, Drop)]
+pub enum Part {
+    /// Characters as they are written.
+    Chars(Text),
+    /// The text of an expression's value.
+    ValueOf { node: NodeId, select: Text },
+    /// The name of the path's first node, or of the context node where there is no path.
+    Name { node: NodeId, path: Option<Text> },
+}
+
+/// A message that assertions name.
+#[derive(Debug, Drop)]
+pub struct Diagnostic {
+    pub node: NodeId,
+    pub id: Text,
+    pub message: PartList,
+}
+
+/// An assert, or a report.
+#[derive(Debug, Drop)]
+pub struct Assertion {
+    pub node: NodeId,
+    /// Whether it is a report, which finds where its test is true.
+    pub report: bool,
+    pub id: Option<Text>,
+    pub role: Option<Text>,
+    pub flag: Option<Text>,
+    pub test: Text,
+    /// The ids of the diagnostics that it names, in their order.
+    pub diagnostics: TextList,
+    pub message: PartList,
+}
+
+pub type TextList = ItemList<Text>;
+
+pub type NsList = ItemList<Ns>;
+
+pub type LetDeclList = ItemList<LetDecl>;
+
+pub type ActiveList = ItemList<Active>;
+
+pub type PhaseList = ItemList<Phase>;
+
+pub type PartList = ItemList<Part>;
+
+pub type DiagnosticList = ItemList<Diagnostic>;
+
+pub type AssertionList = ItemList<Assertion>;

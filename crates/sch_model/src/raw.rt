@@ -1,0 +1,66 @@
+//! Schemas as they are read.
+
+use crate::parts::{Assertion, DiagnosticList, Head, LetDecl, LetDeclList, NsList, PhaseList};
+use doc_tree::NodeId;
+use sch_base::{ItemList, Text};
+
+/// A parameter of an abstract pattern, and the text that stands for it.
+#[derive(Debug, Drop)]
+pub struct Param {
+    pub node: NodeId,
+    pub name: Text,
+    pub value: Text,
+}
+
+/// What a rule holds, in the order of the schema.
+#[derive(Debug, Drop)]
+pub enum RawItem {
+    Let(LetDecl),
+    Assertion(Assertion),
+    /// The lets and assertions of an abstract rule stand here.
+    Extends { node: NodeId, rule: Text },
+}
+
+/// A rule; an abstract one has an id and no context.
+#[derive(Debug, Drop)]
+pub struct RawRule {
+    pub node: NodeId,
+    pub is_abstract: bool,
+    pub id: Option<Text>,
+    pub context: Option<Text>,
+    pub role: Option<Text>,
+    pub flag: Option<Text>,
+    pub items: RawItemList,
+}
+
+/// A pattern, which may be abstract, or an instance of an abstract one.
+#[derive(Debug, Drop)]
+pub struct RawPattern {
+    pub node: NodeId,
+    pub is_abstract: bool,
+    pub id: Option<Text>,
+    /// The id of the abstract pattern of which it is an instance.
+    pub is_a: Option<Text>,
+    pub params: ParamList,
+    pub lets: LetDeclList,
+    pub rules: RawRuleList,
+}
+
+/// A schema as it is read.
+#[derive(Debug, Drop)]
+pub struct RawSchema {
+    pub head: Head,
+    pub ns: NsList,
+    pub lets: LetDeclList,
+    pub phases: PhaseList,
+    pub patterns: RawPatternList,
+    pub diagnostics: DiagnosticList,
+}
+
+pub type ParamList = ItemList<Param>;
+
+pub type RawItemList = ItemList<RawItem>;
+
+pub type RawRuleList = ItemList<RawRule>;
+
+pub type RawPatternList = ItemList<RawPattern>;
