@@ -112,12 +112,12 @@ pieces (c ∷ characters) = if is_whitespace c then [] ∷ pieces characters els
 
 abbrev pub without_empty : List (List ℕ) → List (List ℕ)
 without_empty [] = []
-without_empty ([] ∷ pieces) = without_empty pieces
-without_empty ((c ∷ piece) ∷ pieces) = (c ∷ piece) ∷ without_empty pieces
+without_empty ([] ∷ texts) = without_empty texts
+without_empty ((b ∷ text) ∷ texts) = (b ∷ text) ∷ without_empty texts
 
 -- the ids of a list, which are parted by whitespace
 abbrev pub ids_in : List ℕ → List (List ℕ)
-ids_in text = map encode_utf8_all (without_empty (pieces (chars text)))
+ids_in text = without_empty (map encode_utf8_all (pieces (chars text)))
 
 abbrev pub assertion_of : Table → Bool → ℕ → Assertion
 assertion_of T report n = record {

@@ -1,0 +1,47 @@
+-- Kids checked in turn.
+use Rattle.std.proofs.Common.{◌≡◌, ℕ, suc, ◌+◌, ◌<◌, ◌≤◌, true, List, [], ◌∷◌, ◌++◌, length, take, drop, slice_index_or, Ok, Err, sym, ap, ◌∙◌, subst, arith, add-one, append-nil, append_assoc}
+use Rattle.std.specs.List.{flat_map}
+use Rattle.std.proofs.Math.ListN.{take-append-drop}
+use Rattle.std.proofs.Math.Seq.{drop-cons, take-length, take-suc}
+use Rattle.std.proofs.lemmas.Grind.{flat_map-append}
+use Rattle.doc_tree.specs.Lists.{mem}
+use Rattle.doc_tree.specs.Table.{Table}
+use Rattle.doc_tree.specs.Walks.{below}
+use Rattle.doc_tree.proofs.ListLemmas.{mem-get}
+use Rattle.sch_model.specs.declared.fault.SchemaError.{SchemaError}
+use Rattle.sch_rules.specs.Keys.{Key}
+use Rattle.sch_read.proofs.ToldLemmas.{Checked, checked-stop, checked-then}
+
+-- with one item more
+pub flat_map-next : {A B : Type 0} (f : A → List B) (xs : List A) (i : ℕ) (x : A) → x ≡ slice_index_or xs i x → i < length xs → flat_map f (take (i + 1) xs) ≡ flat_map f (take i xs) ++ f x
+flat_map-next f xs i x is less =
+    ap (flat_map f) (ap (λ (n : ℕ). take n xs) (add-one i) ∙ take-suc xs i x less)
+    ∙ flat_map-append f (take i xs) (slice_index_or xs i x ∷ [])
+    ∙ ap (λ l. flat_map f (take i xs) ++ l) (append-nil (f (slice_index_or xs i x)) ∙ ap f (sym is))
+
+-- the items before a place, the item there, and those after it
+flat_map-cut : {A B : Type 0} (f : A → List B) (xs : List A) (i : ℕ) (x : A) → x ≡ slice_index_or xs i x → i < length xs → flat_map f xs ≡ (flat_map f (take i xs) ++ f x) ++ flat_map f (drop (suc i) xs)
+flat_map-cut f xs i x is less =
+    ap (flat_map f) (sym (take-append-drop i xs) ∙ ap (λ l. take i xs ++ l) (drop-cons xs i x less))
+    ∙ flat_map-append f (take i xs) (slice_index_or xs i x ∷ drop (suc i) xs)
+    ∙ sym (append_assoc (flat_map f (take i xs)) (f (slice_index_or xs i x)) (flat_map f (drop (suc i) xs)))
+    ∙ ap (λ (y : _). (flat_map f (take i xs) ++ f y) ++ flat_map f (drop (suc i) xs)) (sym is)
+
+pub mem-at : (xs : List ℕ) (i x : ℕ) → x ≡ slice_index_or xs i x → i < length xs → mem x xs ≡ true
+mem-at xs i x is less = subst (λ n. mem n xs ≡ true) (sym is) (mem-get xs i x less)
+
+pub all_taken : {A : Type 0} (xs : List A) (i : ℕ) → length xs ≤ i → i ≤ length xs → take i xs ≡ xs
+all_taken xs i least most = let at : i ≡ length xs = omega arith in rw at (take-length xs)
+
+pub kid-next : (T : Table) (a b c : List Key) (kids : List ℕ) (i kid : ℕ) → kid ≡ slice_index_or kids i kid → i < length kids →
+    Checked T a b (flat_map (below T) (take i kids)) (Ok tt) → Checked T b c (below T kid) (Ok tt) → Checked T a c (flat_map (below T) (take (i + 1) kids)) (Ok tt)
+kid-next T a b c kids i kid is less before here =
+    subst (λ ns. Checked T a c ns (Ok tt)) (sym (flat_map-next (below T) kids i kid is less))
+    (checked-then T a b c (flat_map (below T) (take i kids)) (below T kid) (Ok tt) before here)
+
+pub kid-stop : (T : Table) (a b c : List Key) (kids : List ℕ) (i kid : ℕ) (e : SchemaError) → kid ≡ slice_index_or kids i kid → i < length kids →
+    Checked T a b (flat_map (below T) (take i kids)) (Ok tt) → Checked T b c (below T kid) (Err e) → Checked T a c (flat_map (below T) kids) (Err e)
+kid-stop T a b c kids i kid e is less before here =
+    subst (λ ns. Checked T a c ns (Err e)) (sym (flat_map-cut (below T) kids i kid is less))
+    (checked-stop T a c c (flat_map (below T) (take i kids) ++ below T kid) (flat_map (below T) (drop (suc i) kids)) e
+    (checked-then T a b c (flat_map (below T) (take i kids)) (below T kid) (Err e) before here))

@@ -1,0 +1,11 @@
+pub mod KeyLemmas
+pub mod RuleLemmas
+pub mod ToldLemmas
+pub mod JudgeLemmas
+pub mod KidLemmas
+pub mod PlaceLemmas
+pub mod IdLemmas
+pub mod MessageLemmas
+pub mod WalkLemmas
+pub mod CountLemmas
+pub mod DocumentLemmas
