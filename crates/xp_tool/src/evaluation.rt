@@ -69,6 +69,14 @@ impl<T> Counted<T> {
     }
 }
 
+/// What an evaluation is given beside its expression and its context: the allocator, the tree and the values of the lets.
+#[derive(Clone, Copy)]
+pub(crate) struct Given<'r> {
+    pub(crate) alloc: Global,
+    pub(crate) tree: &'r Tree,
+    pub(crate) lets: &'r Lets,
+}
+
 /// An expression evaluated in a context; what it reads goes to the recorder.
 pub(crate) fn evaluate(
     alloc: Global,
@@ -78,16 +86,15 @@ pub(crate) fn evaluate(
     lets: &Lets,
     reads: &mut Recorder,
 ) -> Counted<Value> {
-    evaluate_counted::<Brand>(alloc, tree, expr, at, lets, reads, Blank::new(1))
+    let given = Given { alloc, tree, lets };
+    evaluate_counted::<Brand>(given, expr, at, reads, Blank::new(1))
 }
 
 /// An expression evaluated in a context, its visits being counted by a ledger.
 fn evaluate_counted<L: Ledger>(
-    alloc: Global,
-    tree: &Tree,
+    given: Given<'_>,
     expr: &Typed,
     at: &Context,
-    lets: &Lets,
     reads: &mut Recorder,
     blank: Blank,
 ) -> Counted<Value>
@@ -96,6 +103,7 @@ fn evaluate_counted<L: Ledger>(
     requires some { 0 < L.parts }
 {
     let mut steps: Steps<L> = Steps::start(blank);
+    let Given { alloc, tree, lets } = given;
     let result = eval(alloc, tree, expr, at, lets, reads, &mut steps);
     Counted::new(result, &steps)
 }

@@ -2,7 +2,7 @@
 
 ghost use Rattle.std.specs.Prelude.{◌≡◌, ◌<◌, true};
 
-use crate::evaluation::{Counted, refuse_long};
+use crate::evaluation::{Counted, Given, refuse_long};
 use crate::fault::Fault;
 use doc_tree::{NodeId, NodeList, Tree};
 use std::alloc::Global;
@@ -33,16 +33,15 @@ pub(crate) fn match_node(
     lets: &Lets,
     reads: &mut Recorder,
 ) -> Counted<bool> {
-    match_counted::<Brand>(alloc, tree, pattern, n, lets, reads, Blank::new(1))
+    let given = Given { alloc, tree, lets };
+    match_counted::<Brand>(given, pattern, n, reads, Blank::new(1))
 }
 
 /// A node matched against a pattern, the visits being counted by a ledger.
 fn match_counted<L: Ledger>(
-    alloc: Global,
-    tree: &Tree,
+    given: Given<'_>,
     pattern: &TypedPattern,
     n: NodeId,
-    lets: &Lets,
     reads: &mut Recorder,
     blank: Blank,
 ) -> Counted<bool>
@@ -51,6 +50,7 @@ fn match_counted<L: Ledger>(
     requires some { 0 < L.parts }
 {
     let mut steps: Steps<L> = Steps::start(blank);
+    let Given { alloc, tree, lets } = given;
     if !tree.contains(n) {
         return Counted::new(Ok(false), &steps);
     }
