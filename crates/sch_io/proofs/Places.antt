@@ -6,7 +6,7 @@ use Rattle.std.specs.Cmp.Lexicographic.{slice_cmp, pointwise, texts_ties}
 use Rattle.std.specs.Prelude.{nat_eq, string_bytes}
 use Rattle.std.specs.Option.{option_map_or}
 use Rattle.std.specs.FinMap.{find}
-use Rattle.sch_io.specs.NamedFiles.{entry_of, content_at}
+use Rattle.sch_io.specs.inner.NamedFiles.{entry_of, content_at}
 use Rattle.sch_io.specs.declared.memory_shelf.NamedFile.{NamedFile}
 
 -- what is found from a place on, by the test of the file there

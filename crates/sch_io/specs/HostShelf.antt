@@ -1,8 +1,11 @@
 -- What a shelf over the host shows.
-use Rattle.std.specs.Prelude.{ℕ}
+use Rattle.std.specs.Prelude.{ℕ, List, Option}
 
--- how many bytes of the open file were read, and the faults and misses so far
-pub record HostCounts : Type 0 where
+-- what is still to be read of the open file, where the host tells it; how many of its bytes were read; the names that
+-- were opened; and the faults and misses so far
+pub record HostState : Type 0 where
+  pub rest : Option (List ℕ)
   pub taken : ℕ
+  pub opened : List (List ℕ)
   pub faults : ℕ
   pub misses : ℕ

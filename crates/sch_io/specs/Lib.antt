@@ -4,6 +4,8 @@ pub mod Files
 pub mod HostShelf
 pub mod MemoryShelf
 pub mod MemorySink
-pub mod NamedFiles
 pub mod Reading
+pub mod ShelfState
+pub mod SinkLog
 pub mod Wrote
+pub mod inner

@@ -6,8 +6,8 @@ ghost use Rattle.sch_io.specs.Calls.{fails_next, made_next};
 use std::alloc::{AllocError, Global};
 use std::marker::Model;
 
-// How many calls were made, and the numbers of those that fail, the first call being 1. Calls after number 2^64 - 1
-// have no number and never fail. To ask costs a look at each number given.
+/// How many calls were made, and the numbers of those that fail, the first call being 1. Calls after number 2^64 - 1
+/// have no number and never fail. To ask costs a look at each number given.
 #[derive(Debug, Drop)]
 pub(crate) struct Calls {
     made: u64,
@@ -23,6 +23,7 @@ impl Model for Calls {
 }
 
 impl Calls {
+    /// No call so far, and none that fails.
     pub(crate) fn new(alloc: Global) -> Calls
         ensures { result ≡ record { made = 0; failing = [] } }
     {
@@ -32,7 +33,7 @@ impl Calls {
         }
     }
 
-    // Lets the call of that number fail.
+    /// Lets the call of that number fail.
     pub(crate) fn fail_at(&mut self, call: u64) -> Result<(), AllocError>
         ensures planned { OnOk result (self.new ≡ record self.old { failing = self.old.failing ++ call ∷ [] }) }
         ensures unchanged { OnErr result (self.new ≡ self.old) }
@@ -41,7 +42,7 @@ impl Calls {
         Ok(())
     }
 
-    // Counts one more call and answers whether it fails.
+    /// Counts one more call and answers whether it fails.
     pub(crate) fn next(&mut self) -> bool
         ensures fails { result ≡ fails_next self.old }
         ensures counted { self.new ≡ made_next self.old }

@@ -1,9 +1,12 @@
 //! A shelf over the files and the standard input of the host.
 
-ghost use Rattle.std.specs.Prelude.{◌≡◌, None};
+ghost use Rattle.std.specs.Prelude.{◌≡◌, [], None, Some};
 ghost use Rattle.std.specs.Io.{ReadsAtMost};
+ghost use Rattle.std.specs.Io.KnownBytes.{ReadConsumes};
+ghost use Rattle.sch_io.specs.inner.Sources.{rest_of_source};
 
 use crate::error::{Failed, OpenError};
+use crate::opened_names::OpenedNames;
 use crate::shelf::Shelf;
 use std::io::{ErrorKind, Input, Read};
 use std::marker::Model;
@@ -13,42 +16,47 @@ use std::{fs, io};
 /// The name under which standard input is opened.
 pub const STANDARD_INPUT: &str = ":in";
 
+/// What is open.
 #[derive(Drop)]
-enum Source<R: Files + Input> {
+enum Source<F, I> {
     Nothing,
-    File(R::File),
-    StandardInput(R::Reader),
+    File(F),
+    StandardInput(I),
 }
 
 /// A shelf that opens the files of the host by their paths, and standard input under the name `:in`.
 ///
-/// It tells nothing of the files, and counts each failure of the host, whatever its cause: as a miss where the host
-/// answers that there is no such file, and else as a fault.
+/// It tells no files, and of the open one what is left to read only where the host tells it. It counts each failure of
+/// the host, whatever its cause: as a miss where the host answers that there is no such file, and else as a fault.
 #[derive(Drop)]
 pub struct HostShelf<'a, R: Files + Input> {
     rt: &'a R,
-    source: Source<R>,
+    source: Source<R::File, R::Reader>,
+    opened: OpenedNames,
     taken: u64,
     faults: u64,
     misses: u64,
 }
 
 impl<'a, R: Files + Input> Model for HostShelf<'a, R> {
-    ghost use Rattle.sch_io.specs.HostShelf.{HostCounts};
+    ghost use Rattle.sch_io.specs.HostShelf.{HostState};
 
-    ghost Value = { HostCounts };
+    ghost Value = { HostState };
 
-    ghost view = { λ s. record { taken = s.taken; faults = s.faults; misses = s.misses } };
+    ghost use Rattle.sch_io.specs.inner.Sources.{rest_of_source};
+
+    ghost view = { λ s. record { rest = rest_of_source R.File.remaining R.Reader.remaining s.source; taken = s.taken; opened = s.opened.names; faults = s.faults; misses = s.misses } };
 }
 
 impl<'a, R: Files + Input> HostShelf<'a, R> {
-    /// A shelf over the host, with no file open, no fault and no miss so far.
+    /// A shelf over the host, with nothing open, no name opened, no fault and no miss so far.
     pub fn new(rt: &'a R) -> HostShelf<'a, R>
-        ensures { result ≡ record { taken = 0; faults = 0; misses = 0 } }
+        ensures { result ≡ record { rest = Some []; taken = 0; opened = []; faults = 0; misses = 0 } }
     {
         HostShelf {
             rt,
             source: Source::Nothing,
+            opened: OpenedNames::new(),
             taken: 0,
             faults: 0,
             misses: 0,
@@ -57,17 +65,10 @@ impl<'a, R: Files + Input> HostShelf<'a, R> {
 }
 
 impl<'a, R: Files + Input> Shelf for HostShelf<'a, R> {
-    ghost files = { λ _. None };
-
-    ghost rest = { λ _. None };
-
-    ghost taken = { λ s. s.taken };
-
-    ghost faults = { λ s. s.faults };
-
-    ghost misses = { λ s. s.misses };
+    ghost state = { λ s. record { files = None; rest = s.rest; taken = s.taken; opened = s.opened; faults = s.faults; misses = s.misses } };
 
     fn open(&mut self, name: &str) -> Result<(), OpenError> {
+        self.opened.push(name.as_bytes());
         self.taken = 0;
         self.source = Source::Nothing;
         if name == STANDARD_INPUT {
@@ -105,9 +106,11 @@ impl<'a, R: Files + Input> Shelf for HostShelf<'a, R> {
     }
 }
 
-// Reads from what is open; nothing is at its end.
-fn read_source<R: Files + Input>(source: &mut Source<R>, buf: &mut [u8]) -> io::Result<usize>
-    ensures { ReadsAtMost result buf.new }
+/// Reads from what is open; nothing is at its end.
+fn read_source<F: Read, I: Read>(source: &mut Source<F, I>, buf: &mut [u8]) -> io::Result<usize>
+    ensures bound { ReadsAtMost result buf.new }
+    ensures bytes { ReadConsumes (rest_of_source F.remaining I.remaining source.old)
+        (rest_of_source F.remaining I.remaining source.new) result buf.new }
 {
     match source {
         Source::Nothing => Ok(0),

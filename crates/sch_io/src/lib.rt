@@ -9,6 +9,7 @@ mod host_shelf;
 mod host_sink;
 mod memory_shelf;
 mod memory_sink;
+mod opened_names;
 mod reading;
 mod shelf;
 mod sink;

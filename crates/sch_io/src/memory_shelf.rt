@@ -6,24 +6,26 @@ ghost use Rattle.std.specs.Ordering.{nat_cmp};
 ghost use Rattle.std.specs.Cmp.Lexicographic.{slice_cmp};
 ghost use Rattle.std.specs.Io.{ReadsAtMost};
 ghost use Rattle.std.specs.Io.KnownBytes.{ReadConsumes};
-ghost use Rattle.sch_io.specs.Counts.{Rose, CountsTaken};
+ghost use Rattle.sch_io.specs.Counts.{CountsTaken, faults_after, faults_of_open, misses_of_open};
 ghost use Rattle.sch_io.specs.Files.{Opens};
 ghost use Rattle.sch_io.specs.Calls.{fails_next, made_next};
-ghost use Rattle.sch_io.specs.NamedFiles.{entry_of, content_at};
+ghost use Rattle.sch_io.specs.inner.NamedFiles.{entry_of, content_at};
 
 use crate::calls::Calls;
 use crate::error::{Failed, OpenError};
+use crate::opened_names::OpenedNames;
 use crate::shelf::Shelf;
 use std::alloc::{AllocError, Global};
 use std::marker::Model;
 
+/// A file and its name.
 #[derive(Debug, Drop)]
 struct NamedFile {
     name: String,
     content: Vec<u8>,
 }
 
-// The place of the open file and how many of its bytes were read.
+/// The place of the open file and how many of its bytes were read.
 #[derive(Clone, Copy, Debug)]
 struct OpenFile {
     place: usize,
@@ -32,13 +34,14 @@ struct OpenFile {
 
 /// A shelf in memory, of whose calls of `open` and `read` chosen ones fail.
 ///
-/// It keeps the files newest first, and an old content of a name behind the new one, so that `open` looks through
+/// It keeps the files newest first, and an old content of a name after the new one, so that `open` looks through
 /// all that were put.
 #[derive(Debug, Drop)]
 pub struct MemoryShelf {
     alloc: Global,
     files: Vec<NamedFile>,
     open_file: Option<OpenFile>,
+    opened: OpenedNames,
     calls: Calls,
     faults: u64,
     misses: u64,
@@ -51,9 +54,9 @@ impl Model for MemoryShelf {
 
     ghost coded = { shelved_code };
 
-    ghost use Rattle.sch_io.specs.NamedFiles.{files_of, rest_of, taken_of, IsWithin};
+    ghost use Rattle.sch_io.specs.inner.NamedFiles.{files_of, rest_of, taken_of, IsWithin};
 
-    ghost view = { λ s. record { files = files_of s.files.items; rest = rest_of s.files.items s.open_file; taken = taken_of s.open_file; calls = s.calls; faults = s.faults; misses = s.misses } };
+    ghost view = { λ s. record { files = files_of s.files.items; rest = rest_of s.files.items s.open_file; taken = taken_of s.open_file; opened = s.opened.names; calls = s.calls; faults = s.faults; misses = s.misses } };
 
     ghost invariant = { λ s. IsWithin s.files.items s.open_file };
 }
@@ -61,12 +64,13 @@ impl Model for MemoryShelf {
 impl MemoryShelf {
     /// A shelf without files.
     pub fn new(alloc: Global) -> MemoryShelf
-        ensures { result ≡ record { files = maps.empty; rest = []; taken = 0; calls = record { made = 0; failing = [] }; faults = 0; misses = 0 } }
+        ensures { result ≡ record { files = maps.empty; rest = []; taken = 0; opened = []; calls = record { made = 0; failing = [] }; faults = 0; misses = 0 } }
     {
         MemoryShelf {
             alloc,
             files: Vec::new(alloc),
             open_file: None,
+            opened: OpenedNames::new(),
             calls: Calls::new(alloc),
             faults: 0,
             misses: 0,
@@ -95,30 +99,20 @@ impl MemoryShelf {
 }
 
 impl Shelf for MemoryShelf {
-    ghost files = { λ s. Some s.files };
-
-    ghost rest = { λ s. Some s.rest };
-
-    ghost taken = { λ s. s.taken };
-
-    ghost faults = { λ s. s.faults };
-
-    ghost misses = { λ s. s.misses };
+    ghost state = { λ s. record { files = Some s.files; rest = Some s.rest; taken = s.taken; opened = s.opened; faults = s.faults; misses = s.misses } };
 
     /// Fails exactly at the calls given to `fail_at`.
     fn open(&mut self, name: &str) -> Result<(), OpenError>
         ensures opened { Opens (Some self.new.files) (Some self.new.rest) name.now result }
         ensures fresh { self.new.taken ≡ 0 }
         ensures held { self.new.files ≡ self.old.files }
-        ensures missing { IsErrOf result OpenError.Missing → Rose self.old.misses self.new.misses }
-        ensures failed { IsErrOf result OpenError.Failed → Rose self.old.faults self.new.faults }
-        ensures faults_later { self.old.faults ≤ self.new.faults }
-        ensures misses_later { self.old.misses ≤ self.new.misses }
+        ensures noted { self.new.opened ≡ self.old.opened ++ name.now ∷ [] }
+        ensures faults { self.new.faults ≡ faults_of_open result self.old.faults }
+        ensures misses { self.new.misses ≡ misses_of_open result self.old.misses }
         ensures chosen { IsErrOf result OpenError.Failed ↔ IsTrue (fails_next self.old.calls) }
-        ensures no_fault { OnOk result (self.new.faults ≡ self.old.faults) }
-        ensures no_miss { OnOk result (self.new.misses ≡ self.old.misses) }
         ensures counted { self.new.calls ≡ made_next self.old.calls }
     {
+        self.opened.push(name.as_bytes());
         self.open_file = None;
         if self.calls.next() {
             self.faults = self.faults.saturating_add(1);
@@ -143,13 +137,11 @@ impl Shelf for MemoryShelf {
         ensures bytes { ReadConsumes (Some self.old.rest) (Some self.new.rest) result buf.new }
         ensures taken { CountsTaken self.old.taken self.new.taken result }
         ensures held { self.new.files ≡ self.old.files }
-        ensures failed { OnErr result (Rose self.old.faults self.new.faults) }
-        ensures faults_later { self.old.faults ≤ self.new.faults }
-        ensures misses_later { self.old.misses ≤ self.new.misses }
+        ensures noted { self.new.opened ≡ self.old.opened }
+        ensures faults { self.new.faults ≡ faults_after result self.old.faults }
+        ensures misses { self.new.misses ≡ self.old.misses }
         ensures chosen { is_err result ≡ fails_next self.old.calls }
         ensures fills { IfOk result (λ n. n ≡ min (length self.old.rest) (length buf.old)) }
-        ensures no_fault { OnOk result (self.new.faults ≡ self.old.faults) }
-        ensures no_miss { self.new.misses ≡ self.old.misses }
         ensures counted { self.new.calls ≡ made_next self.old.calls }
     {
         if self.calls.next() {
@@ -171,7 +163,7 @@ impl Shelf for MemoryShelf {
     }
 }
 
-// The place of the first file of that name.
+/// The place of the first file of that name.
 fn place_of(files: &[NamedFile], name: &str) -> Option<usize>
     ensures { MatchOption result
         (maps.find (slice_cmp nat_cmp) name.now (map entry_of files.now) ≡ None)
@@ -185,7 +177,7 @@ fn place_of(files: &[NamedFile], name: &str) -> Option<usize>
     None
 }
 
-// Copies the front of `rest` that fits into `buf`, and answers its length.
+/// Copies the front of `rest` that fits into `buf`, and answers its length.
 fn copy_front(rest: &[u8], buf: &mut [u8]) -> usize
     ensures fits { result ≡ min (length rest.now) (length buf.old) }
     ensures copied { take result buf.new ≡ take result rest.now }

@@ -1,9 +1,9 @@
 //! A sink that keeps its bytes in memory.
 
-ghost use Rattle.std.specs.Prelude.{◌≡◌, ◌-◌, ◌<◌, ◌≤◌, [], ◌∷◌, ◌++◌, length, min, Some, OnOk, OnErr, IfOk, is_err};
+ghost use Rattle.std.specs.Prelude.{◌≡◌, ◌-◌, ◌<◌, [], ◌∷◌, ◌++◌, length, min, Some, OnOk, OnErr, IfOk, is_err};
 ghost use Rattle.std.specs.Io.{WritesAtMost};
 ghost use Rattle.std.specs.Io.KnownBytes.{WriteAppends};
-ghost use Rattle.sch_io.specs.Counts.{Rose};
+ghost use Rattle.sch_io.specs.Counts.{one_more};
 ghost use Rattle.sch_io.specs.Calls.{fails_next, made_next};
 
 use crate::calls::Calls;
@@ -63,20 +63,18 @@ impl MemorySink {
 }
 
 impl Sink for MemorySink {
-    ghost written = { λ s. Some s.written };
-
-    ghost faults = { λ s. s.faults };
+    ghost log = { λ s. record { written = Some s.written; faults = s.faults } };
 
     /// Fails exactly at the calls given to `fail_at`; otherwise takes what still fits in the room.
     fn write(&mut self, piece: &[u8]) -> Result<usize, Failed>
         ensures bound { WritesAtMost result piece.now }
         ensures appended { WriteAppends (Some self.old.written) (Some self.new.written) result piece.now }
-        ensures failed { OnErr result (Rose self.old.faults self.new.faults) }
-        ensures stuck { IfOk result (λ n. n ≡ 0 → 0 < length piece.now → Rose self.old.faults self.new.faults) }
-        ensures faults_later { self.old.faults ≤ self.new.faults }
+        ensures failed { OnErr result (self.new.faults ≡ one_more self.old.faults) }
+        ensures stuck { IfOk result (λ n. n ≡ 0 → 0 < length piece.now → self.new.faults ≡ one_more self.old.faults) }
+        ensures moved { IfOk result (λ n. 0 < n → self.new.faults ≡ self.old.faults) }
+        ensures nothing { OnOk result (length piece.now ≡ 0 → self.new.faults ≡ self.old.faults) }
         ensures chosen { is_err result ≡ fails_next self.old.calls }
         ensures fits { IfOk result (λ n. n ≡ min (length piece.now) (self.old.room - length self.old.written)) }
-        ensures no_fault { IfOk result (λ n. 0 < n → self.new.faults ≡ self.old.faults) }
         ensures same_room { self.new.room ≡ self.old.room }
         ensures counted { self.new.calls ≡ made_next self.old.calls }
     {

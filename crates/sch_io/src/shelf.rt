@@ -1,10 +1,11 @@
 //! Shelves: where files are read from.
 
-ghost use Rattle.std.specs.Prelude.{◌≡◌, ℕ, ◌<◌, ◌≤◌, List, Option, length, OnErr, IsErrOf};
+ghost use Rattle.std.specs.Prelude.{◌≡◌, ◌<◌, ◌∷◌, [], ◌++◌, length};
 ghost use Rattle.std.specs.Io.{ReadsAtMost};
 ghost use Rattle.std.specs.Io.KnownBytes.{ReadConsumes};
-ghost use Rattle.sch_io.specs.Counts.{Rose, CountsTaken};
-ghost use Rattle.sch_io.specs.Files.{Files, Opens};
+ghost use Rattle.sch_io.specs.Counts.{CountsTaken, faults_after, faults_of_open, misses_of_open};
+ghost use Rattle.sch_io.specs.Files.{Opens};
+ghost use Rattle.sch_io.specs.ShelfState.{ShelfState};
 
 use crate::error::{Failed, OpenError};
 
@@ -12,38 +13,26 @@ use crate::error::{Failed, OpenError};
 ///
 /// Before the first `open`, and after an `open` that answered an error, there is nothing to read.
 pub trait Shelf {
-    // the files that the shelf holds, where it tells them
-    ghost files: { Self → Option Files };
-
-    // what is still to be read of the open file, where the shelf tells it
-    ghost rest: { Self → Option (List ℕ) };
-
-    // how many bytes were read since the last `open`, up to the last value of a u64
-    ghost taken: { Self → ℕ };
-
-    // how often the host failed, and how often a name wasn't held
-    ghost faults: { Self → ℕ };
-
-    ghost misses: { Self → ℕ };
+    // the files, the open one, the names opened, and the counts of faults and misses
+    ghost state: { Self → ShelfState };
 
     /// Makes the named file the open one, to be read from its start.
     fn open(&mut self, name: &str) -> Result<(), OpenError>
-        ensures opened { Opens (files self.new) (rest self.new) name.now result }
-        ensures fresh { taken self.new ≡ 0 }
-        ensures held { files self.new ≡ files self.old }
-        ensures missing { IsErrOf result OpenError.Missing → Rose (misses self.old) (misses self.new) }
-        ensures failed { IsErrOf result OpenError.Failed → Rose (faults self.old) (faults self.new) }
-        ensures faults_later { faults self.old ≤ faults self.new }
-        ensures misses_later { misses self.old ≤ misses self.new };
+        ensures opened { Opens (state self.new).files (state self.new).rest name.now result }
+        ensures fresh { (state self.new).taken ≡ 0 }
+        ensures held { (state self.new).files ≡ (state self.old).files }
+        ensures noted { (state self.new).opened ≡ (state self.old).opened ++ name.now ∷ [] }
+        ensures faults { (state self.new).faults ≡ faults_of_open result (state self.old).faults }
+        ensures misses { (state self.new).misses ≡ misses_of_open result (state self.old).misses };
 
     /// Moves the next bytes of the open file into the front of `buf` and answers how many, 0 at the end alone.
     fn read(&mut self, buf: &mut [u8]) -> Result<usize, Failed>
         requires { 0 < length buf.old }
         ensures bound { ReadsAtMost result buf.new }
-        ensures bytes { ReadConsumes (rest self.old) (rest self.new) result buf.new }
-        ensures counted { CountsTaken (taken self.old) (taken self.new) result }
-        ensures held { files self.new ≡ files self.old }
-        ensures failed { OnErr result (Rose (faults self.old) (faults self.new)) }
-        ensures faults_later { faults self.old ≤ faults self.new }
-        ensures misses_later { misses self.old ≤ misses self.new };
+        ensures bytes { ReadConsumes (state self.old).rest (state self.new).rest result buf.new }
+        ensures counted { CountsTaken (state self.old).taken (state self.new).taken result }
+        ensures held { (state self.new).files ≡ (state self.old).files }
+        ensures noted { (state self.new).opened ≡ (state self.old).opened }
+        ensures faults { (state self.new).faults ≡ faults_after result (state self.old).faults }
+        ensures misses { (state self.new).misses ≡ (state self.old).misses };
 }

@@ -7,7 +7,7 @@ use crate::sink::Sink;
 
 /// Appends all of `piece`; after a failure a front of it was written.
 pub fn write_all<O: Sink>(sink: &mut O, piece: &[u8]) -> Result<(), Failed>
-    ensures { Wrote (O.written sink.old) (O.written sink.new) (O.faults sink.old) (O.faults sink.new) piece.now result }
+    ensures { Wrote (O.log sink.old) (O.log sink.new) piece.now result }
 {
     let mut done = 0;
     while done < piece.len() {
@@ -22,7 +22,7 @@ pub fn write_all<O: Sink>(sink: &mut O, piece: &[u8]) -> Result<(), Failed>
 
 /// Appends the texts one after another, as `write_all` does of each.
 pub fn write_pieces<O: Sink>(sink: &mut O, pieces: &[&str]) -> Result<(), Failed>
-    ensures { Wrote (O.written sink.old) (O.written sink.new) (O.faults sink.old) (O.faults sink.new) (joined pieces.now) result }
+    ensures { Wrote (O.log sink.old) (O.log sink.new) (joined pieces.now) result }
 {
     for piece in pieces {
         write_all(sink, piece.as_bytes())?;

@@ -5,5 +5,4 @@ use Rattle.sch_io.proofs.writing.write_pieces.Given as goal
 
 abbrev pub invariant-loop-piece : goal.invariant-loop-piece
 invariant-loop-piece g l =
-    Wrote {T = Unit {0}} {E = Failed} (g.O.Sink.written l.initial.sink) (g.O.Sink.written l.sink)
-    (g.O.Sink.faults l.initial.sink) (g.O.Sink.faults l.sink) (joined (take l.piece-index l.pieces)) (Ok tt)
+    Wrote {T = Unit {0}} {E = Failed} (g.O.Sink.log l.initial.sink) (g.O.Sink.log l.sink) (joined (take l.piece-index l.pieces)) (Ok tt)
