@@ -9,14 +9,12 @@ use Rattle.std.proofs.KnownBytes.{Appends-trans, Appends-nil}
 use Rattle.std.proofs.Math.Seq.{split_at, take-suc}
 use Rattle.std.proofs.lemmas.Grind.{flat_map-append}
 use Rattle.std.proofs.lemmas.List.{get_or_default}
-use Rattle.sch_io.specs.Counts.{Rose, one_more}
+use Rattle.sch_io.specs.Counts.{Rose, faults_after}
 use Rattle.sch_io.specs.SinkLog.{SinkLog}
 use Rattle.sch_io.specs.Wrote.{Appends, Wrote}
+use Rattle.sch_io.proofs.Counting.{le-one_more, rose-one_more}
 
--- what a call did to the count of faults, and what it appended
-abbrev Counted : {T E : Type 0} → ℕ → ℕ → Result T E → Type 0
-Counted f g r = MatchResult r (λ _. g ≡ f) (λ _. g ≡ one_more f)
-
+-- what a call appended
 abbrev Grown : {T E : Type 0} → Option (List ℕ) → Option (List ℕ) → List ℕ → Result T E → Type 0
 Grown a b text r = MatchResult r (λ _. Appends a b text) (λ _. (done left : List ℕ) × (text ≡ done ++ left) × Appends a b done)
 
@@ -28,20 +26,16 @@ wrote_nothing {a = a} x = record { counted = refl; grown = Appends-nil a.written
 pub wrote_later : {T E : Type 0} {a b : SinkLog} {text : List ℕ} {r : Result T E} → Wrote a b text r → a.faults ≤ b.faults
 wrote_later {T = T} {E = E} {a = a} {b = b} {r = r} wrote = by r wrote.counted
   where
-    by : (r : Result T E) → Counted a.faults b.faults r → a.faults ≤ b.faults
+    by : (r : Result T E) → b.faults ≡ faults_after r a.faults → a.faults ≤ b.faults
     by (Ok x) same = omega (arith, same)
-    by (Err e) more = omega (arith, more)
+    by (Err e) more = omega (arith, more, le-one_more a.faults)
 
 pub wrote_rose : {T E : Type 0} {a b : SinkLog} {text : List ℕ} {r : Result T E} → Wrote a b text r → OnErr r (Rose a.faults b.faults)
 wrote_rose {T = T} {E = E} {a = a} {b = b} {r = r} wrote = by r wrote.counted
   where
-    by : (r : Result T E) → Counted a.faults b.faults r → OnErr r (Rose a.faults b.faults)
+    by : (r : Result T E) → b.faults ≡ faults_after r a.faults → OnErr r (Rose a.faults b.faults)
     by (Ok x) same = tt
-    by (Err e) more = omega (arith, more)
-
-counted_then : {T E : Type 0} (f g h : ℕ) (r : Result T E) → g ≡ f → Counted g h r → Counted f h r
-counted_then f g h (Ok x) same p = p ∙ same
-counted_then f g h (Err e) same p = p ∙ ap one_more same
+    by (Err e) more = omega (arith, more, rose-one_more a.faults)
 
 grown_then : {T E : Type 0} (a b c : Option (List ℕ)) (front rest : List ℕ) (r : Result T E) → Appends a b front → Grown b c rest r → Grown a c (front ++ rest) r
 grown_then a b c front rest (Ok x) p q = Appends-trans a b c front rest p q
@@ -52,11 +46,11 @@ grown_then a b c front rest (Err e) p q =
 pub wrote_then : {T E T' E' : Type 0} {a b c : SinkLog} {front rest : List ℕ} {x : T} {r : Result T' E'} →
     Wrote {E = E} a b front (Ok x) → Wrote b c rest r → Wrote a c (front ++ rest) r
 wrote_then {a = a} {b = b} {c = c} {front = front} {rest = rest} {r = r} first next = record {
-  counted = counted_then a.faults b.faults c.faults r first.counted next.counted;
+  counted = next.counted ∙ ap (faults_after r) first.counted;
   grown = grown_then a.written b.written c.written front rest r first.grown next.grown;
 }
 
-counted_still : {T E T' E' : Type 0} (f g : ℕ) (call : Result T E) (r : Result T' E') → IsErr call → IsErr r → Counted f g call → Counted f g r
+counted_still : {T E T' E' : Type 0} (f g : ℕ) (call : Result T E) (r : Result T' E') → IsErr call → IsErr r → g ≡ faults_after call f → g ≡ faults_after r f
 counted_still f g (Ok x) r failed is p = absurd (cc)
 counted_still f g (Err e) (Ok x) failed is p = absurd (cc)
 counted_still f g (Err e) (Err d) failed is p = p

@@ -1,13 +1,12 @@
 -- Counts of failures and of bytes, as a u64 carries them.
 use Rattle.std.specs.Prelude.{◌≡◌, ℕ, ◌+◌, ◌-◌, ◌^◌, ◌≤◌, max, min, Result, Ok, Err, MatchResult}
-use Rattle.sch_io.specs.declared.error.Failed.{Failed as HostFailed}
 use Rattle.sch_io.specs.declared.error.OpenError.{OpenError}
 use Rattle.sch_io.specs.declared.error.OpenError.TheVariants.{Missing as NotHeld, Failed as NotOpened}
 use Rattle.sch_io.specs.declared.error.ReadError.{ReadError}
 use Rattle.sch_io.specs.declared.error.ReadError.TheVariants.{Missing, Failed, TooLarge, Memory}
 
 -- one more, as far as a u64 counts: a count that rises stands still at the last value and never falls
-abbrev pub one_more : ℕ → ℕ
+unfoldable pub one_more : ℕ → ℕ
 one_more before = max before (min (before + 1) (2 ^ 64 - 1))
 
 -- the count is greater now, or stands at the last value of a u64
@@ -15,7 +14,7 @@ abbrev pub Rose : ℕ → ℕ → Type 0
 Rose before now = min (before + 1) (2 ^ 64 - 1) ≤ now
 
 -- a call that failed adds one to the faults, and a good one none
-abbrev pub faults_after : {T : Type 0} → Result T HostFailed → ℕ → ℕ
+abbrev pub faults_after : {T E : Type 0} → Result T E → ℕ → ℕ
 faults_after (Ok done) before = before
 faults_after (Err failed) before = one_more before
 

@@ -67,6 +67,7 @@ impl<'a, R: Files + Input> HostShelf<'a, R> {
 impl<'a, R: Files + Input> Shelf for HostShelf<'a, R> {
     ghost state = { λ s. record { files = None; rest = s.rest; taken = s.taken; opened = s.opened; faults = s.faults; misses = s.misses } };
 
+    #[tactic(auto, unfolding(crate::specs::Counts::one_more))]
     fn open(&mut self, name: &str) -> Result<(), OpenError> {
         self.opened.push(name.as_bytes());
         self.taken = 0;
@@ -92,6 +93,7 @@ impl<'a, R: Files + Input> Shelf for HostShelf<'a, R> {
         }
     }
 
+    #[tactic(auto, unfolding(crate::specs::Counts::one_more))]
     fn read(&mut self, buf: &mut [u8]) -> Result<usize, Failed> {
         match read_source(&mut self.source, buf) {
             Ok(n) => {

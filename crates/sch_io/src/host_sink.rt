@@ -37,6 +37,7 @@ impl<W: Write> HostSink<W> {
 impl<W: Write> Sink for HostSink<W> {
     ghost log = { λ s. s };
 
+    #[tactic(auto, unfolding(crate::specs::Counts::one_more))]
     fn write(&mut self, piece: &[u8]) -> Result<usize, Failed> {
         match self.writer.write(piece) {
             Ok(n) => {

@@ -102,6 +102,7 @@ impl Shelf for MemoryShelf {
     ghost state = { λ s. record { files = Some s.files; rest = Some s.rest; taken = s.taken; opened = s.opened; faults = s.faults; misses = s.misses } };
 
     /// Fails exactly at the calls given to `fail_at`.
+    #[tactic(auto, unfolding(crate::specs::Counts::one_more))]
     fn open(&mut self, name: &str) -> Result<(), OpenError>
         ensures opened { Opens (Some self.new.files) (Some self.new.rest) name.now result }
         ensures fresh { self.new.taken ≡ 0 }
@@ -131,6 +132,7 @@ impl Shelf for MemoryShelf {
     }
 
     /// Fails exactly at the calls given to `fail_at`; otherwise gives what is left, as far as `buf` goes.
+    #[tactic(auto, unfolding(crate::specs::Counts::one_more))]
     fn read(&mut self, buf: &mut [u8]) -> Result<usize, Failed>
         requires { 0 < length buf.old }
         ensures bound { ReadsAtMost result buf.new }

@@ -66,6 +66,7 @@ impl Sink for MemorySink {
     ghost log = { λ s. record { written = Some s.written; faults = s.faults } };
 
     /// Fails exactly at the calls given to `fail_at`; otherwise takes what still fits in the room.
+    #[tactic(auto, unfolding(crate::specs::Counts::one_more))]
     fn write(&mut self, piece: &[u8]) -> Result<usize, Failed>
         ensures bound { WritesAtMost result piece.now }
         ensures appended { WriteAppends (Some self.old.written) (Some self.new.written) result piece.now }
