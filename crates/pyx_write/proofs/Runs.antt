@@ -1,7 +1,9 @@
 -- Writing a text run by run, each as far as the next byte that is escaped.
-use Rattle.std.proofs.Common.{◌≡◌, ℕ, suc, ◌+◌, ◌-◌, ◌<◌, ◌≤◌, List, [], ◌∷◌, ◌++◌, length, get_or, take, drop, Option, Result, Ok, Err, IsErr, refl, sym, ap, ◌∙◌, subst, arith, add-one, append_assoc, append-nil, length-drop, take-append-drop, get_or-drop}
+use Rattle.std.proofs.Common.{◌≡◌, ℕ, suc, ◌+◌, ◌-◌, ◌<◌, ◌≤◌, List, [], ◌∷◌, ◌++◌, length, get_or, take, drop, Result, Ok, Err, IsErr, refl, sym, ap, ◌∙◌, subst, arith, add-one, append_assoc, append-nil, length-drop, take-append-drop, get_or-drop}
 use Rattle.std.proofs.Math.Seq.{take-suc, take-length}
-use Rattle.sch_io.specs.Wrote.{Wrote, wrote_then, wrote_stopped}
+use Rattle.sch_io.specs.SinkLog.{SinkLog}
+use Rattle.sch_io.specs.Wrote.{Wrote}
+use Rattle.sch_io.proofs.Writes.{wrote_then, wrote_stopped}
 use Rattle.pyx_core.specs.Escapes.{escape_of, escaped}
 
 pub escaped-append : (xs ys : List ℕ) → escaped (xs ++ ys) ≡ escaped xs ++ escaped ys
@@ -43,41 +45,41 @@ plain_none bytes at =
     let none : at - at ≡ 0 = omega arith in
     sym (ap (λ n. escaped (take at bytes) ++ take n (drop at bytes)) none ∙ append-nil (escaped (take at bytes)))
 
-module _ {T E : Type 0} {a b c : Option (List ℕ)} {f g h : ℕ} where
+module _ {T E : Type 0} {a b c : SinkLog} where
   -- the run was written
   pub run_written : {x y z : T} (bytes : List ℕ) (start at : ℕ) → IsPlainRun bytes start at →
-      Wrote {E = E} a b f g (escaped (take start bytes)) (Ok x) → Wrote {E = E} b c g h (between bytes start at) (Ok y) → Wrote {E = E} a c f h (escaped (take at bytes)) (Ok z)
+      Wrote {E = E} a b (escaped (take start bytes)) (Ok x) → Wrote {E = E} b c (between bytes start at) (Ok y) → Wrote {E = E} a c (escaped (take at bytes)) (Ok z)
   run_written {z = z} bytes start at run first next =
-      subst (λ l. Wrote {E = E} a c f h l (Ok z)) (sym run) (let both = wrote_then first next in record { later = both.later; failed = tt; grown = both.grown })
+      subst (λ l. Wrote {E = E} a c l (Ok z)) (sym run) (let both = wrote_then first next in record { counted = both.counted; grown = both.grown })
 
   -- the run was not written whole
   pub run_stopped : {x : T} {e' : E} {r : Result T E} (bytes : List ℕ) (start at : ℕ) → IsPlainRun bytes start at →
-      Wrote {E = E} a b f g (escaped (take start bytes)) (Ok x) → Wrote {T = T} b c g h (between bytes start at) (Err e') → IsErr r → Wrote a c f h (escaped bytes) r
+      Wrote {E = E} a b (escaped (take start bytes)) (Ok x) → Wrote {T = T} b c (between bytes start at) (Err e') → IsErr r → Wrote a c (escaped bytes) r
   run_stopped {r = r} bytes start at run first next is =
-      subst (λ l. Wrote a c f h l r)
+      subst (λ l. Wrote a c l r)
       (ap (λ l. l ++ escaped (drop at bytes)) (sym run) ∙ sym (escaped-append (take at bytes) (drop at bytes)) ∙ ap escaped (take-append-drop at bytes))
       (wrote_stopped (escaped (drop at bytes)) (wrote_then first next) refl is)
 
   -- the escape was written
   pub escape_written : {x y z : T} (bytes : List ℕ) (at : ℕ) {text : List ℕ} → at < length bytes → text ≡ escape_of (get_or bytes at 0) →
-      Wrote {E = E} a b f g (escaped (take at bytes)) (Ok x) → Wrote {E = E} b c g h text (Ok y) → Wrote {E = E} a c f h (escaped (take (at + 1) bytes)) (Ok z)
+      Wrote {E = E} a b (escaped (take at bytes)) (Ok x) → Wrote {E = E} b c text (Ok y) → Wrote {E = E} a c (escaped (take (at + 1) bytes)) (Ok z)
   escape_written {z = z} bytes at less is first next =
-      subst (λ l. Wrote {E = E} a c f h l (Ok z)) (ap (λ l. escaped (take at bytes) ++ l) is ∙ sym (escaped_more bytes at less))
-      (let both = wrote_then first next in record { later = both.later; failed = tt; grown = both.grown })
+      subst (λ l. Wrote {E = E} a c l (Ok z)) (ap (λ l. escaped (take at bytes) ++ l) is ∙ sym (escaped_more bytes at less))
+      (let both = wrote_then first next in record { counted = both.counted; grown = both.grown })
 
   -- the escape was not written whole
   pub escape_stopped : {x : T} {e' : E} {r : Result T E} (bytes : List ℕ) (at : ℕ) {text : List ℕ} → at < length bytes → text ≡ escape_of (get_or bytes at 0) →
-      Wrote {E = E} a b f g (escaped (take at bytes)) (Ok x) → Wrote {T = T} b c g h text (Err e') → IsErr r → Wrote a c f h (escaped bytes) r
+      Wrote {E = E} a b (escaped (take at bytes)) (Ok x) → Wrote {T = T} b c text (Err e') → IsErr r → Wrote a c (escaped bytes) r
   escape_stopped {r = r} bytes at less is first next err =
-      subst (λ l. Wrote a c f h l r)
+      subst (λ l. Wrote a c l r)
       (ap (λ l. l ++ escaped (drop (at + 1) bytes)) (ap (λ l. escaped (take at bytes) ++ l) is ∙ sym (escaped_more bytes at less))
       ∙ sym (escaped-append (take (at + 1) bytes) (drop (at + 1) bytes)) ∙ ap escaped (take-append-drop (at + 1) bytes))
       (wrote_stopped (escaped (drop (at + 1) bytes)) (wrote_then first next) refl err)
 
 -- the last run, however it ended
-pub last_run : {T E : Type 0} {a b c : Option (List ℕ)} {f g h : ℕ} {x : T} {r : Result T E} (bytes : List ℕ) (start at : ℕ) → length bytes ≡ at → IsPlainRun bytes start at →
-    Wrote {E = E} a b f g (escaped (take start bytes)) (Ok x) → Wrote b c g h (between bytes start (length bytes)) r → Wrote a c f h (escaped bytes) r
-last_run {a = a} {c = c} {f = f} {h = h} {r = r} bytes start at end run first next =
-    subst (λ l. Wrote a c f h l r)
+pub last_run : {T E : Type 0} {a b c : SinkLog} {x : T} {r : Result T E} (bytes : List ℕ) (start at : ℕ) → length bytes ≡ at → IsPlainRun bytes start at →
+    Wrote {E = E} a b (escaped (take start bytes)) (Ok x) → Wrote b c (between bytes start (length bytes)) r → Wrote a c (escaped bytes) r
+last_run {a = a} {c = c} {r = r} bytes start at end run first next =
+    subst (λ l. Wrote a c l r)
     (ap (λ n. escaped (take start bytes) ++ between bytes start n) end ∙ sym run ∙ ap (λ n. escaped (take n bytes)) (sym end) ∙ ap escaped (take-length bytes))
     (wrote_then first next)

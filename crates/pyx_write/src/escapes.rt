@@ -10,7 +10,7 @@ use sch_io::{Failed, Sink, write_all};
 ///
 /// Each run of bytes that stand for themselves is written at once; the time grows with the text's length.
 pub fn write_escaped<O: Sink>(sink: &mut O, text: &str) -> Result<(), Failed>
-    ensures { Wrote (O.written sink.old) (O.written sink.new) (O.faults sink.old) (O.faults sink.new) (escaped text.now) result }
+    ensures { Wrote (O.log sink.old) (O.log sink.new) (escaped text.now) result }
 {
     let bytes = text.as_bytes();
     let mut start = 0;
@@ -24,7 +24,7 @@ pub fn write_escaped<O: Sink>(sink: &mut O, text: &str) -> Result<(), Failed>
     write_all(sink, &bytes[start..])
 }
 
-// How a byte is written that can't stand for itself.
+/// How a byte is written that can't stand for itself.
 fn escape(byte: u8) -> Option<&'static str>
     ensures { MatchOption result (escape_of byte ≡ byte ∷ []) (λ escape. escape.now ≡ escape_of byte) }
 {

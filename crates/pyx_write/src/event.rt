@@ -12,7 +12,7 @@ use sch_io::{Failed, Sink};
 ///
 /// The text of events that a reader gave is read back as these events: `pyx_core::written_is_read_back`.
 pub fn write_event<O: Sink>(sink: &mut O, event: &Event) -> Result<(), Failed>
-    ensures { Wrote (O.written sink.old) (O.written sink.new) (O.faults sink.old) (O.faults sink.new) (event_lines event.now) result }
+    ensures { Wrote (O.log sink.old) (O.log sink.new) (event_lines event.now) result }
 {
     match event {
         Event::Start { name, attrs } => write_whole_start(sink, name.as_str(), attrs.as_slice()),
@@ -23,25 +23,25 @@ pub fn write_event<O: Sink>(sink: &mut O, event: &Event) -> Result<(), Failed>
     }
 }
 
-// Writes the start of an element and its attributes.
-#[tactic(auto, using(sch_io::specs::Wrote::writes))]
+/// Writes the start of an element and its attributes.
+#[tactic(auto, using(sch_io::proofs::Writes::writes))]
 fn write_whole_start<O: Sink>(sink: &mut O, name: &str, attrs: &[Attr]) -> Result<(), Failed>
-    ensures { Wrote (O.written sink.old) (O.written sink.new) (O.faults sink.old) (O.faults sink.new) (start_line name.now ++ attr_lines attrs.now) result }
+    ensures { Wrote (O.log sink.old) (O.log sink.new) (start_line name.now ++ attr_lines attrs.now) result }
 {
     write_start(sink, name)?;
     write_attrs(sink, attrs)
 }
 
-// Writes an attribute.
+/// Writes an attribute.
 fn write_one_attr<O: Sink>(sink: &mut O, attr: &Attr) -> Result<(), Failed>
-    ensures { Wrote (O.written sink.old) (O.written sink.new) (O.faults sink.old) (O.faults sink.new) (attr_line attr.now.name attr.now.value) result }
+    ensures { Wrote (O.log sink.old) (O.log sink.new) (attr_line attr.now.name attr.now.value) result }
 {
     write_attr(sink, attr.name.as_str(), attr.value.as_str())
 }
 
-// Writes attributes.
+/// Writes attributes.
 fn write_attrs<O: Sink>(sink: &mut O, attrs: &[Attr]) -> Result<(), Failed>
-    ensures { Wrote (O.written sink.old) (O.written sink.new) (O.faults sink.old) (O.faults sink.new) (attr_lines attrs.now) result }
+    ensures { Wrote (O.log sink.old) (O.log sink.new) (attr_lines attrs.now) result }
 {
     for attr in attrs {
         write_one_attr(sink, attr)?;

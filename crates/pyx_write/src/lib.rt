@@ -7,4 +7,7 @@ mod lines;
 
 pub use escapes::write_escaped;
 pub use event::write_event;
-pub use lines::{write_attr, write_chars, write_comment, write_end, write_pi, write_start};
+pub use lines::{
+    write_attr, write_chars, write_comment, write_end, write_joined_attr, write_joined_end,
+    write_joined_start, write_line_rest, write_pi, write_start,
+};

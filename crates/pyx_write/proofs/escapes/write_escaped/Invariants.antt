@@ -9,5 +9,5 @@ abbrev pub invariant-loop-at : goal.invariant-loop-at
 invariant-loop-at g l = record {
   within : l.start ≤ l.at;
   plain : IsPlainRun l.bytes l.start l.at;
-  wrote : Wrote {T = Unit {0}} {E = Failed} (g.O.Sink.written l.initial.sink) (g.O.Sink.written l.sink) (g.O.Sink.faults l.initial.sink) (g.O.Sink.faults l.sink) (escaped (take l.start l.bytes)) (Ok tt);
+  wrote : Wrote {T = Unit {0}} {E = Failed} (g.O.Sink.log l.initial.sink) (g.O.Sink.log l.sink) (escaped (take l.start l.bytes)) (Ok tt);
 }

@@ -7,5 +7,4 @@ use Rattle.pyx_write.proofs.event.write_attrs.Given as goal
 
 abbrev pub invariant-loop-attr : goal.invariant-loop-attr
 invariant-loop-attr g l =
-    Wrote {T = Unit {0}} {E = Failed} (g.O.Sink.written l.initial.sink) (g.O.Sink.written l.sink)
-    (g.O.Sink.faults l.initial.sink) (g.O.Sink.faults l.sink) (attr_lines (take l.attr-index l.attrs)) (Ok tt)
+    Wrote {T = Unit {0}} {E = Failed} (g.O.Sink.log l.initial.sink) (g.O.Sink.log l.sink) (attr_lines (take l.attr-index l.attrs)) (Ok tt)
