@@ -8,7 +8,7 @@ use Rattle.doc_tree.specs.Lines.{declares, first_lines, last_lines, lines_at}
 use Rattle.doc_tree.specs.Table.{Table, Name, Content, root, element, attribute, text, comment, instruction, content_of, kind_of, kind_at, name_of, name_at, decls_of, decls_at, value_of, value_at}
 use Rattle.doc_tree.specs.QNames.{qname_of}
 use Rattle.doc_write.specs.TreeText.{line_text}
-use Rattle.doc_write.specs.Parts.{closing_text, decl_text, has_name, opening_text, spelled_at}
+use Rattle.doc_write.specs.inner.Parts.{closing_text, decl_text, has_name, opening_text, spelled_at}
 
 abbrev opening : Option Content → List ℕ
 opening content = flat_map line_text (lines_at first_lines content)

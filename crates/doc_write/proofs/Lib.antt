@@ -1,3 +1,2 @@
 pub mod ContentLemmas
 pub mod PartLemmas
-pub mod WriteLemmas

@@ -1,2 +1,2 @@
 pub mod TreeText
-pub mod Parts
+pub mod inner

@@ -8,7 +8,7 @@ use Rattle.doc_tree.specs.QNames.{qname_of}
 use Rattle.doc_tree.specs.Table.{Table}
 
 -- the attribute that declares a prefix: `xmlns:p`, and `xmlns` for the default namespace (Namespaces in
--- XML 1.0 section 3)
+-- XML 1.0, section 3)
 abbrev pub declaring_name : List ℕ → List ℕ
 declaring_name [] = xmlns_prefix
 declaring_name (b ∷ prefix) = xmlns_prefix ++ 58 ∷ b ∷ prefix

@@ -1,29 +1,39 @@
-//! Lines of PYX whose names come in two parts, a prefix and a local part.
+//! Lines of PYX with a name of two parts, a prefix and a local part: the prefix, where it is not empty, and a colon
+//! before the local part (Namespaces in XML 1.0, section 4).
 
-ghost use Rattle.std.specs.Prelude.{◌++◌, codes};
 ghost use Rattle.sch_io.specs.Wrote.{Wrote};
-ghost use Rattle.pyx_core.specs.Escapes.{escaped};
-ghost use Rattle.pyx_core.specs.Written.{attr_line};
+ghost use Rattle.pyx_core.specs.Written.{attr_line, end_line, start_line};
 ghost use Rattle.doc_tree.specs.QNames.{spelled_name};
 ghost use Rattle.doc_write.specs.TreeText.{declaring_name};
 
-use pyx_write::{write_attr, write_escaped};
-use sch_io::{Failed, Sink, write_all, write_pieces};
+use pyx_write::{
+    write_attr, write_end, write_joined_attr, write_joined_end, write_joined_start, write_start,
+};
+use sch_io::{Failed, Sink};
 
-/// Writes the start or the end of an element: the mark of such a line, and the element's name.
-pub(crate) fn write_tag<O: Sink>(
+/// Writes the start of an element.
+pub(crate) fn write_start_tag<O: Sink>(
     sink: &mut O,
-    mark: &str,
     prefix: &str,
     local: &str,
 ) -> Result<(), Failed>
-    ensures { Wrote (O.written sink.old) (O.written sink.new) (O.faults sink.old) (O.faults sink.new)
-        (mark.now ++ (spelled_name prefix.now local.now ++ codes "\n")) result }
+    ensures { Wrote (O.log sink.old) (O.log sink.new) (start_line (spelled_name prefix.now local.now)) result }
 {
     if prefix.is_empty() {
-        write_pieces(sink, &[mark, local, "\n"])
+        write_start(sink, local)
     } else {
-        write_pieces(sink, &[mark, prefix, ":", local, "\n"])
+        write_joined_start(sink, &[prefix, ":", local])
+    }
+}
+
+/// Writes the end of an element.
+pub(crate) fn write_end_tag<O: Sink>(sink: &mut O, prefix: &str, local: &str) -> Result<(), Failed>
+    ensures { Wrote (O.log sink.old) (O.log sink.new) (end_line (spelled_name prefix.now local.now)) result }
+{
+    if prefix.is_empty() {
+        write_end(sink, local)
+    } else {
+        write_joined_end(sink, &[prefix, ":", local])
     }
 }
 
@@ -34,13 +44,12 @@ pub(crate) fn write_attribute<O: Sink>(
     local: &str,
     value: &str,
 ) -> Result<(), Failed>
-    ensures { Wrote (O.written sink.old) (O.written sink.new) (O.faults sink.old) (O.faults sink.new)
-        (attr_line (spelled_name prefix.now local.now) value.now) result }
+    ensures { Wrote (O.log sink.old) (O.log sink.new) (attr_line (spelled_name prefix.now local.now) value.now) result }
 {
     if prefix.is_empty() {
         write_attr(sink, local, value)
     } else {
-        write_prefixed(sink, prefix, local, value)
+        write_joined_attr(sink, &[prefix, ":", local], value)
     }
 }
 
@@ -51,35 +60,11 @@ pub(crate) fn write_declaration<O: Sink>(
     prefix: &str,
     uri: &str,
 ) -> Result<(), Failed>
-    ensures { Wrote (O.written sink.old) (O.written sink.new) (O.faults sink.old) (O.faults sink.new)
-        (attr_line (declaring_name prefix.now) uri.now) result }
+    ensures { Wrote (O.log sink.old) (O.log sink.new) (attr_line (declaring_name prefix.now) uri.now) result }
 {
     if prefix.is_empty() {
         write_attr(sink, "xmlns", uri)
     } else {
-        write_prefixed(sink, "xmlns", prefix, uri)
+        write_joined_attr(sink, &["xmlns", ":", prefix], uri)
     }
-}
-
-/// Writes an attribute whose name has a prefix.
-fn write_prefixed<O: Sink>(
-    sink: &mut O,
-    prefix: &str,
-    local: &str,
-    value: &str,
-) -> Result<(), Failed>
-    ensures { Wrote (O.written sink.old) (O.written sink.new) (O.faults sink.old) (O.faults sink.new)
-        (attr_line (prefix.now ++ (codes ":" ++ local.now)) value.now) result }
-{
-    write_pieces(sink, &["A", prefix, ":", local, " "])?;
-    write_value(sink, value)
-}
-
-/// Writes the rest of an attribute's line: the value with its escapes, and the line end.
-#[tactic(auto, using(sch_io::specs::Wrote::writes))]
-fn write_value<O: Sink>(sink: &mut O, value: &str) -> Result<(), Failed>
-    ensures { Wrote (O.written sink.old) (O.written sink.new) (O.faults sink.old) (O.faults sink.new) (escaped value.now ++ codes "\n") result }
-{
-    write_escaped(sink, value)?;
-    write_all(sink, b"\n")
 }

@@ -1,15 +1,15 @@
 //! Writing a tree, from its root downwards.
 
-ghost use Rattle.std.specs.Prelude.{◌≡◌, ℕ, ◌<◌, ◌++◌, true, codes, length, Some};
+ghost use Rattle.std.specs.Prelude.{◌≡◌, ℕ, ◌<◌, ◌++◌, true, length, Some};
 ghost use Rattle.std.specs.List.{flat_map};
 ghost use Rattle.sch_io.specs.Wrote.{Wrote};
 ghost use Rattle.doc_tree.specs.kind.Kind.TheVariants.{Attribute, Element, Pi};
 ghost use Rattle.doc_tree.specs.Lists.{mem};
 ghost use Rattle.doc_tree.specs.Table.{attrs_of, decls_of, is_live, kind_of, name_of, numbered};
 ghost use Rattle.doc_write.specs.TreeText.{tree_text};
-ghost use Rattle.doc_write.specs.Parts.{closing_text, decl_text, has_name, opening_text, spelled_at, text_below};
+ghost use Rattle.doc_write.specs.inner.Parts.{closing_text, decl_text, has_name, opening_text, text_below};
 
-use crate::names::{write_attribute, write_declaration, write_tag};
+use crate::names::{write_attribute, write_declaration, write_end_tag, write_start_tag};
 use doc_tree::{Kind, NameId, NodeId, Tree};
 use pyx_write::{write_chars, write_comment, write_pi};
 use sch_io::{Failed, Sink};
@@ -18,7 +18,7 @@ use sch_io::{Failed, Sink};
 ///
 /// After a failure a front of the text was written. The time grows with the text; no memory is taken.
 pub fn write_tree<O: Sink>(tree: &Tree, sink: &mut O) -> Result<(), Failed>
-    ensures { Wrote (O.written sink.old) (O.written sink.new) (O.faults sink.old) (O.faults sink.new) (tree_text tree.now.nodes) result }
+    ensures { Wrote (O.log sink.old) (O.log sink.new) (tree_text tree.now.nodes) result }
 {
     tree.laws();
     write_below(tree, tree.root(), sink)
@@ -27,7 +27,7 @@ pub fn write_tree<O: Sink>(tree: &Tree, sink: &mut O) -> Result<(), Failed>
 /// Writes a node and all below it.
 fn write_below<O: Sink>(tree: &Tree, n: NodeId, sink: &mut O) -> Result<(), Failed>
     requires { is_live tree.now.nodes n ≡ true }
-    ensures { Wrote (O.written sink.old) (O.written sink.new) (O.faults sink.old) (O.faults sink.new) (text_below tree.now.nodes n) result }
+    ensures { Wrote (O.log sink.old) (O.log sink.new) (text_below tree.now.nodes n) result }
 {
     tree.laws();
     write_head(tree, n, sink)?;
@@ -40,7 +40,7 @@ fn write_below<O: Sink>(tree: &Tree, n: NodeId, sink: &mut O) -> Result<(), Fail
 /// Writes the lines with which a node begins, and its attributes.
 fn write_head<O: Sink>(tree: &Tree, n: NodeId, sink: &mut O) -> Result<(), Failed>
     requires { is_live tree.now.nodes n ≡ true }
-    ensures { Wrote (O.written sink.old) (O.written sink.new) (O.faults sink.old) (O.faults sink.new)
+    ensures { Wrote (O.log sink.old) (O.log sink.new)
         (opening_text tree.now.nodes n ++ flat_map (opening_text tree.now.nodes) (attrs_of tree.now.nodes n)) result }
 {
     tree.laws();
@@ -51,7 +51,7 @@ fn write_head<O: Sink>(tree: &Tree, n: NodeId, sink: &mut O) -> Result<(), Faile
 /// Writes attributes in their order.
 fn write_attributes<O: Sink>(tree: &Tree, attrs: &[NodeId], sink: &mut O) -> Result<(), Failed>
     requires { (a : ℕ) → mem a attrs.now ≡ true → is_live tree.now.nodes a ≡ true }
-    ensures { Wrote (O.written sink.old) (O.written sink.new) (O.faults sink.old) (O.faults sink.new)
+    ensures { Wrote (O.log sink.old) (O.log sink.new)
         (flat_map (opening_text tree.now.nodes) attrs.now) result }
 {
     for attr in attrs {
@@ -60,10 +60,10 @@ fn write_attributes<O: Sink>(tree: &Tree, attrs: &[NodeId], sink: &mut O) -> Res
     Ok(())
 }
 
-/// Writes the lines with which a node begins: its own, and behind that of an element its declarations.
+/// Writes the lines with which a node begins: its own, and after that of an element its declarations.
 fn write_opening<O: Sink>(tree: &Tree, n: NodeId, sink: &mut O) -> Result<(), Failed>
     requires { is_live tree.now.nodes n ≡ true }
-    ensures { Wrote (O.written sink.old) (O.written sink.new) (O.faults sink.old) (O.faults sink.new) (opening_text tree.now.nodes n) result }
+    ensures { Wrote (O.log sink.old) (O.log sink.new) (opening_text tree.now.nodes n) result }
 {
     match tree.kind(n) {
         Kind::Root => Ok(()),
@@ -78,7 +78,7 @@ fn write_opening<O: Sink>(tree: &Tree, n: NodeId, sink: &mut O) -> Result<(), Fa
 /// Writes the line with which a node ends: an element's end.
 fn write_closing<O: Sink>(tree: &Tree, n: NodeId, sink: &mut O) -> Result<(), Failed>
     requires { is_live tree.now.nodes n ≡ true }
-    ensures { Wrote (O.written sink.old) (O.written sink.new) (O.faults sink.old) (O.faults sink.new) (closing_text tree.now.nodes n) result }
+    ensures { Wrote (O.log sink.old) (O.log sink.new) (closing_text tree.now.nodes n) result }
 {
     match tree.kind(n) {
         Kind::Element => write_end(tree, n, sink),
@@ -89,38 +89,25 @@ fn write_closing<O: Sink>(tree: &Tree, n: NodeId, sink: &mut O) -> Result<(), Fa
 /// Writes the start of an element, and its declarations.
 fn write_start<O: Sink>(tree: &Tree, n: NodeId, sink: &mut O) -> Result<(), Failed>
     requires { kind_of tree.now.nodes n ≡ Some Element }
-    ensures { Wrote (O.written sink.old) (O.written sink.new) (O.faults sink.old) (O.faults sink.new) (opening_text tree.now.nodes n) result }
+    ensures { Wrote (O.log sink.old) (O.log sink.new) (opening_text tree.now.nodes n) result }
 {
-    write_element_tag(tree, n, "(", sink)?;
+    let name = name_of(tree, n);
+    write_start_tag(sink, tree.prefix_of(name), tree.local_of(name))?;
     write_declarations(tree, n, sink)
 }
 
 /// Writes the end of an element.
 fn write_end<O: Sink>(tree: &Tree, n: NodeId, sink: &mut O) -> Result<(), Failed>
     requires { kind_of tree.now.nodes n ≡ Some Element }
-    ensures { Wrote (O.written sink.old) (O.written sink.new) (O.faults sink.old) (O.faults sink.new) (closing_text tree.now.nodes n) result }
-{
-    write_element_tag(tree, n, ")", sink)
-}
-
-/// Writes the start or the end of an element, by the mark of its line.
-fn write_element_tag<O: Sink>(
-    tree: &Tree,
-    n: NodeId,
-    mark: &str,
-    sink: &mut O,
-) -> Result<(), Failed>
-    requires { kind_of tree.now.nodes n ≡ Some Element }
-    ensures { Wrote (O.written sink.old) (O.written sink.new) (O.faults sink.old) (O.faults sink.new)
-        (mark.now ++ (spelled_at (name_of tree.now.nodes n) ++ codes "\n")) result }
+    ensures { Wrote (O.log sink.old) (O.log sink.new) (closing_text tree.now.nodes n) result }
 {
     let name = name_of(tree, n);
-    write_tag(sink, mark, tree.prefix_of(name), tree.local_of(name))
+    write_end_tag(sink, tree.prefix_of(name), tree.local_of(name))
 }
 
 /// Writes the declarations of an element, in their order.
 fn write_declarations<O: Sink>(tree: &Tree, n: NodeId, sink: &mut O) -> Result<(), Failed>
-    ensures { Wrote (O.written sink.old) (O.written sink.new) (O.faults sink.old) (O.faults sink.new)
+    ensures { Wrote (O.log sink.old) (O.log sink.new)
         (flat_map decl_text (decls_of tree.now.nodes n)) result }
 {
     for i in 0..tree.decl_count(n) {
@@ -132,7 +119,7 @@ fn write_declarations<O: Sink>(tree: &Tree, n: NodeId, sink: &mut O) -> Result<(
 /// Writes an attribute node.
 fn write_attribute_node<O: Sink>(tree: &Tree, n: NodeId, sink: &mut O) -> Result<(), Failed>
     requires { kind_of tree.now.nodes n ≡ Some Attribute }
-    ensures { Wrote (O.written sink.old) (O.written sink.new) (O.faults sink.old) (O.faults sink.new) (opening_text tree.now.nodes n) result }
+    ensures { Wrote (O.log sink.old) (O.log sink.new) (opening_text tree.now.nodes n) result }
 {
     let name = name_of(tree, n);
     write_attribute(
@@ -146,7 +133,7 @@ fn write_attribute_node<O: Sink>(tree: &Tree, n: NodeId, sink: &mut O) -> Result
 /// Writes a processing instruction, of whose name the local part is the target.
 fn write_instruction<O: Sink>(tree: &Tree, n: NodeId, sink: &mut O) -> Result<(), Failed>
     requires { kind_of tree.now.nodes n ≡ Some Pi }
-    ensures { Wrote (O.written sink.old) (O.written sink.new) (O.faults sink.old) (O.faults sink.new) (opening_text tree.now.nodes n) result }
+    ensures { Wrote (O.log sink.old) (O.log sink.new) (opening_text tree.now.nodes n) result }
 {
     let name = name_of(tree, n);
     write_pi(sink, tree.local_of(name), tree.value(n))

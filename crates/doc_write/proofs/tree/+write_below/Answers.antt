@@ -1,8 +1,8 @@
 -- A node, its attributes, its kids in turn, and its end; a part that was not written whole leaves a front of all.
 use Rattle.std.proofs.Common.{arith}
-use Rattle.doc_write.specs.Parts.{text_below}
+use Rattle.doc_write.specs.inner.Parts.{text_below}
 use Rattle.doc_write.proofs.PartLemmas.{below_end, below_head, below_kid, kid_below}
-use Rattle.doc_write.proofs.WriteLemmas.{wrote_next}
+use Rattle.sch_io.proofs.Writes.{wrote_next}
 use Rattle.doc_write.proofs.tree.+write_below.Goals as goal
 
 pub returns-in_err-write_head : goal.returns-in_err-write_head

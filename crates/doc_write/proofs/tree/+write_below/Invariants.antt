@@ -5,7 +5,7 @@ use Rattle.sch_io.specs.Wrote.{Wrote}
 use Rattle.sch_io.specs.declared.error.Failed.{Failed}
 use Rattle.doc_tree.specs.limits.TheConstants.{MAX_DEPTH}
 use Rattle.doc_tree.specs.Walks.{ancestors}
-use Rattle.doc_write.specs.Parts.{text_below}
+use Rattle.doc_write.specs.inner.Parts.{text_below}
 use Rattle.doc_write.proofs.tree.+write_below.Given as goal
 
 -- how much deeper a way down can go
@@ -14,5 +14,5 @@ decreases-write_below g l = (MAX_DEPTH + 2) - length (ancestors l.tree.now.nodes
 
 abbrev pub invariant-loop-kid : goal.invariant-loop-kid
 invariant-loop-kid g l =
-    Wrote {T = Unit {0}} {E = Failed} (g.O.Sink.written l.initial.sink) (g.O.Sink.written l.sink) (g.O.Sink.faults l.initial.sink) (g.O.Sink.faults l.sink)
+    Wrote {T = Unit {0}} {E = Failed} (g.O.Sink.log l.initial.sink) (g.O.Sink.log l.sink)
     (flat_map (text_below l.fn.tree.nodes) (take l.kid-index l.kid-items)) (Ok tt)

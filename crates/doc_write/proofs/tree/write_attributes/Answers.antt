@@ -1,7 +1,7 @@
 -- Each attribute lives; one that was not written whole leaves a front of all.
-use Rattle.doc_write.specs.Parts.{opening_text}
+use Rattle.doc_write.specs.inner.Parts.{opening_text}
 use Rattle.doc_write.proofs.PartLemmas.{mem-at}
-use Rattle.doc_write.proofs.WriteLemmas.{wrote_cut}
+use Rattle.sch_io.proofs.Writes.{wrote_cut}
 use Rattle.doc_write.proofs.tree.write_attributes.Goals as goal
 
 pub write_opening-requires : goal.write_opening-requires

@@ -1,8 +1,8 @@
 -- A declaration that was not written whole leaves a front of all.
 use Rattle.std.proofs.Common.{[]}
 use Rattle.doc_tree.specs.Table.{decls_of}
-use Rattle.doc_write.specs.Parts.{decl_text}
-use Rattle.doc_write.proofs.WriteLemmas.{wrote_cut_or}
+use Rattle.doc_write.specs.inner.Parts.{decl_text}
+use Rattle.sch_io.proofs.Writes.{wrote_cut_or}
 use Rattle.doc_write.proofs.tree.write_declarations.Goals as goal
 
 pub returns-in_err-write_declaration : goal.returns-in_err-write_declaration

@@ -1,9 +1,9 @@
 -- A node begins, and then its attributes stand.
 use Rattle.std.proofs.Common.{refl}
 use Rattle.std.specs.List.{flat_map}
-use Rattle.sch_io.specs.Wrote.{wrote_then, wrote_stopped}
+use Rattle.sch_io.proofs.Writes.{wrote_then, wrote_stopped}
 use Rattle.doc_tree.specs.Table.{attrs_of}
-use Rattle.doc_write.specs.Parts.{opening_text}
+use Rattle.doc_write.specs.inner.Parts.{opening_text}
 use Rattle.doc_write.proofs.tree.write_head.Goals as goal
 
 pub returns-in_err-write_opening : goal.returns-in_err-write_opening
