@@ -10,7 +10,7 @@ use Rattle.svrl_out.specs.declared.plan.Rule.{Rule}
 use Rattle.svrl_out.specs.declared.plan.Assert.{Assert}
 use Rattle.svrl_out.specs.Plan.{rule_without_asserts, with_assert}
 use Rattle.sch_cli.specs.FirstSchema.{start_with, assert_events, rule_events, schema_events, is_test, has_test, is_of_form, schematron}
-use Rattle.sch_cli.specs.SchemaWalk.{only_attribute, is_bare_start, is_end, chars_of, kept, opens_schema, opens_rule, opens_assert, is_schematron, Place, outside, in_schema, in_pattern, in_rule, in_assert, after_message, after_pattern, done, nothing, rule, assert, Step, go_if, from_pattern, from_rule, follow, changed, walk, IsPlaced}
+use Rattle.sch_cli.specs.inner.SchemaWalk.{only_attribute, is_bare_start, is_end, chars_of, kept, opens_schema, opens_rule, opens_assert, is_schematron, Place, outside, in_schema, in_pattern, in_rule, in_assert, after_message, after_pattern, done, nothing, rule, assert, Step, go_if, from_pattern, from_rule, follow, changed, walk, IsPlaced}
 use Rattle.std.proofs.lemmas.Slice.Eq.{bytes_eq-Decides}
 use Rattle.sch_cli.proofs.FirstSchemaLemmas.{both}
 use Rattle.sch_cli.proofs.SchemaWalkLemmas.{placed-follow}

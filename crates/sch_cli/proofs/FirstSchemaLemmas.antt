@@ -8,7 +8,7 @@ use Rattle.svrl_out.specs.declared.plan.Rule.{Rule}
 use Rattle.svrl_out.specs.declared.plan.Assert.{Assert}
 use Rattle.svrl_out.specs.Plan.{rule_without_asserts, with_assert}
 use Rattle.sch_cli.specs.FirstSchema.{assert_events, rule_events, schema_events, is_test, has_test, is_of_form}
-use Rattle.sch_cli.specs.SchemaWalk.{outside, in_pattern, in_rule, walk}
+use Rattle.sch_cli.specs.inner.SchemaWalk.{outside, in_pattern, in_rule, walk}
 
 -- both sides of a test that holds
 pub both : (a b : Bool) → a && b ≡ true → (a ≡ true) × (b ≡ true)

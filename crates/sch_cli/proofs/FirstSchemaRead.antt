@@ -3,7 +3,6 @@ use Rattle.std.proofs.Common.{◌≡◌, ℕ, ◌<◌, ◌≤◌, ◌^◌, true,
 use Rattle.std.specs.List.{flat_map, list_all}
 use Rattle.std.proofs.lemmas.Bool.{lt-ltb}
 use Rattle.std.proofs.lemmas.List.{length-map}
-use Rattle.pyx_core.specs.declared.event.Event.{Event}
 use Rattle.pyx_core.specs.declared.event.Event.TheVariants.{End}
 use Rattle.pyx_core.specs.declared.event.Located.{Located}
 use Rattle.pyx_core.specs.declared.fault.PyxFault.{PyxFault}
@@ -12,20 +11,21 @@ use Rattle.pyx_core.specs.Reading.{fault_of, events_of, EventsAreFew}
 use Rattle.pyx_core.specs.Nesting.{bare}
 use Rattle.svrl_out.specs.declared.plan.Rule.{Rule}
 use Rattle.svrl_out.specs.declared.plan.Assert.{Assert}
-use Rattle.sch_cli.specs.FirstSchema.{schema_events, rule_events, assert_events, longest_schema, IsFirstSchema, IsOtherSchema, AreCounted, has_few_asserts}
-use Rattle.sch_cli.specs.SchemaWalk.{outside, walk}
+use Rattle.sch_cli.specs.declared.schema.TheConstants.{MAX_SCHEMA_BYTES}
+use Rattle.sch_cli.specs.FirstSchema.{schema_events, rule_events, assert_events, IsFirstSchema, IsOtherSchema, AreCounted, has_few_asserts}
+use Rattle.sch_cli.specs.inner.SchemaWalk.{outside, walk}
 use Rattle.sch_cli.proofs.FirstSchemaLemmas.{walk-schema}
 use Rattle.sch_cli.proofs.FirstSchemaBack.{walk-back}
 
 -- bytes that are too long, or no text
-pub other_by_length : (bytes : List ℕ) → longest_schema < length bytes → IsOtherSchema bytes
+pub other_by_length : (bytes : List ℕ) → MAX_SCHEMA_BYTES < length bytes → IsOtherSchema bytes
 other_by_length bytes long rules is = omega (arith, is.short)
 
 pub other_by_fault : (bytes : List ℕ) (fault : PyxFault) → fault_of Document bytes ≡ Some fault → IsOtherSchema bytes
 other_by_fault bytes fault found rules is = let e : None ≡ Some fault = sym is.sound ∙ found in absurd (cc)
 
 -- what the walk finds
-pub schema_read : (bytes : List ℕ) (events : List Located) (found : Option (List Rule)) → fault_of Document bytes ≡ None → events ≡ events_of Document bytes → found ≡ walk outside [] (bare events) → length bytes ≤ longest_schema →
+pub schema_read : (bytes : List ℕ) (events : List Located) (found : Option (List Rule)) → fault_of Document bytes ≡ None → events ≡ events_of Document bytes → found ≡ walk outside [] (bare events) → length bytes ≤ MAX_SCHEMA_BYTES →
     MatchOption found (IsOtherSchema bytes) (IsFirstSchema bytes)
 schema_read bytes events None sound are is short = λ rules schema.
     let events_are : bare events ≡ schema_events rules = ap bare are ∙ schema.events in

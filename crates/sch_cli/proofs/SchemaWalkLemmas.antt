@@ -4,7 +4,7 @@ use Rattle.pyx_core.specs.declared.event.Event.{Event}
 use Rattle.svrl_out.specs.declared.plan.Rule.{Rule}
 use Rattle.svrl_out.specs.declared.plan.Assert.{Assert}
 use Rattle.svrl_out.specs.Plan.{rule_without_asserts, with_assert}
-use Rattle.sch_cli.specs.SchemaWalk.{Place, outside, in_schema, in_pattern, in_rule, in_assert, after_message, after_pattern, done, nothing, rule, assert, Step, follow, go_if, from_pattern, from_rule, opens_schema, opens_rule, opens_assert, is_bare_start, is_end, chars_of, changed, walk, IsPlaced}
+use Rattle.sch_cli.specs.inner.SchemaWalk.{Place, outside, in_schema, in_pattern, in_rule, in_assert, after_message, after_pattern, done, nothing, rule, assert, Step, follow, go_if, from_pattern, from_rule, opens_schema, opens_rule, opens_assert, is_bare_start, is_end, chars_of, changed, walk, IsPlaced}
 
 -- an assert more changes no count of rules
 pub length-with_assert : (rules : List Rule) (a : Assert) → length (with_assert rules a) ≡ length rules

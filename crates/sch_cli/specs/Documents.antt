@@ -1,5 +1,6 @@
 -- The documents that are read, and those that are refused.
 use Rattle.std.specs.Prelude.{◌≡◌, ℕ, ◌<◌, ◌≤◌, List, length, None, Some}
+use Rattle.sch_io.specs.declared.reading.TheConstants.{MAX_FILE_BYTES}
 use Rattle.doc_tree.specs.Table.{Table}
 use Rattle.pyx_core.specs.declared.mode.Mode.TheVariants.{Document}
 use Rattle.pyx_core.specs.Reading.{events_of}
@@ -9,17 +10,13 @@ use Rattle.name_scopes.specs.DocFaults.{doc_fault}
 use Rattle.sch_cli.specs.declared.refusal.Refusal.{Refusal}
 use Rattle.sch_cli.specs.declared.refusal.Refusal.TheVariants.{TooLarge, Faulted}
 
--- how long a file may be, in bytes
-abbrev pub longest_file : ℕ
-longest_file = 16777216
-
 -- the bytes are a document with this tree
 pub record IsDocument (bytes : List ℕ) (T : Table) : Type 0 where
-  pub short : length bytes ≤ longest_file
+  pub short : length bytes ≤ MAX_FILE_BYTES
   pub sound : doc_fault bytes ≡ None
   pub scoped : Scoped (bare (events_of Document bytes)) T
 
 -- the bytes are a refused document: there are too many, or this is the first fault of the text and its names
 abbrev pub IsRefused : List ℕ → Refusal → Type 0
-IsRefused bytes TooLarge = longest_file < length bytes
-IsRefused bytes (Faulted fault) = (length bytes ≤ longest_file) × (doc_fault bytes ≡ Some fault)
+IsRefused bytes TooLarge = MAX_FILE_BYTES < length bytes
+IsRefused bytes (Faulted fault) = (length bytes ≤ MAX_FILE_BYTES) × (doc_fault bytes ≡ Some fault)

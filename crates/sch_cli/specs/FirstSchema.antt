@@ -8,6 +8,7 @@ use Rattle.pyx_core.specs.declared.mode.Mode.TheVariants.{Document}
 use Rattle.pyx_core.specs.Reading.{fault_of, events_of}
 use Rattle.pyx_core.specs.Nesting.{bare}
 use Rattle.sch_base.specs.Names.{is_ncname}
+use Rattle.sch_cli.specs.declared.schema.TheConstants.{MAX_SCHEMA_BYTES}
 use Rattle.svrl_out.specs.declared.plan.Rule.{Rule}
 use Rattle.svrl_out.specs.declared.plan.Assert.{Assert}
 
@@ -46,13 +47,9 @@ has_test assert = is_test assert.test
 abbrev pub is_of_form : Rule → Bool
 is_of_form rule = is_ncname rule.context && list_all has_test rule.asserts
 
--- how long a schema may be, in bytes
-abbrev pub longest_schema : ℕ
-longest_schema = 65536
-
 -- the bytes are such a schema, and these are its rules
 pub record IsFirstSchema (bytes : List ℕ) (rules : List Rule) : Type 0 where
-  pub short : length bytes ≤ longest_schema
+  pub short : length bytes ≤ MAX_SCHEMA_BYTES
   pub sound : fault_of Document bytes ≡ None
   pub events : bare (events_of Document bytes) ≡ schema_events rules
   pub formed : list_all is_of_form rules ≡ true

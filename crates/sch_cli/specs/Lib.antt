@@ -2,11 +2,9 @@ pub mod Commands
 pub mod Documents
 pub mod FirstSchema
 pub mod Found
-pub mod Judged
 pub mod Outcomes
 pub mod Output
 pub mod Refusals
 pub mod Runs
-pub mod SchemaWalk
 pub mod Status
-pub mod Stops
+pub mod inner

@@ -4,7 +4,7 @@ use Rattle.std.specs.Prelude.{ℕ, ◌+◌, ◌==◌, Bool, false, ◌&&◌, Lis
 use Rattle.std.specs.List.{list_any}
 use Rattle.std.specs.Str.{bytes_eq}
 use Rattle.doc_tree.specs.Table.{Table, Name, name_of, kids_of, attrs_of}
-use Rattle.svrl_out.specs.Locations.{is_element}
+use Rattle.svrl_out.specs.Locations.{is_element_node}
 use Rattle.svrl_out.specs.declared.plan.Assert.{Assert}
 use Rattle.svrl_out.specs.declared.plan.Rule.{Rule}
 use Rattle.svrl_out.specs.declared.findings.Finding.{Finding}
@@ -20,7 +20,7 @@ abbrev pub is_named : Table → List ℕ → ℕ → Bool
 is_named T test n = passes_name test (name_of T n)
 
 abbrev pub is_element_named : Table → List ℕ → ℕ → Bool
-is_element_named T test n = is_element T n && is_named T test n
+is_element_named T test n = is_element_node T n && is_named T test n
 
 -- a match pattern that is a name matches the elements of that name (XSLT 1.0 section 5.2)
 abbrev pub matches : Table → List ℕ → ℕ → Bool

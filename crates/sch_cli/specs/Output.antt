@@ -1,5 +1,5 @@
 -- What a run writes and how it ends, for each command and each content of the files.
-use Rattle.std.specs.Prelude.{◌≡◌, ℕ, List, [], ◌++◌, codes, Option, None, Some, if◌then◌else◌}
+use Rattle.std.specs.Prelude.{◌≡◌, ◌⊎◌, ℕ, List, [], ◌++◌, codes, Option, None, Some, if◌then◌else◌}
 use Rattle.std.specs.FinMap.{get}
 use Rattle.sch_io.specs.Files.{Files}
 use Rattle.pyx_write.specs.Escapes.{escaped}
@@ -59,20 +59,32 @@ pub record IsPlanOf (files : Files) (schema : List ℕ) (plan : List Rule) : Typ
   pub held : get files schema ≡ Some bytes
   pub is_schema : IsFirstSchema bytes plan
 
--- the output of `validate`: the schema comes before the document, and each may be missing; the schema
--- may be of another form, and the document refused
-pub data IsValidation (files : Files) (schema document : List ℕ) : Output → Type 0 where
-  no_schema : get files schema ≡ None → IsValidation files schema document (stopped Missing (missing_line schema))
+-- the named document is held, and this is its tree
+pub record IsTreeOf (files : Files) (document : List ℕ) (T : Table) : Type 0 where
+  pub bytes : List ℕ
+  pub held : get files document ≡ Some bytes
+  pub is_document : IsDocument bytes T
+
+-- the run stops at the schema: it is missing, or of another form
+pub data StopsAtSchema (files : Files) (schema : List ℕ) : Output → Type 0 where
+  no_schema : get files schema ≡ None → StopsAtSchema files schema (stopped Missing (missing_line schema))
   other_schema : (bytes : List ℕ) → get files schema ≡ Some bytes → IsOtherSchema bytes →
-      IsValidation files schema document (stopped NotYet not_yet_line)
-  no_document : (plan : List Rule) → IsPlanOf files schema plan → get files document ≡ None →
-      IsValidation files schema document (stopped Missing (missing_line document))
-  refused_document : (plan : List Rule) → IsPlanOf files schema plan →
-      (bytes : List ℕ) → get files document ≡ Some bytes → (refusal : Refusal) → IsRefused bytes refusal →
-      IsValidation files schema document (stopped DocumentRefused (document_refused_line refusal))
-  reported : (plan : List Rule) → IsPlanOf files schema plan →
-      (bytes : List ℕ) → get files document ≡ Some bytes → (T : Table) → IsDocument bytes T →
-      IsValidation files schema document (validated plan T)
+      StopsAtSchema files schema (stopped NotYet not_yet_line)
+
+-- the run stops at the document: it is missing, or refused
+pub data StopsAtDocument (files : Files) (document : List ℕ) : Output → Type 0 where
+  no_document : get files document ≡ None → StopsAtDocument files document (stopped Missing (missing_line document))
+  refused_document : (bytes : List ℕ) → get files document ≡ Some bytes → (refusal : Refusal) → IsRefused bytes refusal →
+      StopsAtDocument files document (stopped DocumentRefused (document_refused_line refusal))
+
+-- a stage stops the run with its output, or goes on with a value, from which the next one starts
+abbrev pub Then : {A : Type 0} → (A → Type 0) → (Output → Type 0) → (A → Output → Type 0) → Output → Type 0
+Then {A = A} goes stops next output = stops output ⊎ ((value : A) × goes value × next value output)
+
+-- the output of `validate`: the schema comes first, then the document, then the report
+abbrev pub IsValidation : Files → List ℕ → List ℕ → Output → Type 0
+IsValidation files schema document = Then (IsPlanOf files schema) (StopsAtSchema files schema)
+    (λ plan. Then (IsTreeOf files document) (StopsAtDocument files document) (λ T output. output ≡ validated plan T))
 
 -- the output of a command; words that are not accepted are none
 abbrev pub IsOutputOf : Option Command → Files → Output → Type 0
@@ -84,3 +96,20 @@ IsOutputOf (Some (validate (Some phase) schema document)) files output = output 
 -- the output of the words over the files
 abbrev pub IsOutput : List (List ℕ) → Files → Output → Type 0
 IsOutput words files output = IsOutputOf (command_of words) files output
+
+-- a validation comes to read the schema at once, and the document where the schema has a plan
+abbrev pub IsReadBy : Files → List ℕ → List ℕ → List ℕ → Type 0
+IsReadBy files schema document name = (name ≡ schema) ⊎ ((name ≡ document) × ((plan : List Rule) × IsPlanOf files schema plan))
+
+-- a command comes to read the file of that name
+abbrev pub ComesTo : Option Command → Files → List ℕ → Type 0
+ComesTo None files name = ⊥
+ComesTo (Some (expand schema)) files name = ⊥
+ComesTo (Some (validate None schema document)) files name = IsReadBy files schema document name
+ComesTo (Some (validate (Some phase) schema document)) files name = ⊥
+
+-- a command names a file so
+abbrev pub IsNamedIn : Option Command → List ℕ → Type 0
+IsNamedIn None name = ⊥
+IsNamedIn (Some (expand schema)) name = name ≡ schema
+IsNamedIn (Some (validate phase schema document)) name = (name ≡ schema) ⊎ (name ≡ document)

@@ -1,5 +1,5 @@
 -- What `run` promises of its outside, for each status.
-use Rattle.std.specs.Prelude.{◌≡◌, ℕ, ◌⊎◌, List, [], ◌++◌, Contains, Option, None, Some}
+use Rattle.std.specs.Prelude.{◌≡◌, ℕ, ◌⊎◌, Bool, true, false, List, [], ◌++◌, Option, None, Some}
 use Rattle.sch_io.specs.Counts.{Rose}
 use Rattle.sch_io.specs.Files.{Files}
 use Rattle.sch_io.specs.Wrote.{Appends}
@@ -7,56 +7,92 @@ use Rattle.sch_cli.specs.declared.status.Status.{Status}
 use Rattle.sch_cli.specs.declared.status.Status.TheVariants.{Clean, Findings, Usage, SchemaRefused, DocumentRefused, ScriptRefused, Faulted, Missing, ReadFault, WriteFault, Memory, NotYet}
 use Rattle.sch_cli.specs.declared.refusal.Refusal.{Refusal}
 use Rattle.sch_cli.specs.Refusals.{document_refused_line}
-use Rattle.sch_cli.specs.Commands.{Command, expand, validate}
-use Rattle.sch_cli.specs.Output.{Output, IsOutput, usage_line, not_yet_line, missing_line, read_fault_line, write_fault_line, memory_line}
+use Rattle.sch_cli.specs.Commands.{Command, expand, validate, command_of}
+use Rattle.sch_cli.specs.Output.{Output, IsOutput, ComesTo, IsNamedIn, usage_line, not_yet_line, missing_line, read_fault_line, write_fault_line, memory_line}
 
--- where no fault of the error output rose, the line was appended to it
+-- a front of the text was appended
+abbrev pub AppendsFront : Option (List ℕ) → Option (List ℕ) → List ℕ → Type 0
+AppendsFront old new text = (done left : List ℕ) × (text ≡ done ++ left) × Appends old new done
+
+-- the line was appended to the error output, or a front of it where a fault of it rose
 abbrev pub Tells : Option (List ℕ) → Option (List ℕ) → ℕ → ℕ → List ℕ → Type 0
-Tells old new before now line = ¬ Rose before now → Appends old new line
+Tells old new before now line = Appends old new line ⊎ (Rose before now × AppendsFront old new line)
 
--- the run ended as an output of the words says: with its status, its bytes and its line
-pub record Decided (words : List (List ℕ)) (files : Files) (written : List ℕ → Type 0) (told : List ℕ → Type 0) (status : Status) : Type 0 where
+-- an output that may be has this status, and its bytes and its line were written
+pub record Decided (is_output : Output → Type 0) (written told : List ℕ → Type 0) (status : Status) : Type 0 where
   pub output : Output
-  pub is_output : IsOutput words files output
+  pub may_be : is_output output
   pub ends : output.ends ≡ status
   pub out : written output.out
   pub err : told output.err
 
--- nothing was written, or a front of what an output of the words says
-pub record Fronted (words : List (List ℕ)) (files : Files) (written : List ℕ → Type 0) : Type 0 where
+-- a front was written of an output that may be and that comes to its end
+pub record Fronted (is_output : Output → Type 0) (written : List ℕ → Type 0) : Type 0 where
+  pub output : Output
+  pub may_be : is_output output
+  pub whole : (output.ends ≡ Clean) ⊎ (output.ends ≡ Findings)
   pub done : List ℕ
+  pub left : List ℕ
+  pub is_front : output.out ≡ done ++ left
   pub out : written done
-  pub is_front : (done ≡ []) ⊎ ((output : Output) × (left : List ℕ) × IsOutput words files output × (output.out ≡ done ++ left))
 
--- what a status says of the bytes on the output and the line on the error output
-abbrev pub Ends : List (List ℕ) → Files → (List ℕ → Type 0) → (List ℕ → Type 0) → Status → Type 0
-Ends words files written told Clean = Decided words files written told Clean
-Ends words files written told Findings = Decided words files written told Findings
-Ends words files written told Usage = Decided words files written told Usage
-Ends words files written told SchemaRefused = Decided words files written told SchemaRefused
-Ends words files written told DocumentRefused = Decided words files written told DocumentRefused
-Ends words files written told ScriptRefused = Decided words files written told ScriptRefused
-Ends words files written told Faulted = Decided words files written told Faulted
-Ends words files written told Missing = Decided words files written told Missing
-Ends words files written told NotYet = Decided words files written told NotYet
-Ends words files written told ReadFault = written []
-Ends words files written told WriteFault = Fronted words files written
-Ends words files written told Memory = Fronted words files written
+-- a file to which the run comes was not read, and nothing was written
+pub record Unread (comes_to : List ℕ → Type 0) (written told : List ℕ → Type 0) : Type 0 where
+  pub name : List ℕ
+  pub comes : comes_to name
+  pub out : written []
+  pub err : told (read_fault_line name)
 
--- the line of a status; a name in it is one of the words
-abbrev pub IsLineOf : List (List ℕ) → Status → List ℕ → Type 0
-IsLineOf words Clean line = line ≡ []
-IsLineOf words Findings line = line ≡ []
-IsLineOf words Usage line = line ≡ usage_line
-IsLineOf words SchemaRefused line = ⊥
-IsLineOf words DocumentRefused line = (refusal : Refusal) × (line ≡ document_refused_line refusal)
-IsLineOf words ScriptRefused line = ⊥
-IsLineOf words Faulted line = ⊥
-IsLineOf words Missing line = (name : List ℕ) × Contains words name × (line ≡ missing_line name)
-IsLineOf words ReadFault line = (name : List ℕ) × Contains words name × (line ≡ read_fault_line name)
-IsLineOf words WriteFault line = line ≡ write_fault_line
-IsLineOf words Memory line = line ≡ memory_line
-IsLineOf words NotYet line = line ≡ not_yet_line
+-- what a status says of the bytes on the output and the line on the error output, by the outputs that may be and the
+-- files to which the run comes
+abbrev pub Ends : (Output → Type 0) → (List ℕ → Type 0) → (List ℕ → Type 0) → (List ℕ → Type 0) → Status → Type 0
+Ends is_output comes_to written told Clean = Decided is_output written told Clean
+Ends is_output comes_to written told Findings = Decided is_output written told Findings
+Ends is_output comes_to written told Usage = Decided is_output written told Usage
+Ends is_output comes_to written told SchemaRefused = Decided is_output written told SchemaRefused
+Ends is_output comes_to written told DocumentRefused = Decided is_output written told DocumentRefused
+Ends is_output comes_to written told ScriptRefused = Decided is_output written told ScriptRefused
+Ends is_output comes_to written told Faulted = Decided is_output written told Faulted
+Ends is_output comes_to written told Missing = Decided is_output written told Missing
+Ends is_output comes_to written told NotYet = Decided is_output written told NotYet
+Ends is_output comes_to written told ReadFault = Unread comes_to written told
+Ends is_output comes_to written told WriteFault = Fronted is_output written × told write_fault_line
+Ends is_output comes_to written told Memory = (written [] ⊎ Fronted is_output written) × told memory_line
+
+-- the same over a shelf that tells its files; one that tells none decides nothing
+abbrev pub EndsOver : Option Files → List (List ℕ) → (List ℕ → Type 0) → (List ℕ → Type 0) → Status → Type 0
+EndsOver None words written told status = Unit {0}
+EndsOver (Some files) words written told status = Ends (IsOutput words files) (ComesTo (command_of words) files) written told status
+
+-- the line of a status; a name in it is a file's of the command
+abbrev pub IsLineOf : Option Command → Status → List ℕ → Type 0
+IsLineOf command Clean line = line ≡ []
+IsLineOf command Findings line = line ≡ []
+IsLineOf command Usage line = line ≡ usage_line
+IsLineOf command SchemaRefused line = ⊥
+IsLineOf command DocumentRefused line = (refusal : Refusal) × (line ≡ document_refused_line refusal)
+IsLineOf command ScriptRefused line = ⊥
+IsLineOf command Faulted line = ⊥
+IsLineOf command Missing line = (name : List ℕ) × IsNamedIn command name × (line ≡ missing_line name)
+IsLineOf command ReadFault line = (name : List ℕ) × IsNamedIn command name × (line ≡ read_fault_line name)
+IsLineOf command WriteFault line = line ≡ write_fault_line
+IsLineOf command Memory line = line ≡ memory_line
+IsLineOf command NotYet line = line ≡ not_yet_line
+
+-- a run that ends so may have written to the output
+abbrev pub may_write : Status → Bool
+may_write Clean = true
+may_write Findings = true
+may_write Usage = false
+may_write SchemaRefused = false
+may_write DocumentRefused = false
+may_write ScriptRefused = false
+may_write Faulted = false
+may_write Missing = false
+may_write ReadFault = false
+may_write WriteFault = true
+may_write Memory = true
+may_write NotYet = false
 
 -- the command is one that this program does not carry out yet
 abbrev pub IsNotBuilt : Option Command → Type 0

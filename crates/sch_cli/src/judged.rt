@@ -2,7 +2,7 @@
 
 ghost use Rattle.std.specs.Prelude.{◌≡◌, IfOk};
 ghost use Rattle.sch_cli.specs.FirstSchema.{AreCounted};
-ghost use Rattle.sch_cli.specs.Judged.{Judges};
+ghost use Rattle.sch_cli.specs.inner.Judged.{Judges};
 ghost use Rattle.sch_cli.specs.Found.{has_finding};
 
 use crate::outcomes::outcome_of;

@@ -1,13 +1,13 @@
 //! The program's one call.
 
-ghost use Rattle.std.specs.Prelude.{◌≡◌, ℕ, List, ◌++◌, true, Option, Some, None, ◌↔◌};
+ghost use Rattle.std.specs.Prelude.{◌≡◌, ℕ, List, ◌↔◌, None, false};
 ghost use Rattle.sch_io.specs.Counts.{Rose};
-ghost use Rattle.sch_io.specs.Files.{Files};
+ghost use Rattle.sch_io.specs.Wrote.{Appends};
 ghost use Rattle.sch_cli.specs.declared.status.Status.TheVariants as statuses;
 ghost use Rattle.sch_cli.specs.Commands.{command_of};
-ghost use Rattle.sch_cli.specs.Output.{IsOutput};
-ghost use Rattle.sch_cli.specs.Runs.{Ends, Tells, IsLineOf, IsNotBuilt};
-ghost use Rattle.sch_cli.specs.Stops.{Blames, Concludes, NamesWord, is_read_fault, is_write_fault, status_of_end, line_of_end};
+ghost use Rattle.sch_cli.specs.Output.{IsNamedIn};
+ghost use Rattle.sch_cli.specs.Runs.{EndsOver, Tells, IsLineOf, IsNotBuilt, may_write};
+ghost use Rattle.sch_cli.specs.inner.Stops.{Blames, ConcludesOver, Names, StopsWith, status_of_end, line_of_end};
 
 use crate::command::{Command, command_of};
 use crate::status::Status;
@@ -19,6 +19,7 @@ use std::alloc::Global;
 
 /// Carries out what the words ask for, over the files of the shelf: the report goes to `out`, and where the run was
 /// stopped its one line goes to `err`, whose failure changes no status.
+#[tactic(auto, using(crate::proofs::RunLemmas::run_ends, crate::proofs::RunLemmas::line_named))]
 pub fn run<S: Shelf, O: Sink, E: Sink>(
     alloc: Global,
     words: &Words,
@@ -26,18 +27,17 @@ pub fn run<S: Shelf, O: Sink, E: Sink>(
     out: &mut O,
     err: &mut E,
 ) -> Status
-    // over a shelf that tells its files and an output that tells its bytes, the run ends as the files and words say
-    ensures whole { (files : Files) (had : List ℕ) → S.files shelf.old ≡ Some files → O.written out.old ≡ Some had →
-        Ends words.now files (λ bytes. O.written out.new ≡ Some (had ++ bytes))
+    // over a shelf that tells its files, the run ends as the files and words say
+    ensures whole { EndsOver (S.files shelf.old) words.now (Appends (O.written out.old) (O.written out.new))
         (Tells (E.written err.old) (E.written err.new) (E.faults err.old) (E.faults err.new)) result }
-    ensures line { (line : List ℕ) × IsLineOf words.now result line
+    ensures line { (line : List ℕ) × IsLineOf (command_of words.now) result line
         × Tells (E.written err.old) (E.written err.new) (E.faults err.old) (E.faults err.new) line }
     ensures usage { (result ≡ statuses.Usage) ↔ (command_of words.now ≡ None) }
     ensures not_built { IsNotBuilt (command_of words.now) → result ≡ statuses.NotYet }
     // a fault of the outside is told only where its count rose
     ensures missing { result ≡ statuses.Missing → Rose (S.misses shelf.old) (S.misses shelf.new) }
     ensures read_fault { result ≡ statuses.ReadFault → Rose (S.faults shelf.old) (S.faults shelf.new) }
-    ensures nothing_written { result ≡ statuses.ReadFault → O.written out.new ≡ O.written out.old }
+    ensures untouched { may_write result ≡ false → O.written out.new ≡ O.written out.old }
     ensures write_fault { result ≡ statuses.WriteFault → Rose (O.faults out.old) (O.faults out.new) }
     ensures held { S.files shelf.new ≡ S.files shelf.old }
 {
@@ -51,14 +51,13 @@ fn carry_out<'w, S: Shelf, O: Sink>(
     shelf: &mut S,
     out: &mut O,
 ) -> Result<bool, Stop<'w>>
-    ensures whole { (files : Files) (had : List ℕ) → S.files shelf.old ≡ Some files → O.written out.old ≡ Some had →
-        Concludes (IsOutput words.now files) (λ bytes. O.written out.new ≡ Some (had ++ bytes)) result }
-    ensures named { NamesWord words.now result }
+    ensures whole { ConcludesOver (S.files shelf.old) words.now (Appends (O.written out.old) (O.written out.new)) result }
+    ensures named { Names (IsNamedIn (command_of words.now)) result }
     ensures usage { (status_of_end result ≡ statuses.Usage) ↔ (command_of words.now ≡ None) }
     ensures not_built { IsNotBuilt (command_of words.now) → status_of_end result ≡ statuses.NotYet }
     ensures blames { Blames (S.misses shelf.old) (S.misses shelf.new) (S.faults shelf.old) (S.faults shelf.new) result }
-    ensures write_fault { is_write_fault result ≡ true → Rose (O.faults out.old) (O.faults out.new) }
-    ensures nothing_written { is_read_fault result ≡ true → O.written out.new ≡ O.written out.old }
+    ensures write_fault { StopsWith statuses.WriteFault result → Rose (O.faults out.old) (O.faults out.new) }
+    ensures untouched { may_write (status_of_end result) ≡ false → O.written out.new ≡ O.written out.old }
     ensures held { S.files shelf.new ≡ S.files shelf.old }
 {
     match command_of(words.as_slice()) {
@@ -77,12 +76,7 @@ fn carry_out<'w, S: Shelf, O: Sink>(
 /// Tells the line of a run that was stopped, and says how the run ended.
 fn conclude<E: Sink>(ended: Result<bool, Stop<'_>>, err: &mut E) -> Status
     ensures status { result ≡ status_of_end ended.entry }
-    ensures whole { (words : List (List ℕ)) (files : Files) (had : List ℕ) (out : Option (List ℕ)) →
-        Concludes (IsOutput words files) (λ bytes. out ≡ Some (had ++ bytes)) ended.entry →
-        Ends words files (λ bytes. out ≡ Some (had ++ bytes))
-        (Tells (E.written err.old) (E.written err.new) (E.faults err.old) (E.faults err.new)) result }
-    ensures line { (words : List (List ℕ)) → NamesWord words ended.entry → (line : List ℕ) × IsLineOf words result line
-        × Tells (E.written err.old) (E.written err.new) (E.faults err.old) (E.faults err.new) line }
+    ensures told { Tells (E.written err.old) (E.written err.new) (E.faults err.old) (E.faults err.new) (line_of_end ended.entry) }
 {
     let status = status_of(&ended);
     if let Err(stop) = ended {

@@ -3,7 +3,7 @@
 ghost use Rattle.std.specs.Prelude.{◌≡◌, ℕ, ◌<◌, List, [], ◌∷◌, Some, None, IfOk, IfSome, OnOk, OnErr, MatchOption, option_map, is_some, length};
 ghost use Rattle.pyx_core.specs.Nesting.{bare};
 ghost use Rattle.sch_cli.specs.FirstSchema.{is_test, IsFirstSchema, IsOtherSchema, AreCounted};
-ghost use Rattle.sch_cli.specs.SchemaWalk.{shown_place, shown_step, only_attribute, is_bare_start, is_end, chars_of, opens_schema, opens_rule, opens_assert, go_if, follow, in_pattern, in_rule, in_assert, changed, shown_change, walk, outside, HasRoom};
+ghost use Rattle.sch_cli.specs.inner.SchemaWalk.{shown_place, shown_step, only_attribute, is_bare_start, is_end, chars_of, opens_schema, opens_rule, opens_assert, go_if, follow, in_pattern, in_rule, in_assert, changed, shown_change, walk, outside, HasRoom};
 
 use pyx_core::{Event, FeedError, Located, Mode, events_are_few, read_events};
 use sch_base::is_ncname;
@@ -11,7 +11,7 @@ use std::alloc::{AllocError, Global};
 use svrl_out::Plan;
 
 /// How many bytes a schema may have so far.
-const LONGEST_SCHEMA: usize = 65_536;
+pub(crate) const MAX_SCHEMA_BYTES: usize = 65_536;
 
 /// The namespace of Schematron.
 const SCHEMATRON: &str = "http://purl.oclc.org/dsdl/schematron";
@@ -234,7 +234,7 @@ pub fn read_schema(alloc: Global, bytes: &[u8]) -> Result<Option<Plan>, AllocErr
     ensures exact { IfOk result (λ plan. MatchOption plan (IsOtherSchema bytes.now) (IsFirstSchema bytes.now)) }
     ensures few { IfOk result (λ plan. IfSome plan AreCounted) }
 {
-    if bytes.len() > LONGEST_SCHEMA {
+    if bytes.len() > MAX_SCHEMA_BYTES {
         return Ok(None);
     }
     let events = match read_events(alloc, Mode::Document, bytes) {

@@ -4,7 +4,7 @@ ghost use Rattle.std.specs.Prelude.{◌≡◌, ◌++◌, codes};
 ghost use Rattle.pyx_write.specs.Escapes.{escaped};
 ghost use Rattle.sch_io.specs.Wrote.{Wrote};
 ghost use Rattle.sch_cli.specs.declared.stop.Stop.TheVariants as stops;
-ghost use Rattle.sch_cli.specs.Stops.{line_of, status_of};
+ghost use Rattle.sch_cli.specs.inner.Stops.{line_of, status_of};
 
 use crate::refusal::Refusal;
 use crate::status::Status;

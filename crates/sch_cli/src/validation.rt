@@ -1,13 +1,16 @@
 //! A validation: the schema and the document read, the rules tried at each node, the report written.
 
-ghost use Rattle.std.specs.Prelude.{◌≡◌, ◌≤◌, ◌++◌, ℕ, List, true, Some, None, IfOk, IfSome, length};
+ghost use Rattle.std.specs.Prelude.{◌≡◌, ◌≤◌, ◌⊎◌, false, Some, IfOk, IfSome, length};
 ghost use Rattle.sch_io.specs.Counts.{Rose};
 ghost use Rattle.sch_io.specs.Files.{Files};
-ghost use Rattle.sch_cli.specs.FirstSchema.{IsFirstSchema, IsOtherSchema, AreCounted};
-ghost use Rattle.sch_cli.specs.Documents.{IsRefused, longest_file};
+ghost use Rattle.sch_io.specs.Wrote.{Appends};
+ghost use Rattle.sch_io.specs.declared.reading.TheConstants.{MAX_FILE_BYTES};
+ghost use Rattle.sch_cli.specs.declared.status.Status.TheVariants as statuses;
+ghost use Rattle.sch_cli.specs.FirstSchema.{AreCounted};
 ghost use Rattle.sch_cli.specs.Found.{finds};
-ghost use Rattle.sch_cli.specs.Output.{IsValidation, validated};
-ghost use Rattle.sch_cli.specs.Stops.{Loads, StopsAt, StopsAtEither, Blames, IsRead, NoOther, NoRefusal, IsTreeIn, Concludes, ReportsAs, is_write_fault, is_read_fault};
+ghost use Rattle.sch_cli.specs.Output.{IsPlanOf, IsValidation, IsReadBy, StopsAtSchema, StopsAtDocument, validated};
+ghost use Rattle.sch_cli.specs.Runs.{may_write};
+ghost use Rattle.sch_cli.specs.inner.Stops.{Loads, OnlyReads, Blames, IsRead, IsMissing, IsLoaded, Concludes, ReportsAs, StopsWith, Names, status_of_end};
 
 use crate::judged::judge;
 use crate::refusal::Refusal;
@@ -26,13 +29,13 @@ pub(crate) fn read_file<'w, S: Shelf>(
     name: &'w Text,
     shelf: &mut S,
 ) -> Result<Option<Bytes>, Stop<'w>>
-    ensures told { (files : Files) → S.files shelf.old ≡ Some files → Loads IsRead NoOther NoRefusal files name.now result }
-    ensures stops { StopsAt name.now result }
+    ensures told { (files : Files) → S.files shelf.old ≡ Some files → Loads (IsRead files name.now) (IsMissing files name.now) name.now result }
+    ensures only { OnlyReads name.now result }
     ensures held { S.files shelf.new ≡ S.files shelf.old }
     ensures blames { Blames (S.misses shelf.old) (S.misses shelf.new) (S.faults shelf.old) (S.faults shelf.new) result }
     ensures faults_later { S.faults shelf.old ≤ S.faults shelf.new }
     ensures misses_later { S.misses shelf.old ≤ S.misses shelf.new }
-    ensures short { IfOk result (λ found. IfSome found (λ bytes. length bytes ≤ longest_file)) }
+    ensures short { IfOk result (λ found. IfSome found (λ bytes. length bytes ≤ MAX_FILE_BYTES)) }
 {
     match read_all(alloc, shelf, name.as_str()) {
         Ok(bytes) => Ok(Some(bytes)),
@@ -44,14 +47,15 @@ pub(crate) fn read_file<'w, S: Shelf>(
 }
 
 /// The plan of the named schema.
+#[tactic(auto, using(crate::proofs::EndLemmas::schema_missing))]
 pub(crate) fn load_plan<'w, S: Shelf>(
     alloc: Global,
     name: &'w Text,
     shelf: &mut S,
 ) -> Result<Plan, Stop<'w>>
-    ensures told { (files : Files) → S.files shelf.old ≡ Some files → Loads IsFirstSchema IsOtherSchema NoRefusal files name.now result }
+    ensures told { (files : Files) → S.files shelf.old ≡ Some files → Loads (IsPlanOf files name.now) (StopsAtSchema files name.now) name.now result }
     ensures counted { IfOk result (λ plan. AreCounted plan) }
-    ensures stops { StopsAt name.now result }
+    ensures only { OnlyReads name.now result }
     ensures held { S.files shelf.new ≡ S.files shelf.old }
     ensures blames { Blames (S.misses shelf.old) (S.misses shelf.new) (S.faults shelf.old) (S.faults shelf.new) result }
     ensures faults_later { S.faults shelf.old ≤ S.faults shelf.new }
@@ -67,13 +71,14 @@ pub(crate) fn load_plan<'w, S: Shelf>(
 }
 
 /// The tree of the named document.
+#[tactic(auto, using(crate::proofs::EndLemmas::document_missing))]
 pub(crate) fn load_document<'w, S: Shelf>(
     alloc: Global,
     name: &'w Text,
     shelf: &mut S,
 ) -> Result<Tree, Stop<'w>>
-    ensures told { (files : Files) → S.files shelf.old ≡ Some files → Loads IsTreeIn NoOther IsRefused files name.now result }
-    ensures stops { StopsAt name.now result }
+    ensures told { (files : Files) → S.files shelf.old ≡ Some files → Loads (IsLoaded files name.now) (StopsAtDocument files name.now) name.now result }
+    ensures only { OnlyReads name.now result }
     ensures held { S.files shelf.new ≡ S.files shelf.old }
     ensures blames { Blames (S.misses shelf.old) (S.misses shelf.new) (S.faults shelf.old) (S.faults shelf.new) result }
     ensures faults_later { S.faults shelf.old ≤ S.faults shelf.new }
@@ -97,12 +102,13 @@ pub(crate) fn validate<'w, S: Shelf, O: Sink>(
     shelf: &mut S,
     out: &mut O,
 ) -> Result<bool, Stop<'w>>
-    ensures whole { (files : Files) (had : List ℕ) → S.files shelf.old ≡ Some files → O.written out.old ≡ Some had →
-        Concludes (IsValidation files schema.now document.now) (λ bytes. O.written out.new ≡ Some (had ++ bytes)) result }
-    ensures stops { StopsAtEither schema.now document.now result }
+    ensures whole { (files : Files) → S.files shelf.old ≡ Some files →
+        Concludes (IsValidation files schema.now document.now) (IsReadBy files schema.now document.now) (Appends (O.written out.old) (O.written out.new)) result }
+    ensures named { Names (λ name. (name ≡ schema.now) ⊎ (name ≡ document.now)) result }
+    ensures words { StopsWith statuses.Usage result → ⊥ }
     ensures blames { Blames (S.misses shelf.old) (S.misses shelf.new) (S.faults shelf.old) (S.faults shelf.new) result }
-    ensures write_fault { is_write_fault result ≡ true → Rose (O.faults out.old) (O.faults out.new) }
-    ensures nothing_written { is_read_fault result ≡ true → O.written out.new ≡ O.written out.old }
+    ensures write_fault { StopsWith statuses.WriteFault result → Rose (O.faults out.old) (O.faults out.new) }
+    ensures untouched { may_write (status_of_end result) ≡ false → O.written out.new ≡ O.written out.old }
     ensures held { S.files shelf.new ≡ S.files shelf.old }
 {
     let plan = load_plan(alloc, schema, shelf)?;

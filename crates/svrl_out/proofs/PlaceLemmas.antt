@@ -4,7 +4,8 @@ use Rattle.std.proofs.Math.Seq.{take-suc, drop-cons}
 use Rattle.std.proofs.Math.ListN.{take-append-drop}
 use Rattle.std.proofs.lemmas.Bool.{eqb-true, eq-eqb, false_from_ne_true}
 use Rattle.doc_tree.specs.Lists.{mem, occurs, Distinct}
-use Rattle.svrl_out.specs.Locations.{count_of, place_among}
+use Rattle.svrl_out.specs.Locations.{place_among}
+use Rattle.svrl_out.specs.inner.Places.{count_of}
 
 -- a number is itself
 same : (n : ℕ) → (n == n) ≡ true

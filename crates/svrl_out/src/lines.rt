@@ -2,7 +2,7 @@
 
 ghost use Rattle.std.specs.List.{flat_map};
 ghost use Rattle.sch_io.specs.Wrote.{Wrote};
-ghost use Rattle.svrl_out.specs.Lines.{line_text};
+ghost use Rattle.svrl_out.specs.inner.Lines.{line_text};
 
 use pyx_write::{write_attr, write_chars, write_end, write_start};
 use sch_io::{Failed, Sink};

@@ -4,7 +4,8 @@ ghost use Rattle.std.specs.Prelude.{◌≡◌, ℕ, ◌<◌, ◌++◌, Bool, tru
 ghost use Rattle.doc_tree.specs.Lists.{mem, Distinct};
 ghost use Rattle.doc_tree.specs.Table.{is_live};
 ghost use Rattle.doc_tree.specs.Walks.{above, order};
-ghost use Rattle.svrl_out.specs.Locations.{HasLocation, is_element, location_of, steps_of, place_among, HoldsKids, HoldsPlaces, AreBelow, AreLive};
+ghost use Rattle.svrl_out.specs.Locations.{HasLocation, is_element_node, location_of, steps_of, place_among};
+ghost use Rattle.svrl_out.specs.inner.Places.{HoldsKids, HoldsPlaces, AreBelow, AreLive};
 
 use doc_tree::{Kind, NodeId, Tree};
 use sch_base::Text;
@@ -108,8 +109,8 @@ fn count_elements(places: &mut [usize], tree: &Tree, kids: &[NodeId])
     requires room { AreBelow kids.now (length places.old) }
     requires live { AreLive tree.now.nodes kids.now }
     requires once { Distinct kids.now }
-    ensures placed { (kid : ℕ) → mem kid kids.now ≡ true → is_element tree.now.nodes kid ≡ true →
-        slice_index_or places.new kid 0 ≡ place_among (is_element tree.now.nodes) kid kids.now }
+    ensures placed { (kid : ℕ) → mem kid kids.now ≡ true → is_element_node tree.now.nodes kid ≡ true →
+        slice_index_or places.new kid 0 ≡ place_among (is_element_node tree.now.nodes) kid kids.now }
     ensures others { (n : ℕ) → mem n kids.now ≡ false → slice_index_or places.new n 0 ≡ slice_index_or places.old n 0 }
 {
     let mut count = 0;
@@ -124,7 +125,7 @@ fn count_elements(places: &mut [usize], tree: &Tree, kids: &[NodeId])
 /// Whether the node is an element.
 fn is_element(tree: &Tree, n: NodeId) -> bool
     requires { is_live tree.now.nodes n ≡ true }
-    ensures { result ≡ is_element tree.now.nodes n }
+    ensures { result ≡ is_element_node tree.now.nodes n }
 {
     matches!(tree.kind(n), Kind::Element)
 }

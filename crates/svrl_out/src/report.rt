@@ -9,7 +9,7 @@ ghost use Rattle.doc_tree.specs.Table.{is_live};
 ghost use Rattle.svrl_out.specs.Findings.{outcome_at};
 ghost use Rattle.svrl_out.specs.Locations.{location_of};
 ghost use Rattle.svrl_out.specs.Report.{report, report_start, report_end, fired_rule, failed_assert, finding_lines, IsReportable, AreAssertsOf, Reported};
-ghost use Rattle.svrl_out.specs.Printer.{IsReady, IsReportableAt, printed_lines};
+ghost use Rattle.svrl_out.specs.inner.Printer.{IsReady, IsReportableAt, printed_lines};
 
 use crate::findings::{Finding, FindingList, Findings, Outcome};
 use crate::lines::{Line, write_lines};

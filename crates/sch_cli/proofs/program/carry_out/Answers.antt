@@ -1,21 +1,21 @@
 -- The validation that the words ask for ends the run.
 use Rattle.std.proofs.Common.{None}
 use Rattle.sch_cli.specs.declared.command.Command.TheVariants as borrowed
-use Rattle.sch_cli.proofs.RunLemmas.{asks_validation, carries, words_name, names_either}
+use Rattle.sch_cli.proofs.RunLemmas.{asks_validation, carries, names_file}
 use Rattle.sch_cli.proofs.program.carry_out.Goals as goal
 
 pub returns-in-Some-Validate-None-default-default-clause-whole : goal.returns-in-Some-Validate-None-default-default-clause-whole
-returns-in-Some-Validate-None-default-default-clause-whole g c = λ files had told out.
+returns-in-Some-Validate-None-default-default-clause-whole g c =
     let at = c.in-Some-Validate-None-default-default in
     let is = at.is in let command = at.field-0-is in let phase = at.field-0-0-is in let schema = at.schema-is in let document = at.document-is in
-    carries c.args.words.now files at.schema.now at.document.now _ c.validate.result
+    carries c.args.words.now _ at.schema.now at.document.now _ c.validate.result
     (rw (← c.as_slice.ensures) (asks_validation c.as_slice.result.now c.command_of.result (borrowed.Validate None at.schema at.document) c.command_of.ensures (cc)))
-    (c.validate.ensures.whole files had told out)
+    c.validate.ensures.whole
 
 pub returns-in-Some-Validate-None-default-default-clause-named : goal.returns-in-Some-Validate-None-default-default-clause-named
 returns-in-Some-Validate-None-default-default-clause-named g c =
     let at = c.in-Some-Validate-None-default-default in
     let is = at.is in let command = at.field-0-is in let phase = at.field-0-0-is in let schema = at.schema-is in let document = at.document-is in
-    names_either c.args.words.now at.schema.now at.document.now
-    (words_name c.args.words.now at.schema.now at.document.now (rw (← c.as_slice.ensures) (asks_validation c.as_slice.result.now c.command_of.result (borrowed.Validate None at.schema at.document) c.command_of.ensures (cc))))
-    c.validate.result c.validate.ensures.stops
+    names_file c.args.words.now at.schema.now at.document.now c.validate.result
+    (rw (← c.as_slice.ensures) (asks_validation c.as_slice.result.now c.command_of.result (borrowed.Validate None at.schema at.document) c.command_of.ensures (cc)))
+    c.validate.ensures.named

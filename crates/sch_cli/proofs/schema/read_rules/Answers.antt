@@ -2,7 +2,7 @@
 use Rattle.std.proofs.Common.{suc, drop, sym, ap, add-one}
 use Rattle.std.proofs.Math.Seq.{drop-cons}
 use Rattle.pyx_core.specs.Nesting.{bare}
-use Rattle.sch_cli.specs.SchemaWalk.{shown_place, shown_step}
+use Rattle.sch_cli.specs.inner.SchemaWalk.{shown_place, shown_step}
 use Rattle.sch_cli.proofs.SchemaWalkLemmas.{placed-follow, walk-step}
 use Rattle.sch_cli.proofs.schema.read_rules.Goals as goal
 

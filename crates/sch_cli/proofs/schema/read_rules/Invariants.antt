@@ -1,7 +1,7 @@
 -- What is walked so far, and what is left, are together the whole walk.
 use Rattle.std.proofs.Common.{◌≡◌, [], drop}
 use Rattle.pyx_core.specs.Nesting.{bare}
-use Rattle.sch_cli.specs.SchemaWalk.{shown_place, walk, outside, IsPlaced}
+use Rattle.sch_cli.specs.inner.SchemaWalk.{shown_place, walk, outside, IsPlaced}
 use Rattle.sch_cli.proofs.schema.read_rules.Given as goal
 
 abbrev pub invariant-loop-located : goal.invariant-loop-located

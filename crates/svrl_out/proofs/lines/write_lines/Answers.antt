@@ -1,5 +1,5 @@
 -- A line that was not written whole leaves a front of all.
-use Rattle.svrl_out.specs.Lines.{line_text}
+use Rattle.svrl_out.specs.inner.Lines.{line_text}
 use Rattle.svrl_out.proofs.WriteLemmas.{wrote_cut_or}
 use Rattle.svrl_out.proofs.lines.write_lines.Goals as goal
 

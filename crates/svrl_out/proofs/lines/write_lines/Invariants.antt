@@ -3,7 +3,7 @@ use Rattle.std.proofs.Common.{take, Ok}
 use Rattle.std.specs.List.{flat_map}
 use Rattle.sch_io.specs.Wrote.{Wrote}
 use Rattle.sch_io.specs.declared.error.Failed.{Failed}
-use Rattle.svrl_out.specs.Lines.{line_text}
+use Rattle.svrl_out.specs.inner.Lines.{line_text}
 use Rattle.svrl_out.proofs.lines.write_lines.Given as goal
 
 abbrev pub invariant-loop-line : goal.invariant-loop-line

@@ -1,6 +1,6 @@
 -- Each kid is counted in its turn.
 use Rattle.std.proofs.Common.{◌<◌, length, suc, take, drop, sym, arith}
-use Rattle.svrl_out.specs.Locations.{is_element}
+use Rattle.svrl_out.specs.Locations.{is_element_node}
 use Rattle.svrl_out.proofs.PlaceLemmas.{counted-place, counted-skip, mem-at, cut_at, take-next}
 use Rattle.svrl_out.proofs.locations.count_elements.Goals as goal
 use Rattle.svrl_out.proofs.locations.count_elements.Goals.{then-is_element, else-is_element}
@@ -23,9 +23,9 @@ loop-kid-preserved c =
     let cut = cut_at kids i kid c.kid-item.is c.loop-kid-test.true in
     elim c.if-is_element.branch [
       | then-is_element w ↦ rw (take-next kids i kid c.kid-item.is c.loop-kid-test.true, w.places-is, w.count-is, w.index.ensures.value)
-          (counted-place (is_element c.args.tree.now.nodes) c.args.places.now kids (take i kids) (drop (suc i) kids) c.loop-kid.places kid c.loop-kid.count cut c.requires.once
+          (counted-place (is_element_node c.args.tree.now.nodes) c.args.places.now kids (take i kids) (drop (suc i) kids) c.loop-kid.places kid c.loop-kid.count cut c.requires.once
           (rw c.loop-kid.auto.places (c.requires.room kid (mem-at kids i kid c.kid-item.is c.loop-kid-test.true))) (sym w.if-is_element.ensures) c.loop-kid.invariant)
       | else-is_element w ↦ rw (take-next kids i kid c.kid-item.is c.loop-kid-test.true, w.places-is, w.count-is)
-          (counted-skip (is_element c.args.tree.now.nodes) c.args.places.now kids (take i kids) (drop (suc i) kids) c.loop-kid.places kid c.loop-kid.count cut
+          (counted-skip (is_element_node c.args.tree.now.nodes) c.args.places.now kids (take i kids) (drop (suc i) kids) c.loop-kid.places kid c.loop-kid.count cut
           (sym w.if-is_element.ensures) c.loop-kid.invariant)
     ]

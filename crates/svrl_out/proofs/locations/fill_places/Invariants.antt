@@ -1,7 +1,7 @@
 -- The kids of the nodes so far have their places.
 use Rattle.std.proofs.Common.{◌≡◌, ℕ, true, take}
 use Rattle.doc_tree.specs.Lists.{mem}
-use Rattle.svrl_out.specs.Locations.{HoldsKids}
+use Rattle.svrl_out.specs.inner.Places.{HoldsKids}
 use Rattle.svrl_out.proofs.locations.fill_places.Given as goal
 
 abbrev pub invariant-loop-n : goal.invariant-loop-n

@@ -1,6 +1,6 @@
 -- The number is above those of the nodes so far.
 use Rattle.std.proofs.Common.{take, ◌≤◌, ◌^◌}
-use Rattle.svrl_out.specs.Locations.{AreBelow}
+use Rattle.svrl_out.specs.inner.Places.{AreBelow}
 use Rattle.svrl_out.proofs.locations.numbers_of.Given as goal
 
 abbrev pub invariant-loop-n : goal.invariant-loop-n

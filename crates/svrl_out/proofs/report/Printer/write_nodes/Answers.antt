@@ -1,7 +1,7 @@
 -- Each node in its turn; one that was not written whole leaves a front of all.
 use Rattle.std.proofs.Common.{Err, ap, ◌∙◌}
 use Rattle.std.proofs.lemmas.Result.{err_from_is_err_and}
-use Rattle.svrl_out.specs.Printer.{printed_lines}
+use Rattle.svrl_out.specs.inner.Printer.{printed_lines}
 use Rattle.svrl_out.proofs.PlaceLemmas.{mem-at}
 use Rattle.svrl_out.proofs.ReportLemmas.{reported_cut}
 use Rattle.svrl_out.proofs.report.Printer.write_nodes.Goals as goal

@@ -2,7 +2,7 @@
 use Rattle.std.proofs.Common.{take, Ok}
 use Rattle.std.specs.List.{flat_map}
 use Rattle.svrl_out.specs.Report.{Reported}
-use Rattle.svrl_out.specs.Printer.{printed_lines}
+use Rattle.svrl_out.specs.inner.Printer.{printed_lines}
 use Rattle.svrl_out.proofs.report.Printer.write_nodes.Given as goal
 
 abbrev pub invariant-loop-n : goal.invariant-loop-n

@@ -3,7 +3,7 @@ use Rattle.std.specs.Prelude.{◌≡◌, ℕ, true, List}
 use Rattle.doc_tree.specs.Table.{is_live}
 use Rattle.svrl_out.specs.declared.report.Printer.{Printer}
 use Rattle.svrl_out.specs.Findings.{outcome_at}
-use Rattle.svrl_out.specs.Locations.{HoldsPlaces}
+use Rattle.svrl_out.specs.inner.Places.{HoldsPlaces}
 use Rattle.svrl_out.specs.Report.{node_lines, IsOutcomeOf}
 
 -- the places of all elements are at hand, and the outcomes are of one pattern
