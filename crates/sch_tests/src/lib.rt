@@ -4,4 +4,6 @@
 #[cfg(test)]
 mod locations;
 #[cfg(test)]
+mod reports;
+#[cfg(test)]
 mod runs;

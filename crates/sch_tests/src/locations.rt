@@ -1,8 +1,8 @@
-//! Locations in use; the report is tested with the whole run.
+//! Locations in use; those of elements are tested with the reports.
 
-use crate::location;
 use doc_tree::Tree;
 use std::test::Fail;
+use svrl_out::location;
 
 #[test]
 fn location_of_the_root(rt: HostRuntime) -> Result<(), Fail> {

@@ -1,132 +1,51 @@
 //! The library in use, over a shelf and sinks in memory.
 
-use crate::{Status, Words, run};
+use crate::reports::{
+    EMPTY_LIST, ITEMS, ITEMS_REPORT, LISTS, LISTS_REPORT, NOTHING_FIRED, TWO_ITEMS,
+};
+use sch_cli::{Status, Words, run};
 use sch_io::{MemoryShelf, MemorySink};
-use std::alloc::{AllocError, Global};
+use std::alloc::Global;
 use std::process::Abort;
+use std::str;
 use std::test::Fail;
 
 /// How many bytes a sink of a test holds.
 const ROOM: usize = 4_096;
 
-/// One rule for items, with one assert.
-const SCHEMA: &[u8] = b"\
-(schema\n\
-Axmlns http://purl.oclc.org/dsdl/schematron\n\
-(pattern\n\
-(rule\n\
-Acontext item\n\
-(assert\n\
-Atest @id\n\
--An item has an id.\n\
-)assert\n\
-)rule\n\
-)pattern\n\
-)schema\n";
+/// Words that are accepted and schemas that are none of the first form; the status and the line.
+const NOT_OF_THE_FIRST_FORM: &str = "\
+validate --phase p s.pyx d.pyx => 11 sch: not yet\n\
+expand s.pyx => 11 sch: not yet\n\
+validate d.pyx d.pyx => 11 sch: not yet\n";
 
-/// Two items, of which the second has no id.
-const DOCUMENT: &[u8] = b"\
-(list\n\
-(item\n\
-Aid 1\n\
-)item\n\
-(item\n\
-)item\n\
-)list\n";
+/// Words that name a file that is not there, and words that are not accepted.
+const MISSING_AND_USAGE: &str = "\
+validate none.pyx d.pyx => 7 sch: missing: none.pyx\n\
+validate s.pyx none.pyx => 7 sch: missing: none.pyx\n\
+validate none.pyx other.pyx => 7 sch: missing: none.pyx\n\
+validate s.pyx => 2 sch: usage\n\
+check s.pyx d.pyx => 2 sch: usage\n";
 
-/// The report of that document.
-const REPORT: &[u8] = b"\
-(svrl:schematron-output\n\
-Axmlns:svrl http://purl.oclc.org/dsdl/svrl\n\
-(svrl:active-pattern\n\
-)svrl:active-pattern\n\
-(svrl:fired-rule\n\
-Acontext item\n\
-)svrl:fired-rule\n\
-(svrl:fired-rule\n\
-Acontext item\n\
-)svrl:fired-rule\n\
-(svrl:failed-assert\n\
-Alocation /*[1]/*[2]\n\
-Atest @id\n\
-(svrl:text\n\
--An item has an id.\n\
-)svrl:text\n\
-)svrl:failed-assert\n\
-)svrl:schematron-output\n";
+/// Two documents, whose lines end at `|`, that end wrong or too early, and the lines that say so.
+const WRONG_END_AND_NO_ROOT: &str = "\
+(a|(b|)a| => 4 sch: document refused: line 3 WrongEnd\n\
+\x20=> 4 sch: document refused: line 1 NoRoot\n";
 
-/// A rule for another element, and two rules for lists.
-const TWO_RULES: &[u8] = b"\
-(schema\n\
-Axmlns http://purl.oclc.org/dsdl/schematron\n\
-(pattern\n\
-(rule\n\
-Acontext _p\n\
-(assert\n\
-Atest @n\n\
--A b\n\
-)assert\n\
-)rule\n\
-(rule\n\
-Acontext list\n\
-(assert\n\
-Atest @a\n\
--q'uote\"s\n\
-)assert\n\
-(assert\n\
-Atest @n\n\
--two  spaces\n\
-)assert\n\
-(assert\n\
-Atest @k_2\n\
---\n\
-)assert\n\
-)rule\n\
-(rule\n\
-Acontext list\n\
-(assert\n\
-Atest @x\n\
--q'uote\"s\n\
-)assert\n\
-(assert\n\
-Atest @k_2\n\
--(not a tag\n\
-)assert\n\
-)rule\n\
-)pattern\n\
-)schema\n";
-
-/// Their report of an empty list: the second rule fires alone, its findings in the order of its asserts.
-const TWO_RULES_REPORT: &[u8] = b"\
-(svrl:schematron-output\n\
-Axmlns:svrl http://purl.oclc.org/dsdl/svrl\n\
-(svrl:active-pattern\n\
-)svrl:active-pattern\n\
-(svrl:fired-rule\n\
-Acontext list\n\
-)svrl:fired-rule\n\
-(svrl:failed-assert\n\
-Alocation /*[1]\n\
-Atest @a\n\
-(svrl:text\n\
--q'uote\"s\n\
-)svrl:text\n\
-)svrl:failed-assert\n\
-(svrl:failed-assert\n\
-Alocation /*[1]\n\
-Atest @n\n\
-(svrl:text\n\
--two  spaces\n\
-)svrl:text\n\
-)svrl:failed-assert\n\
-(svrl:failed-assert\n\
-Alocation /*[1]\n\
-Atest @k_2\n\
-(svrl:text\n\
---\n\
-)svrl:text\n\
-)svrl:failed-assert\n\
-)svrl:schematron-output\n";
+/// The other faults of documents.
+const DOCUMENT_FAULTS: &str = "\
+(a|-\u{1}| => 4 sch: document refused: line 2 BadChar\n\
+(a|Xq| => 4 sch: document refused: line 2 UnknownLine\n\
+(a|&lt| => 4 sch: document refused: line 2 EntityLine\n\
+(1a| => 4 sch: document refused: line 1 BadName\n\
+(a|-t|Ab c| => 4 sch: document refused: line 3 AttributePlace\n\
+-x| => 4 sch: document refused: line 1 TextOutside\n\
+(a|)a|(b| => 4 sch: document refused: line 3 SecondRoot\n\
+(a| => 4 sch: document refused: line 2 Unfinished\n\
+(p:a|)p:a| => 4 sch: document refused: line 1 NoPrefix\n\
+(a|Ax 1|Ax 2|)a| => 4 sch: document refused: line 1 SameAttribute\n\
+(a|Axmlns:p|)a| => 4 sch: document refused: line 1 BadDeclaration\n\
+(a|Axmlns:p it's\"|)a| => 4 sch: document refused: line 1 BothQuotes\n";
 
 /// How a run over memory ended.
 #[derive(Drop)]
@@ -136,174 +55,157 @@ struct Ended {
     err: MemorySink,
 }
 
-/// Runs the words over a shelf and an output with room for that many bytes.
+/// Runs words over a shelf and an output with room for that many bytes.
 fn run_over(
     alloc: Global,
-    list: &[&str],
+    words: &str,
     mut shelf: MemoryShelf,
     room: usize,
-) -> Result<Ended, AllocError> {
-    let mut words = Words::new(alloc);
-    for word in list {
-        words.push(word)?;
+) -> Result<Ended, Fail> {
+    let mut list = Words::new(alloc);
+    for word in words.split(' ') {
+        list.push(word)?;
     }
     let mut out = MemorySink::with_room(alloc, room)?;
     let mut err = MemorySink::with_room(alloc, ROOM)?;
-    let status = run(alloc, &words, &mut shelf, &mut out, &mut err);
+    let status = run(alloc, &list, &mut shelf, &mut out, &mut err);
     Ok(Ended { status, out, err })
 }
 
-/// A shelf that holds the schema and the document.
-fn shelf_of(alloc: Global, schema: &[u8], document: &[u8]) -> Result<MemoryShelf, AllocError> {
+/// A shelf that holds a schema and a document.
+fn shelf_of(alloc: Global, schema: &[u8], document: &[u8]) -> Result<MemoryShelf, Fail> {
     let mut shelf = MemoryShelf::new(alloc);
     shelf.put("s.pyx", schema)?;
     shelf.put("d.pyx", document)?;
     Ok(shelf)
 }
 
-/// Validates a document by a schema.
-fn validate(alloc: Global, schema: &[u8], document: &[u8]) -> Result<Ended, AllocError> {
+/// The status of a run, and the line on its error output without its end.
+fn ending(alloc: Global, ended: &Ended) -> Result<String, Fail> {
+    let line = str::from_utf8(ended.err.written())?;
+    Ok(format!(in alloc; "{} {}", ended.status.code(), line.trim_end())?)
+}
+
+/// Asserts the report of a validation, and its status and line as a table tells them.
+fn validated(
+    rt: &impl Abort,
+    alloc: Global,
+    schema: &[u8],
+    document: &[u8],
+    report: &[u8],
+    wanted: &str,
+) -> Result<(), Fail> {
     let shelf = shelf_of(alloc, schema, document)?;
-    run_over(alloc, &["validate", "s.pyx", "d.pyx"], shelf, ROOM)
+    let ended = run_over(alloc, "validate s.pyx d.pyx", shelf, ROOM)?;
+    assert_eq!(rt; ended.out.written(), report, "{wanted}");
+    assert_eq!(rt; ending(alloc, &ended)?.as_str(), wanted);
+    Ok(())
+}
+
+/// Asserts that a run over two items, at which the shelf's call of a number fails, writes no report, and its status and
+/// line as a table tells them.
+fn stopped(
+    rt: &impl Abort,
+    alloc: Global,
+    words: &str,
+    fails: u64,
+    room: usize,
+    wanted: &str,
+) -> Result<(), Fail> {
+    let mut shelf = shelf_of(alloc, ITEMS, TWO_ITEMS)?;
+    shelf.fail_at(fails)?;
+    let ended = run_over(alloc, words, shelf, room)?;
+    assert!(rt; ended.out.written().is_empty(), "{wanted}");
+    assert_eq!(rt; ending(alloc, &ended)?.as_str(), wanted);
+    Ok(())
+}
+
+/// The two parts of a line of a table.
+fn parted(line: &str) -> Result<(&str, &str), Fail> {
+    match line.split_once(" => ") {
+        Some(parts) => Ok(parts),
+        None => Err("a line of a table without its mark".into()),
+    }
+}
+
+/// Asserts each line of a table of words.
+fn stopped_as(rt: &impl Abort, alloc: Global, table: &str) -> Result<(), Fail> {
+    for line in table.lines() {
+        let (words, wanted) = parted(line)?;
+        stopped(rt, alloc, words, 0, ROOM, wanted)?;
+    }
+    Ok(())
+}
+
+/// Asserts each line of a table of documents that are refused.
+fn refused_as(rt: &impl Abort, alloc: Global, table: &str) -> Result<(), Fail> {
+    for line in table.lines() {
+        let (document, wanted) = parted(line)?;
+        let document = document.replace(alloc, "|", "\n")?;
+        validated(rt, alloc, ITEMS, document.as_bytes(), b"", wanted)?;
+    }
+    Ok(())
 }
 
 #[test]
 fn one_missing_id(rt: HostRuntime) -> Result<(), Fail> {
-    let ended = validate(rt.alloc(), SCHEMA, DOCUMENT)?;
-    assert_eq!(rt; ended.status, Status::Findings, "memory is ample");
-    assert_eq!(rt; ended.out.written(), REPORT);
-    assert_eq!(rt; ended.err.written(), b"".as_slice());
-    Ok(())
+    validated(&rt, rt.alloc(), ITEMS, TWO_ITEMS, ITEMS_REPORT, "1 ")
 }
 
 #[test]
 fn first_rule_alone(rt: HostRuntime) -> Result<(), Fail> {
-    let ended = validate(rt.alloc(), TWO_RULES, b"(list\n)list\n")?;
-    assert_eq!(rt; ended.status, Status::Findings);
-    assert_eq!(rt; ended.out.written(), TWO_RULES_REPORT);
-    Ok(())
+    validated(&rt, rt.alloc(), LISTS, EMPTY_LIST, LISTS_REPORT, "1 ")
 }
 
 #[test]
 fn first_form_refused(rt: HostRuntime) -> Result<(), Fail> {
-    let phase = ["validate", "--phase", "p", "s.pyx", "d.pyx"];
-    let shelf = shelf_of(rt.alloc(), SCHEMA, DOCUMENT)?;
-    let ended = run_over(rt.alloc(), &phase, shelf, ROOM)?;
-    assert_eq!(rt; ended.status.code(), 11);
-    assert_eq!(rt; ended.out.written(), b"".as_slice());
-    assert_eq!(rt; ended.err.written(), b"sch: not yet\n".as_slice());
-    let ended = validate(rt.alloc(), DOCUMENT, DOCUMENT)?;
-    assert_eq!(rt; ended.status.code(), 11);
-    assert_eq!(rt; ended.out.written(), b"".as_slice());
-    Ok(())
+    stopped_as(&rt, rt.alloc(), NOT_OF_THE_FIRST_FORM)
+}
+
+#[test]
+fn usage_and_missing(rt: HostRuntime) -> Result<(), Fail> {
+    stopped_as(&rt, rt.alloc(), MISSING_AND_USAGE)
 }
 
 #[test]
 fn failing_outside(rt: HostRuntime) -> Result<(), Fail> {
-    let words = ["validate", "s.pyx", "d.pyx"];
-    let mut shelf = shelf_of(rt.alloc(), SCHEMA, DOCUMENT)?;
-    shelf.fail_at(2)?;
-    let ended = run_over(rt.alloc(), &words, shelf, ROOM)?;
-    assert_eq!(rt; ended.status.code(), 8);
-    assert_eq!(rt; ended.out.written(), b"".as_slice());
-    assert_eq!(rt; ended.err.written(), b"sch: read fault: s.pyx\n".as_slice());
-    let shelf = shelf_of(rt.alloc(), SCHEMA, DOCUMENT)?;
-    let ended = run_over(rt.alloc(), &words, shelf, 0)?;
-    assert_eq!(rt; ended.status.code(), 9);
-    assert_eq!(rt; ended.err.written(), b"sch: write fault\n".as_slice());
-    let ended = run_over(rt.alloc(), &words, MemoryShelf::new(rt.alloc()), ROOM)?;
-    assert_eq!(rt; ended.status.code(), 7);
-    assert_eq!(rt; ended.err.written(), b"sch: missing: s.pyx\n".as_slice());
-    Ok(())
-}
-
-/// That the document is refused with that line, and that nothing else is written.
-fn refused(rt: &impl Abort, alloc: Global, document: &[u8], line: &str) -> Result<(), AllocError> {
-    let ended = validate(alloc, SCHEMA, document)?;
-    assert_eq!(rt; ended.status.code(), 4, "{line}");
-    assert_eq!(rt; ended.out.written(), b"".as_slice(), "{line}");
-    assert_eq!(rt; ended.err.written(), line.as_bytes());
-    Ok(())
+    let words = "validate s.pyx d.pyx";
+    stopped(&rt, rt.alloc(), words, 2, ROOM, "8 sch: read fault: s.pyx")?;
+    stopped(&rt, rt.alloc(), words, 5, ROOM, "8 sch: read fault: d.pyx")?;
+    stopped(&rt, rt.alloc(), words, 0, 0, "9 sch: write fault")
 }
 
 #[test]
 fn wrong_end_and_no_root(rt: HostRuntime) -> Result<(), Fail> {
-    refused(
-        &rt,
-        rt.alloc(),
-        b"(a\n(b\n)a\n",
-        "sch: document refused: line 3 WrongEnd\n",
-    )?;
-    refused(
-        &rt,
-        rt.alloc(),
-        b"",
-        "sch: document refused: line 1 NoRoot\n",
-    )?;
-    Ok(())
+    refused_as(&rt, rt.alloc(), WRONG_END_AND_NO_ROOT)
 }
 
 #[test]
 fn document_faults(rt: HostRuntime) -> Result<(), Fail> {
-    let cases: [(&[u8], &str); 13] = [
-        (b"(a\n-\xff\n", "sch: document refused: line 2 NotUtf8\n"),
-        (b"(a\n-\x01\n", "sch: document refused: line 2 BadChar\n"),
-        (b"(a\nXq\n", "sch: document refused: line 2 UnknownLine\n"),
-        (b"(a\n&lt\n", "sch: document refused: line 2 EntityLine\n"),
-        (b"(1a\n", "sch: document refused: line 1 BadName\n"),
-        (
-            b"(a\n-t\nAb c\n",
-            "sch: document refused: line 3 AttributePlace\n",
-        ),
-        (b"-x\n", "sch: document refused: line 1 TextOutside\n"),
-        (
-            b"(a\n)a\n(b\n",
-            "sch: document refused: line 3 SecondRoot\n",
-        ),
-        (b"(a\n", "sch: document refused: line 2 Unfinished\n"),
-        (b"(p:a\n)p:a\n", "sch: document refused: line 1 NoPrefix\n"),
-        (
-            b"(a\nAx 1\nAx 2\n)a\n",
-            "sch: document refused: line 1 SameAttribute\n",
-        ),
-        (
-            b"(a\nAxmlns:p\n)a\n",
-            "sch: document refused: line 1 BadDeclaration\n",
-        ),
-        (
-            b"(a\nAxmlns:p it's\"\n)a\n",
-            "sch: document refused: line 1 BothQuotes\n",
-        ),
-    ];
-    for (document, line) in cases {
-        refused(&rt, rt.alloc(), document, line)?;
-    }
-    Ok(())
+    refused_as(&rt, rt.alloc(), DOCUMENT_FAULTS)?;
+    let document = b"(a\n-\xff\n";
+    let wanted = "4 sch: document refused: line 2 NotUtf8";
+    validated(&rt, rt.alloc(), ITEMS, document, b"", wanted)
 }
 
 /// A document of elements nested that deep.
-fn nested(alloc: Global, depth: usize) -> Result<Vec<u8>, AllocError> {
+fn nested(alloc: Global, depth: usize) -> Result<Vec<u8>, Fail> {
     let mut text = Vec::new(alloc);
-    for _ in 0..depth {
-        text.extend_from_slice(b"(a\n")?;
-    }
-    for _ in 0..depth {
-        text.extend_from_slice(b")a\n")?;
+    for line in [b"(a\n", b")a\n"] {
+        for _ in 0..depth {
+            text.extend_from_slice(line)?;
+        }
     }
     Ok(text)
 }
 
 #[test]
 fn depth_limit(rt: HostRuntime) -> Result<(), Fail> {
-    let deepest = nested(rt.alloc(), 256)?;
-    let ended = validate(rt.alloc(), SCHEMA, deepest.as_slice())?;
-    assert_eq!(rt; ended.status, Status::Clean);
-    let deeper = nested(rt.alloc(), 257)?;
-    refused(
-        &rt,
-        rt.alloc(),
-        deeper.as_slice(),
-        "sch: document refused: line 257 TooDeep\n",
-    )?;
-    Ok(())
+    let alloc = rt.alloc();
+    let deepest = nested(alloc, 256)?;
+    let report = NOTHING_FIRED;
+    validated(&rt, alloc, ITEMS, deepest.as_slice(), report, "0 ")?;
+    let deeper = nested(alloc, 257)?;
+    let wanted = "4 sch: document refused: line 257 TooDeep";
+    validated(&rt, alloc, ITEMS, deeper.as_slice(), b"", wanted)
 }
