@@ -3,4 +3,3 @@ pub mod LocationLemmas
 pub mod PlaceLemmas
 pub mod PlanLemmas
 pub mod ReportLemmas
-pub mod WriteLemmas

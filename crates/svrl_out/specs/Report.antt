@@ -1,9 +1,10 @@
 -- The report: SVRL in lines of PYX (ISO/IEC 19757-3, annex on SVRL).
-use Rattle.std.specs.Prelude.{◌≡◌, ℕ, ◌<◌, ◌≤◌, true, List, [], ◌∷◌, ◌++◌, length, codes, Option, None, Some, Result, Err, MatchResult, slice_index_or}
+use Rattle.std.specs.Prelude.{◌≡◌, ℕ, ◌<◌, true, List, [], ◌∷◌, ◌++◌, length, codes, Option, None, Some, Result, Ok, Err, MatchResult, slice_index_or}
 use Rattle.std.specs.List.{flat_map}
-use Rattle.sch_io.specs.Counts.{Rose}
+use Rattle.sch_io.specs.Counts.{one_more}
+use Rattle.sch_io.specs.SinkLog.{SinkLog}
 use Rattle.sch_io.specs.Wrote.{Appends}
-use Rattle.pyx_write.specs.Lines.{start_line, attr_line, end_line, chars_line}
+use Rattle.pyx_write.specs.Written.{start_line, attr_line, end_line, chars_line}
 use Rattle.doc_tree.specs.Lists.{mem}
 use Rattle.doc_tree.specs.Table.{Table}
 use Rattle.doc_tree.specs.Walks.{order}
@@ -13,7 +14,7 @@ use Rattle.svrl_out.specs.declared.findings.Finding.{Finding}
 use Rattle.svrl_out.specs.declared.findings.Outcome.{Outcome}
 use Rattle.svrl_out.specs.declared.findings.Outcome.TheVariants.{NoRule, Fired}
 use Rattle.svrl_out.specs.declared.report.OutError.{OutError}
-use Rattle.svrl_out.specs.declared.report.OutError.TheVariants.{Failed}
+use Rattle.svrl_out.specs.declared.report.OutError.TheVariants.{Failed, Memory}
 use Rattle.svrl_out.specs.Locations.{location_of}
 
 -- the lines one after another
@@ -88,8 +89,14 @@ IsOutcomeOf plan (Some (Fired rule findings)) =
 abbrev pub IsReportable : List Rule → Table → (ℕ → Option Outcome) → Type 0
 IsReportable plan T outcome = (n : ℕ) → mem n (order T) ≡ true → IsOutcomeOf plan (outcome n)
 
--- the text was appended whole, or a front of it after an error; a failed write shows in the count of faults
-pub record Reported (old new : Option (List ℕ)) (before now : ℕ) (text : List ℕ) (result : Result (Unit {0}) OutError) : Type 0 where
-  pub later : before ≤ now
-  pub failed : result ≡ Err Failed → Rose before now
-  pub grown : MatchResult result (λ _. Appends old new text) (λ _. (done left : List ℕ) × (text ≡ done ++ left) × Appends old new done)
+-- a report adds one to the sink's faults where a write failed, and none else
+abbrev pub faults_of_report : Result (Unit {0}) OutError → ℕ → ℕ
+faults_of_report (Ok done) before = before
+faults_of_report (Err Failed) before = one_more before
+faults_of_report (Err Memory) before = before
+
+-- the text was appended whole, or a front of it after an error; a fault is counted exactly where a write failed
+pub record Reported (old new : SinkLog) (text : List ℕ) (result : Result (Unit {0}) OutError) : Type 0 where
+  pub counted : new.faults ≡ faults_of_report result old.faults
+  pub grown : MatchResult result (λ _. Appends old.written new.written text)
+      (λ _. (done left : List ℕ) × (text ≡ done ++ left) × Appends old.written new.written done)

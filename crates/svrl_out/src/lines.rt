@@ -22,7 +22,7 @@ pub(crate) enum Line<'a> {
 
 /// Writes the lines.
 pub(crate) fn write_lines<O: Sink>(sink: &mut O, lines: &[Line<'_>]) -> Result<(), Failed>
-    ensures { Wrote (O.written sink.old) (O.written sink.new) (O.faults sink.old) (O.faults sink.new) (flat_map line_text lines.now) result }
+    ensures { Wrote (O.log sink.old) (O.log sink.new) (flat_map line_text lines.now) result }
 {
     for line in lines {
         write_line(sink, *line)?;
@@ -31,7 +31,7 @@ pub(crate) fn write_lines<O: Sink>(sink: &mut O, lines: &[Line<'_>]) -> Result<(
 }
 
 fn write_line<O: Sink>(sink: &mut O, line: Line<'_>) -> Result<(), Failed>
-    ensures { Wrote (O.written sink.old) (O.written sink.new) (O.faults sink.old) (O.faults sink.new) (line_text line.entry) result }
+    ensures { Wrote (O.log sink.old) (O.log sink.new) (line_text line.entry) result }
 {
     match line {
         Line::Start(name) => write_start(sink, name),

@@ -61,7 +61,7 @@ pub fn write_report<O: Sink>(
 ) -> Result<(), OutError>
     requires patterns { found.now.patterns ≡ 1 }
     requires outcomes { IsReportable plan.now tree.now.nodes (outcome_at found.now 0) }
-    ensures { Reported (O.written sink.old) (O.written sink.new) (O.faults sink.old) (O.faults sink.new)
+    ensures { Reported (O.log sink.old) (O.log sink.new)
         (report plan.now tree.now.nodes (outcome_at found.now 0)) result }
 {
     let nodes = tree.nodes_in_order(alloc)?;
@@ -80,7 +80,7 @@ pub fn write_report<O: Sink>(
 /// Writes what stands before the nodes: the start of the output and the active pattern.
 #[tactic(auto, unfolding(crate::specs::Report::report_start))]
 fn write_start<O: Sink>(sink: &mut O) -> Result<(), Failed>
-    ensures { Wrote (O.written sink.old) (O.written sink.new) (O.faults sink.old) (O.faults sink.new) report_start result }
+    ensures { Wrote (O.log sink.old) (O.log sink.new) report_start result }
 {
     write_lines(
         sink,
@@ -93,10 +93,10 @@ fn write_start<O: Sink>(sink: &mut O) -> Result<(), Failed>
     )
 }
 
-/// Writes what stands behind the nodes: the end of the output.
+/// Writes what stands after the nodes: the end of the output.
 #[tactic(auto, unfolding(crate::specs::Report::report_end))]
 fn write_report_end<O: Sink>(sink: &mut O) -> Result<(), Failed>
-    ensures { Wrote (O.written sink.old) (O.written sink.new) (O.faults sink.old) (O.faults sink.new) report_end result }
+    ensures { Wrote (O.log sink.old) (O.log sink.new) report_end result }
 {
     write_end(sink, "svrl:schematron-output")
 }
@@ -104,7 +104,7 @@ fn write_report_end<O: Sink>(sink: &mut O) -> Result<(), Failed>
 /// Writes that a rule fired.
 #[tactic(auto, unfolding(crate::specs::Report::fired_rule))]
 fn write_fired_rule<O: Sink>(sink: &mut O, context: &str) -> Result<(), Failed>
-    ensures { Wrote (O.written sink.old) (O.written sink.new) (O.faults sink.old) (O.faults sink.new) (fired_rule context.now) result }
+    ensures { Wrote (O.log sink.old) (O.log sink.new) (fired_rule context.now) result }
 {
     write_lines(
         sink,
@@ -124,7 +124,7 @@ fn write_failed_assert<'x, O: Sink>(
     test: &'x str,
     message: &'x str,
 ) -> Result<(), Failed>
-    ensures { Wrote (O.written sink.old) (O.written sink.new) (O.faults sink.old) (O.faults sink.new)
+    ensures { Wrote (O.log sink.old) (O.log sink.new)
         (failed_assert location.now test.now message.now) result }
 {
     write_lines(
@@ -156,18 +156,18 @@ impl Printer<'_> {
     fn write_all<O: Sink>(&self, nodes: &[NodeId], sink: &mut O) -> Result<(), OutError>
         requires ready { IsReady self.now }
         requires reportable { (n : ℕ) → mem n nodes.now ≡ true → IsReportableAt self.now n }
-        ensures { Reported (O.written sink.old) (O.written sink.new) (O.faults sink.old) (O.faults sink.new)
+        ensures { Reported (O.log sink.old) (O.log sink.new)
             (report_start ++ (flat_map (printed_lines self.now) nodes.now ++ report_end)) result }
     {
         write_start(sink)?;
         self.write_nodes_and_end(nodes, sink)
     }
 
-    /// Writes the lines of the nodes, and what stands behind them.
+    /// Writes the lines of the nodes, and what stands after them.
     fn write_nodes_and_end<O: Sink>(&self, nodes: &[NodeId], sink: &mut O) -> Result<(), OutError>
         requires ready { IsReady self.now }
         requires reportable { (n : ℕ) → mem n nodes.now ≡ true → IsReportableAt self.now n }
-        ensures { Reported (O.written sink.old) (O.written sink.new) (O.faults sink.old) (O.faults sink.new)
+        ensures { Reported (O.log sink.old) (O.log sink.new)
             (flat_map (printed_lines self.now) nodes.now ++ report_end) result }
     {
         self.write_nodes(nodes, sink)?;
@@ -179,7 +179,7 @@ impl Printer<'_> {
     fn write_nodes<O: Sink>(&self, nodes: &[NodeId], sink: &mut O) -> Result<(), OutError>
         requires ready { IsReady self.now }
         requires reportable { (n : ℕ) → mem n nodes.now ≡ true → IsReportableAt self.now n }
-        ensures { Reported (O.written sink.old) (O.written sink.new) (O.faults sink.old) (O.faults sink.new)
+        ensures { Reported (O.log sink.old) (O.log sink.new)
             (flat_map (printed_lines self.now) nodes.now) result }
     {
         for n in nodes {
@@ -192,7 +192,7 @@ impl Printer<'_> {
     fn write_node<O: Sink>(&self, n: NodeId, sink: &mut O) -> Result<(), OutError>
         requires ready { IsReady self.now }
         requires reportable { IsReportableAt self.now n }
-        ensures { Reported (O.written sink.old) (O.written sink.new) (O.faults sink.old) (O.faults sink.new)
+        ensures { Reported (O.log sink.old) (O.log sink.new)
             (printed_lines self.now n) result }
     {
         match self.found.get(0, n) {
@@ -215,7 +215,7 @@ impl Printer<'_> {
         requires ready { IsReady self.now }
         requires live { is_live self.now.tree.now.nodes n ≡ true }
         requires named { AreAssertsOf rule.now.asserts findings.now }
-        ensures { Reported (O.written sink.old) (O.written sink.new) (O.faults sink.old) (O.faults sink.new)
+        ensures { Reported (O.log sink.old) (O.log sink.new)
             (fired_rule rule.now.context ++ flat_map (finding_lines (location_of self.now.tree.now.nodes n) rule.now.asserts) findings.now) result }
     {
         write_fired_rule(sink, rule.context.as_str())?;
@@ -236,7 +236,7 @@ fn write_findings<O: Sink>(
     findings: &FindingList,
 ) -> Result<(), Failed>
     requires { AreAssertsOf asserts.now findings.now }
-    ensures { Wrote (O.written sink.old) (O.written sink.new) (O.faults sink.old) (O.faults sink.new)
+    ensures { Wrote (O.log sink.old) (O.log sink.new)
         (flat_map (finding_lines location.now asserts.now) findings.now) result }
 {
     for finding in findings.as_slice() {
@@ -253,7 +253,7 @@ fn write_finding<O: Sink>(
     finding: &Finding,
 ) -> Result<(), Failed>
     requires { finding.now.assertion < length asserts.now }
-    ensures { Wrote (O.written sink.old) (O.written sink.new) (O.faults sink.old) (O.faults sink.new)
+    ensures { Wrote (O.log sink.old) (O.log sink.new)
         (finding_lines location.now asserts.now finding.now) result }
 {
     let assert = &asserts.as_slice()[finding.assertion as usize];

@@ -1,6 +1,6 @@
 -- The text of a line of PYX that is to be written.
 use Rattle.std.specs.Prelude.{ℕ, List}
-use Rattle.pyx_write.specs.Lines.{start_line, attr_line, end_line, chars_line}
+use Rattle.pyx_write.specs.Written.{start_line, attr_line, end_line, chars_line}
 use Rattle.svrl_out.specs.declared.lines.Line.{Line}
 use Rattle.svrl_out.specs.declared.lines.Line.TheVariants.{Start, Attribute, End, Chars}
 

@@ -1,6 +1,6 @@
 -- A line that was not written whole leaves a front of all.
 use Rattle.svrl_out.specs.inner.Lines.{line_text}
-use Rattle.svrl_out.proofs.WriteLemmas.{wrote_cut_or}
+use Rattle.sch_io.proofs.Writes.{wrote_cut_or}
 use Rattle.svrl_out.proofs.lines.write_lines.Goals as goal
 
 pub returns-in_err-write_line : goal.returns-in_err-write_line

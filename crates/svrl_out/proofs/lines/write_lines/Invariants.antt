@@ -7,4 +7,4 @@ use Rattle.svrl_out.specs.inner.Lines.{line_text}
 use Rattle.svrl_out.proofs.lines.write_lines.Given as goal
 
 abbrev pub invariant-loop-line : goal.invariant-loop-line
-invariant-loop-line g l = Wrote {T = Unit {0}} {E = Failed} (g.O.Sink.written l.initial.sink) (g.O.Sink.written l.sink) (g.O.Sink.faults l.initial.sink) (g.O.Sink.faults l.sink) (flat_map line_text (take l.line-index l.lines)) (Ok tt)
+invariant-loop-line g l = Wrote {T = Unit {0}} {E = Failed} (g.O.Sink.log l.initial.sink) (g.O.Sink.log l.sink) (flat_map line_text (take l.line-index l.lines)) (Ok tt)

@@ -1,6 +1,6 @@
 -- Each finding names an assert; a finding that was not written whole leaves a front of all.
 use Rattle.svrl_out.specs.Report.{finding_lines}
-use Rattle.svrl_out.proofs.WriteLemmas.{wrote_cut}
+use Rattle.sch_io.proofs.Writes.{wrote_cut}
 use Rattle.svrl_out.proofs.ReportLemmas.{assert_named}
 use Rattle.svrl_out.proofs.report.write_findings.Goals as goal
 

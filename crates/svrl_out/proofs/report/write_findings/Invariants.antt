@@ -7,4 +7,4 @@ use Rattle.svrl_out.specs.Report.{finding_lines}
 use Rattle.svrl_out.proofs.report.write_findings.Given as goal
 
 abbrev pub invariant-loop-finding : goal.invariant-loop-finding
-invariant-loop-finding g l = Wrote {T = Unit {0}} {E = Failed} (g.O.Sink.written l.initial.sink) (g.O.Sink.written l.sink) (g.O.Sink.faults l.initial.sink) (g.O.Sink.faults l.sink) (flat_map (finding_lines l.fn.location l.fn.asserts) (take l.finding-index l.findings)) (Ok tt)
+invariant-loop-finding g l = Wrote {T = Unit {0}} {E = Failed} (g.O.Sink.log l.initial.sink) (g.O.Sink.log l.sink) (flat_map (finding_lines l.fn.location l.fn.asserts) (take l.finding-index l.findings)) (Ok tt)

@@ -6,4 +6,4 @@ use Rattle.svrl_out.specs.inner.Printer.{printed_lines}
 use Rattle.svrl_out.proofs.report.Printer.write_nodes.Given as goal
 
 abbrev pub invariant-loop-n : goal.invariant-loop-n
-invariant-loop-n g l = Reported (g.O.Sink.written l.initial.sink) (g.O.Sink.written l.sink) (g.O.Sink.faults l.initial.sink) (g.O.Sink.faults l.sink) (flat_map (printed_lines l.fn.self) (take l.n-index l.nodes)) (Ok tt)
+invariant-loop-n g l = Reported (g.O.Sink.log l.initial.sink) (g.O.Sink.log l.sink) (flat_map (printed_lines l.fn.self) (take l.n-index l.nodes)) (Ok tt)

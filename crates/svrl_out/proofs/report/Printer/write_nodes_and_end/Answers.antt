@@ -11,4 +11,6 @@ returns-in_err-write_nodes g c =
     reported_stopped report_end c.from_residual.result (error.1 ∙ ap Err error.2) c.in_err-write_nodes.ensures
 
 pub returns-in_err-write_report_end : goal.returns-in_err-write_report_end
-returns-in_err-write_report_end g c = reported_both c.in_ok-write_nodes.ensures (reported_err c.from_residual-in_err-write_report_end.result c.from_residual-in_err-write_report_end.ensures.0 c.in_err-write_report_end.ensures)
+returns-in_err-write_report_end g c =
+    let error = err_from_is_err_and c.from_residual-in_err-write_report_end.result c.from_residual-in_err-write_report_end.ensures.1 in
+    reported_both c.in_ok-write_nodes.ensures (reported_err c.from_residual-in_err-write_report_end.result (error.1 ∙ ap Err error.2) c.in_err-write_report_end.ensures)
