@@ -32,7 +32,7 @@ fn main(rt: HostRuntime) -> ExitCode {
 /// Ends a run that has no memory for its words.
 fn without_words<E: Sink>(err: &mut E) -> Status
     ensures status { result ≡ statuses.Memory }
-    ensures line { Tells (E.written err.old) (E.written err.new) (E.faults err.old) (E.faults err.new) memory_line }
+    ensures line { Tells (E.log err.old) (E.log err.new) memory_line }
 {
     let _ = write_all(err, b"sch: out of memory\n");
     Status::Memory

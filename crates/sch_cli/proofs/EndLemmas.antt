@@ -1,7 +1,6 @@
 -- How the parts of a run end together.
-use Rattle.std.proofs.Common.{◌≡◌, ℕ, ◌≤◌, ◌⊎◌, inl, inr, Bool, true, false, List, [], ◌++◌, Option, None, Some, Result, Ok, Err, refl, ap, sym, subst, length, arith, if◌then◌else◌}
+use Rattle.std.proofs.Common.{◌∙◌, ◌≡◌, ℕ, ◌≤◌, ◌⊎◌, inl, inr, Bool, true, false, List, [], ◌∷◌, ◌++◌, append_assoc, IfSome, Option, None, Some, Result, Ok, Err, refl, ap, sym, subst, length, arith, if◌then◌else◌}
 use Rattle.std.proofs.KnownBytes.{Appends-nil}
-use Rattle.sch_io.specs.Counts.{Rose}
 use Rattle.sch_io.specs.Files.{Files}
 use Rattle.sch_io.specs.Wrote.{Appends}
 use Rattle.sch_io.specs.declared.reading.TheConstants.{MAX_FILE_BYTES}
@@ -30,8 +29,8 @@ use Rattle.sch_cli.specs.Refusals.{document_refused_line}
 use Rattle.sch_cli.specs.Found.{finds}
 use Rattle.sch_cli.proofs.FirstSchemaRead.{other_by_length}
 use Rattle.sch_cli.specs.Output.{Output, IsValidation, IsReadBy, IsPlanOf, IsTreeOf, StopsAtSchema, no_schema, other_schema, StopsAtDocument, no_document, refused_document, validated, stopped, not_yet_line}
-use Rattle.sch_cli.specs.Runs.{AppendsFront, Fronted}
-use Rattle.sch_cli.specs.inner.Stops.{Loads, IsRead, Concludes, ByCause, ReportsAs, IsLoaded, IsMissing, stopped_by}
+use Rattle.sch_cli.specs.Runs.{AppendsFront, Fronted, IsLast, OpensInOrder}
+use Rattle.sch_cli.specs.inner.Stops.{Loads, IsRead, Concludes, ByCause, Names, name_in, ReportsAs, IsLoaded, IsMissing, stopped_by}
 use Rattle.sch_cli.specs.declared.status.Status.TheVariants as status
 
 -- what holds of a stop by its cause holds in weaker form
@@ -133,20 +132,20 @@ ends_whole true = inr refl
 ends_whole false = inl refl
 
 -- the report ends the run
-pub report_ends : (files : Files) (schema document : List ℕ) (old new : Option (List ℕ)) (before now : ℕ) (plan : List Rule) (tree : Contents) → IsPlanOf files schema plan → IsLoaded files document tree →
-    (result : Result Bool Stop) → ReportsAs old new before now (validated plan tree.nodes).out (finds plan tree.nodes) result →
+pub report_ends : (files : Files) (schema document : List ℕ) (old new : Option (List ℕ)) (plan : List Rule) (tree : Contents) → IsPlanOf files schema plan → IsLoaded files document tree →
+    (result : Result Bool Stop) → ReportsAs old new (validated plan tree.nodes).out (finds plan tree.nodes) result →
     Concludes (IsValidation files schema document) (IsReadBy files schema document) (Appends old new) result
-report_ends files schema document old new before now plan tree is_plan is_tree (Ok found) reports = (
+report_ends files schema document old new plan tree is_plan is_tree (Ok found) reports = (
   validated plan tree.nodes,
   inr (plan, is_plan, inr (tree.nodes, is_tree, refl)),
   ap (λ (b : Bool). if b then status.Findings else status.Clean) (sym reports.0),
   refl,
   reports.1,
 )
-report_ends files schema document old new before now plan tree is_plan is_tree (Err stop) reports =
+report_ends files schema document old new plan tree is_plan is_tree (Err stop) reports =
     by_cause (λ output. ⊥) (λ output. IsValidation files schema document output × Appends old new output.out) (λ name. ⊥) (λ name. IsReadBy files schema document name × Appends old new [])
-    (Rose before now × AppendsFront old new text) (Fronted is_output (Appends old new)) (AppendsFront old new text) (Appends old new [] ⊎ Fronted is_output (Appends old new))
-    (λ output no. absurd no) (λ name no. absurd no) (λ w. front w.1) (λ m. inr (front m)) stop reports
+    (AppendsFront old new text) (Fronted is_output (Appends old new)) (AppendsFront old new text) (Appends old new [] ⊎ Fronted is_output (Appends old new))
+    (λ output no. absurd no) (λ name no. absurd no) (λ w. front w) (λ m. inr (front m)) stop reports
   where
     text : List ℕ
     text = (validated plan tree.nodes).out
@@ -164,6 +163,39 @@ report_ends files schema document old new before now plan tree is_plan is_tree (
       is_front = appended.2;
       out = appended.3;
     }
+
+-- a name that is told is such a one in weaker form
+if_some : (P Q : List ℕ → Type 0) → ((name : List ℕ) → P name → Q name) → (told : Option (List ℕ)) → IfSome told P → IfSome told Q
+if_some P Q weaker None is = tt
+if_some P Q weaker (Some name) is = weaker name is
+
+-- a file of a validation was opened last
+abbrev IsOfValidation : List ℕ → List ℕ → List (List ℕ) → List ℕ → Type 0
+IsOfValidation schema document opened name = ((name ≡ schema) ⊎ (name ≡ document)) × IsLast name opened
+
+-- the name in a line is the schema's where the schema was opened last
+pub plan_named : (schema document : List ℕ) (old new : List (List ℕ)) (result : Result Bool Stop) (stop : Stop) → result ≡ Err stop → new ≡ old ++ schema ∷ [] → IfSome (name_in stop) (λ told. told ≡ schema) →
+    Names (IsOfValidation schema document new) result
+plan_named schema document old new result stop is opened named = subst (Names (IsOfValidation schema document new)) (sym is)
+    (if_some (λ told. told ≡ schema) (IsOfValidation schema document new) (λ name same. (inl same, (old, opened ∙ ap (λ (n : List ℕ). old ++ n ∷ []) (sym same)))) (name_in stop) named)
+
+-- and the document's where that was
+pub tree_named : (schema document : List ℕ) (old new : List (List ℕ)) (result : Result Bool Stop) (stop : Stop) → result ≡ Err stop → new ≡ old ++ document ∷ [] → IfSome (name_in stop) (λ told. told ≡ document) →
+    Names (IsOfValidation schema document new) result
+tree_named schema document old new result stop is opened named = subst (Names (IsOfValidation schema document new)) (sym is)
+    (if_some (λ told. told ≡ document) (IsOfValidation schema document new) (λ name same. (inr same, (old, opened ∙ ap (λ (n : List ℕ). old ++ n ∷ []) (sym same)))) (name_in stop) named)
+
+-- a report tells no name
+pub report_named : (P : List ℕ → Type 0) (result : Result Bool Stop) → Names (λ _. ⊥) result → Names P result
+report_named P (Ok found) named = tt
+report_named P (Err stop) named = if_some (λ _. ⊥) P (λ name no. absurd no) (name_in stop) named
+
+-- the schema alone was opened, or both files
+pub opened_one : (schema document : List ℕ) (old new : List (List ℕ)) → new ≡ old ++ schema ∷ [] → OpensInOrder (schema ∷ document ∷ []) old new
+opened_one schema document old new is = (schema ∷ [], document ∷ [], refl, is)
+
+pub opened_both : (schema document : List ℕ) (old mid new : List (List ℕ)) → mid ≡ old ++ schema ∷ [] → new ≡ mid ++ document ∷ [] → OpensInOrder (schema ∷ document ∷ []) old new
+opened_both schema document old mid new first next = (schema ∷ document ∷ [], [], refl, next ∙ ap (λ (names : List (List ℕ)). names ++ document ∷ []) first ∙ append_assoc old (schema ∷ []) (document ∷ []))
 
 -- the report by the table of outcomes is that by the rules
 pub report_same : (plan : List Rule) (T : Table) (judged : Judged) → Judges plan T judged → report plan T (outcome_at judged.found 0) ≡ report plan T (λ n. Some (outcome_of plan T n))

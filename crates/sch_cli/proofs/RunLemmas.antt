@@ -1,15 +1,17 @@
 -- How what was carried out ends the run.
-use Rattle.std.proofs.Common.{◌≡◌, ◌⊎◌, ℕ, inl, inr, Bool, true, false, List, Option, None, Some, MatchOption, Result, Ok, Err, refl, sym, subst}
+use Rattle.std.proofs.Common.{◌≡◌, ◌⊎◌, ℕ, Bool, true, false, List, [], ◌∷◌, Option, None, Some, MatchOption, Result, Ok, Err, refl, ap, sym, subst, append-nil}
 use Rattle.sch_io.specs.Files.{Files}
-use Rattle.sch_io.specs.Wrote.{Wrote, Appends}
+use Rattle.sch_io.specs.SinkLog.{SinkLog}
+use Rattle.sch_io.specs.Wrote.{Appends}
 use Rattle.sch_cli.specs.declared.command.Command.{Command as Borrowed}
 use Rattle.sch_cli.specs.declared.status.Status.{Status}
+use Rattle.sch_cli.specs.declared.status.Status.TheVariants as status
 use Rattle.sch_cli.specs.declared.stop.Stop.{Stop}
 use Rattle.sch_cli.specs.declared.stop.Stop.TheVariants.{Usage, NotYet, DocumentRefused, Missing, ReadFault, WriteFault, Memory}
 use Rattle.sch_cli.specs.Commands.{Command, validate, command_of, shown}
-use Rattle.sch_cli.specs.Output.{Output, IsValidation, IsReadBy, IsOutputOf, IsOutput, ComesTo, IsNamedIn}
-use Rattle.sch_cli.specs.Runs.{Ends, EndsOver, IsLineOf, Tells}
-use Rattle.sch_cli.specs.inner.Stops.{Names, Concludes, ConcludesOver, status_of_end, line_of_end, stopped_by}
+use Rattle.sch_cli.specs.Output.{Output, IsValidation, IsReadBy, IsOutputOf, IsOutput, ComesTo, IsNamedIn, files_of}
+use Rattle.sch_cli.specs.Runs.{Ends, EndsOver, IsLineOf, IsLast, OpensInOrder, Tells, is_status}
+use Rattle.sch_cli.specs.inner.Stops.{Names, Concludes, ConcludesOver, EndsAs, ends_with, status_of, status_of_end, line_of_end, stopped_by}
 
 -- the words ask for the validation that the program's own command names
 pub asks_validation : (words : List (List ℕ)) (asked : Option Borrowed) (command : Borrowed) → MatchOption asked (command_of words ≡ None) (λ c. command_of words ≡ Some (shown c)) → asked ≡ Some command →
@@ -24,21 +26,49 @@ carries words (Some files) schema document written result is ends =
     subst (λ (asked : Option Command). Concludes (IsOutputOf asked files) (ComesTo asked files) written result) (sym is) (ends files refl)
 
 -- a validation's files are named by the command
-pub names_file : (words : List (List ℕ)) (schema document : List ℕ) (result : Result Bool Stop) → command_of words ≡ Some (validate None schema document) →
-    Names (λ name. (name ≡ schema) ⊎ (name ≡ document)) result → Names (IsNamedIn (command_of words)) result
-names_file words schema document result is named = subst (λ (asked : Option Command). Names (IsNamedIn asked) result) (sym is) named
+pub names_file : (words : List (List ℕ)) (schema document : List ℕ) (opened : List (List ℕ)) (result : Result Bool Stop) → command_of words ≡ Some (validate None schema document) →
+    Names (λ name. ((name ≡ schema) ⊎ (name ≡ document)) × IsLast name opened) result → Names (λ name. IsNamedIn (command_of words) name × IsLast name opened) result
+names_file words schema document opened result is named = subst (λ (asked : Option Command). Names (λ name. IsNamedIn asked name × IsLast name opened) result) (sym is) named
+
+-- and opened in its order
+pub opens_files : (words : List (List ℕ)) (schema document : List ℕ) (old new : List (List ℕ)) → command_of words ≡ Some (validate None schema document) →
+    OpensInOrder (schema ∷ document ∷ []) old new → OpensInOrder (files_of (command_of words)) old new
+opens_files words schema document old new is opens = subst (λ (asked : Option Command). OpensInOrder (files_of asked) old new) (sym is) opens
+
+-- nothing was opened
+pub opens_none : (names opened : List (List ℕ)) → OpensInOrder names opened opened
+opens_none names opened = ([], names, refl, sym (append-nil opened))
 
 -- the line of an end is that of its status
-pub line_named : (command : Option Command) (result : Result Bool Stop) → Names (IsNamedIn command) result → IsLineOf command (status_of_end result) (line_of_end result)
-line_named command (Ok true) named = refl
-line_named command (Ok false) named = refl
-line_named command (Err Usage) named = refl
-line_named command (Err NotYet) named = refl
-line_named command (Err (DocumentRefused refusal)) named = (refusal, refl)
-line_named command (Err (Missing name)) named = (name.now, named, refl)
-line_named command (Err (ReadFault name)) named = (name.now, named, refl)
-line_named command (Err WriteFault) named = refl
-line_named command (Err Memory) named = refl
+line_of_stop : (command : Option Command) (opened : List (List ℕ)) (result : Result Bool Stop) → Names (λ name. IsNamedIn command name × IsLast name opened) result → IsLineOf command opened (status_of_end result) (line_of_end result)
+line_of_stop command opened (Ok true) named = refl
+line_of_stop command opened (Ok false) named = refl
+line_of_stop command opened (Err Usage) named = refl
+line_of_stop command opened (Err NotYet) named = refl
+line_of_stop command opened (Err (DocumentRefused refusal)) named = (refusal, refl)
+line_of_stop command opened (Err (Missing name)) named = (name.now, named.0, named.1, refl)
+line_of_stop command opened (Err (ReadFault name)) named = (name.now, named.0, named.1, refl)
+line_of_stop command opened (Err WriteFault) named = refl
+line_of_stop command opened (Err Memory) named = refl
+
+pub line_named : (command : Option Command) (opened : List (List ℕ)) (ends : Status) (result : Result Bool Stop) → ends ≡ status_of_end result → Names (λ name. IsNamedIn command name × IsLast name opened) result →
+    IsLineOf command opened ends (line_of_end result)
+line_named command opened ends result is named = subst (λ (status : Status). IsLineOf command opened status (line_of_end result)) (sym is) (line_of_stop command opened result named)
+
+-- a run that ends so is not one whose words are refused
+pub not_usage : (result : Result Bool Stop) → ends_with status.Usage result ≡ false → status_of_end result ≡ status.Usage → ⊥
+not_usage (Ok true) differs is = cc
+not_usage (Ok false) differs is = cc
+not_usage (Err stop) differs is = let same : is_status status.Usage (status_of stop) ≡ true = ap (is_status status.Usage) is in cc
+
+-- the status of a run is that of its end
+pub ends_same : (result : Result Bool Stop) → EndsAs (status_of_end result) result
+ends_same (Ok true) = record { is = refl; missing = refl; read_fault = refl; write_fault = refl; writes = refl }
+ends_same (Ok false) = record { is = refl; missing = refl; read_fault = refl; write_fault = refl; writes = refl }
+ends_same (Err stop) = record { is = refl; missing = refl; read_fault = refl; write_fault = refl; writes = refl }
+
+pub ends_by : (ends : Status) (result : Result Bool Stop) → ends ≡ status_of_end result → EndsAs ends result
+ends_by ends result is = subst (λ (status : Status). EndsAs status result) (sym is) (ends_same result)
 
 -- what was concluded is what the status says
 pub ends_as : (is_output : Output → Type 0) (comes_to written told : List ℕ → Type 0) (result : Result Bool Stop) → Concludes is_output comes_to written result → told (line_of_end result) →
@@ -53,15 +83,10 @@ ends_as is_output comes_to written told (Err (ReadFault name)) ends tells = reco
 ends_as is_output comes_to written told (Err WriteFault) ends tells = (ends, tells)
 ends_as is_output comes_to written told (Err Memory) ends tells = (ends, tells)
 
--- a text that was written is told, or a front of it where a fault rose
-pub told : {T E : Type 0} {old new : Option (List ℕ)} {before now : ℕ} {text : List ℕ} (result : Result T E) → Wrote old new before now text result → Tells old new before now text
-told (Ok done) wrote = inl wrote.grown
-told (Err failed) wrote = inr (wrote.failed, wrote.grown)
-
 -- the same over a shelf that tells its files
-pub run_ends : (words : List (List ℕ)) (files : Option Files) (a b c d : Option (List ℕ)) (e f : ℕ) (status : Status) (result : Result Bool Stop) →
-    status ≡ status_of_end result → Tells c d e f (line_of_end result) → ConcludesOver files words (Appends a b) result → EndsOver files words (Appends a b) (Tells c d e f) status
-run_ends words None a b c d e f status result is tells ends = tt
-run_ends words (Some files) a b c d e f status result is tells ends =
-    subst (Ends (IsOutput words files) (ComesTo (command_of words) files) (Appends a b) (Tells c d e f)) (sym is)
-    (ends_as (IsOutput words files) (ComesTo (command_of words) files) (Appends a b) (Tells c d e f) result ends tells)
+pub run_ends : (words : List (List ℕ)) (files : Option Files) (a b : Option (List ℕ)) (c d : SinkLog) (status : Status) (result : Result Bool Stop) →
+    status ≡ status_of_end result → Tells c d (line_of_end result) → ConcludesOver files words (Appends a b) result → EndsOver files words (Appends a b) (Tells c d) status
+run_ends words None a b c d status result is tells ends = tt
+run_ends words (Some files) a b c d status result is tells ends =
+    subst (Ends (IsOutput words files) (ComesTo (command_of words) files) (Appends a b) (Tells c d)) (sym is)
+    (ends_as (IsOutput words files) (ComesTo (command_of words) files) (Appends a b) (Tells c d) result ends tells)

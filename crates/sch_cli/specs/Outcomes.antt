@@ -11,7 +11,7 @@ use Rattle.svrl_out.specs.declared.findings.Finding.{Finding}
 use Rattle.svrl_out.specs.declared.findings.Outcome.{Outcome}
 use Rattle.svrl_out.specs.declared.findings.Outcome.TheVariants.{NoRule, Fired}
 
--- a name test without a prefix passes the name in no namespace (XPath 1.0 section 2.3)
+-- a name test without a prefix passes the name in no namespace (XPath 1.0, section 2.3)
 abbrev pub passes_name : List ℕ → Option Name → Bool
 passes_name test None = false
 passes_name test (Some name) = bytes_eq name.local test && bytes_eq name.uri []
@@ -22,7 +22,7 @@ is_named T test n = passes_name test (name_of T n)
 abbrev pub is_element_named : Table → List ℕ → ℕ → Bool
 is_element_named T test n = is_element_node T n && is_named T test n
 
--- a match pattern that is a name matches the elements of that name (XSLT 1.0 section 5.2)
+-- a match pattern that is a name matches the elements of that name (XSLT 1.0, section 5.2)
 abbrev pub matches : Table → List ℕ → ℕ → Bool
 matches T context n = is_element_named T context n
 

@@ -1,8 +1,8 @@
 -- What a run writes and how it ends, for each command and each content of the files.
-use Rattle.std.specs.Prelude.{◌≡◌, ◌⊎◌, ℕ, List, [], ◌++◌, codes, Option, None, Some, if◌then◌else◌}
+use Rattle.std.specs.Prelude.{◌≡◌, ◌⊎◌, ℕ, List, [], ◌∷◌, ◌++◌, codes, Option, None, Some, if◌then◌else◌}
 use Rattle.std.specs.FinMap.{get}
 use Rattle.sch_io.specs.Files.{Files}
-use Rattle.pyx_write.specs.Escapes.{escaped}
+use Rattle.pyx_core.specs.Escapes.{escaped}
 use Rattle.doc_tree.specs.Table.{Table}
 use Rattle.svrl_out.specs.declared.plan.Rule.{Rule}
 use Rattle.svrl_out.specs.Report.{report}
@@ -113,3 +113,10 @@ abbrev pub IsNamedIn : Option Command → List ℕ → Type 0
 IsNamedIn None name = ⊥
 IsNamedIn (Some (expand schema)) name = name ≡ schema
 IsNamedIn (Some (validate phase schema document)) name = (name ≡ schema) ⊎ (name ≡ document)
+
+-- the files that a command reads so far, in the order of the work
+abbrev pub files_of : Option Command → List (List ℕ)
+files_of None = []
+files_of (Some (expand schema)) = []
+files_of (Some (validate None schema document)) = schema ∷ document ∷ []
+files_of (Some (validate (Some phase) schema document)) = []

@@ -1,8 +1,11 @@
 -- What `run` promises of its outside, for each status.
-use Rattle.std.specs.Prelude.{◌≡◌, ℕ, ◌⊎◌, Bool, true, false, List, [], ◌++◌, Option, None, Some}
-use Rattle.sch_io.specs.Counts.{Rose}
+use Rattle.std.specs.Prelude.{◌≡◌, ℕ, ◌⊎◌, ◌==◌, Bool, true, false, List, [], ◌∷◌, ◌++◌, Option, None, Some, Result, if◌then◌else◌}
+use Rattle.sch_io.specs.Counts.{one_more}
 use Rattle.sch_io.specs.Files.{Files}
-use Rattle.sch_io.specs.Wrote.{Appends}
+use Rattle.sch_io.specs.SinkLog.{SinkLog}
+use Rattle.sch_io.specs.Wrote.{Appends, Wrote}
+use Rattle.sch_io.specs.declared.error.Failed.{Failed}
+use Rattle.sch_cli.specs.Status.{code_of}
 use Rattle.sch_cli.specs.declared.status.Status.{Status}
 use Rattle.sch_cli.specs.declared.status.Status.TheVariants.{Clean, Findings, Usage, SchemaRefused, DocumentRefused, ScriptRefused, Faulted, Missing, ReadFault, WriteFault, Memory, NotYet}
 use Rattle.sch_cli.specs.declared.refusal.Refusal.{Refusal}
@@ -14,9 +17,17 @@ use Rattle.sch_cli.specs.Output.{Output, IsOutput, ComesTo, IsNamedIn, usage_lin
 abbrev pub AppendsFront : Option (List ℕ) → Option (List ℕ) → List ℕ → Type 0
 AppendsFront old new text = (done left : List ℕ) × (text ≡ done ++ left) × Appends old new done
 
--- the line was appended to the error output, or a front of it where a fault of it rose
-abbrev pub Tells : Option (List ℕ) → Option (List ℕ) → ℕ → ℕ → List ℕ → Type 0
-Tells old new before now line = Appends old new line ⊎ (Rose before now × AppendsFront old new line)
+-- the line was written to the error output, or a front of it where a fault of it was counted
+abbrev pub Tells : SinkLog → SinkLog → List ℕ → Type 0
+Tells old new line = (result : Result (Unit {0}) Failed) × Wrote old new line result
+
+-- files were opened in this order, each once, perhaps not all of them
+abbrev pub OpensInOrder : List (List ℕ) → List (List ℕ) → List (List ℕ) → Type 0
+OpensInOrder names old new = (opened left : List (List ℕ)) × (names ≡ opened ++ left) × (new ≡ old ++ opened)
+
+-- the file of that name was opened last
+abbrev pub IsLast : List ℕ → List (List ℕ) → Type 0
+IsLast name opened = (earlier : List (List ℕ)) × (opened ≡ earlier ++ name ∷ [])
 
 -- an output that may be has this status, and its bytes and its line were written
 pub record Decided (is_output : Output → Type 0) (written told : List ℕ → Type 0) (status : Status) : Type 0 where
@@ -64,20 +75,28 @@ abbrev pub EndsOver : Option Files → List (List ℕ) → (List ℕ → Type 0)
 EndsOver None words written told status = Unit {0}
 EndsOver (Some files) words written told status = Ends (IsOutput words files) (ComesTo (command_of words) files) written told status
 
--- the line of a status; a name in it is a file's of the command
-abbrev pub IsLineOf : Option Command → Status → List ℕ → Type 0
-IsLineOf command Clean line = line ≡ []
-IsLineOf command Findings line = line ≡ []
-IsLineOf command Usage line = line ≡ usage_line
-IsLineOf command SchemaRefused line = ⊥
-IsLineOf command DocumentRefused line = (refusal : Refusal) × (line ≡ document_refused_line refusal)
-IsLineOf command ScriptRefused line = ⊥
-IsLineOf command Faulted line = ⊥
-IsLineOf command Missing line = (name : List ℕ) × IsNamedIn command name × (line ≡ missing_line name)
-IsLineOf command ReadFault line = (name : List ℕ) × IsNamedIn command name × (line ≡ read_fault_line name)
-IsLineOf command WriteFault line = line ≡ write_fault_line
-IsLineOf command Memory line = line ≡ memory_line
-IsLineOf command NotYet line = line ≡ not_yet_line
+-- the line of a status; a name in it is of the command's file that was opened last
+abbrev pub IsLineOf : Option Command → List (List ℕ) → Status → List ℕ → Type 0
+IsLineOf command opened Clean line = line ≡ []
+IsLineOf command opened Findings line = line ≡ []
+IsLineOf command opened Usage line = line ≡ usage_line
+IsLineOf command opened SchemaRefused line = ⊥
+IsLineOf command opened DocumentRefused line = (refusal : Refusal) × (line ≡ document_refused_line refusal)
+IsLineOf command opened ScriptRefused line = ⊥
+IsLineOf command opened Faulted line = ⊥
+IsLineOf command opened Missing line = (name : List ℕ) × IsNamedIn command name × IsLast name opened × (line ≡ missing_line name)
+IsLineOf command opened ReadFault line = (name : List ℕ) × IsNamedIn command name × IsLast name opened × (line ≡ read_fault_line name)
+IsLineOf command opened WriteFault line = line ≡ write_fault_line
+IsLineOf command opened Memory line = line ≡ memory_line
+IsLineOf command opened NotYet line = line ≡ not_yet_line
+
+-- whether a run ends with the wanted status
+abbrev pub is_status : Status → Status → Bool
+is_status wanted status = code_of status == code_of wanted
+
+-- a count that rises by one where a run ends so, and else stays
+abbrev pub counted_if : Bool → ℕ → ℕ
+counted_if so before = if so then one_more before else before
 
 -- a run that ends so may have written to the output
 abbrev pub may_write : Status → Bool

@@ -1,13 +1,12 @@
 //! The program's one call.
 
 ghost use Rattle.std.specs.Prelude.{◌≡◌, ℕ, List, ◌↔◌, None, false};
-ghost use Rattle.sch_io.specs.Counts.{Rose};
 ghost use Rattle.sch_io.specs.Wrote.{Appends};
 ghost use Rattle.sch_cli.specs.declared.status.Status.TheVariants as statuses;
 ghost use Rattle.sch_cli.specs.Commands.{command_of};
-ghost use Rattle.sch_cli.specs.Output.{IsNamedIn};
-ghost use Rattle.sch_cli.specs.Runs.{EndsOver, Tells, IsLineOf, IsNotBuilt, may_write};
-ghost use Rattle.sch_cli.specs.inner.Stops.{Blames, ConcludesOver, Names, StopsWith, status_of_end, line_of_end};
+ghost use Rattle.sch_cli.specs.Output.{IsNamedIn, files_of};
+ghost use Rattle.sch_cli.specs.Runs.{EndsOver, Tells, IsLineOf, IsLast, IsNotBuilt, OpensInOrder, counted_if, is_status, may_write};
+ghost use Rattle.sch_cli.specs.inner.Stops.{ConcludesOver, EndsAs, Names, ends_with, may_have_written, status_of_end, line_of_end};
 
 use crate::command::{Command, command_of};
 use crate::status::Status;
@@ -28,37 +27,43 @@ pub fn run<S: Shelf, O: Sink, E: Sink>(
     err: &mut E,
 ) -> Status
     // over a shelf that tells its files, the run ends as the files and words say
-    ensures whole { EndsOver (S.files shelf.old) words.now (Appends (O.written out.old) (O.written out.new))
-        (Tells (E.written err.old) (E.written err.new) (E.faults err.old) (E.faults err.new)) result }
-    ensures line { (line : List ℕ) × IsLineOf (command_of words.now) result line
-        × Tells (E.written err.old) (E.written err.new) (E.faults err.old) (E.faults err.new) line }
+    ensures whole { EndsOver (S.state shelf.old).files words.now (Appends (O.log out.old).written (O.log out.new).written)
+        (Tells (E.log err.old) (E.log err.new)) result }
+    ensures line { (line : List ℕ) × IsLineOf (command_of words.now) (S.state shelf.new).opened result line
+        × Tells (E.log err.old) (E.log err.new) line }
     ensures usage { (result ≡ statuses.Usage) ↔ (command_of words.now ≡ None) }
     ensures not_built { IsNotBuilt (command_of words.now) → result ≡ statuses.NotYet }
-    // a fault of the outside is told only where its count rose
-    ensures missing { result ≡ statuses.Missing → Rose (S.misses shelf.old) (S.misses shelf.new) }
-    ensures read_fault { result ≡ statuses.ReadFault → Rose (S.faults shelf.old) (S.faults shelf.new) }
-    ensures untouched { may_write result ≡ false → O.written out.new ≡ O.written out.old }
-    ensures write_fault { result ≡ statuses.WriteFault → Rose (O.faults out.old) (O.faults out.new) }
-    ensures held { S.files shelf.new ≡ S.files shelf.old }
+    // the files of the words are opened in order, each once, and what the shelf holds stays
+    ensures opened { OpensInOrder (files_of (command_of words.now)) (S.state shelf.old).opened (S.state shelf.new).opened }
+    ensures held { (S.state shelf.new).files ≡ (S.state shelf.old).files }
+    // a fault of the outside is counted exactly where it is told
+    ensures misses { (S.state shelf.new).misses ≡ counted_if (is_status statuses.Missing result) (S.state shelf.old).misses }
+    ensures read_faults { (S.state shelf.new).faults ≡ counted_if (is_status statuses.ReadFault result) (S.state shelf.old).faults }
+    ensures write_faults { (O.log out.new).faults ≡ counted_if (is_status statuses.WriteFault result) (O.log out.old).faults }
+    // a run that stops before its report leaves the output as it was
+    ensures untouched { may_write result ≡ false → O.log out.new ≡ O.log out.old }
 {
     conclude(carry_out(alloc, words, shelf, out), err)
 }
 
 /// Does what the words ask for; answers whether the report has a finding.
+#[tactic(auto, using(crate::proofs::RunLemmas::opens_none, crate::proofs::RunLemmas::not_usage))]
 fn carry_out<'w, S: Shelf, O: Sink>(
     alloc: Global,
     words: &'w Words,
     shelf: &mut S,
     out: &mut O,
 ) -> Result<bool, Stop<'w>>
-    ensures whole { ConcludesOver (S.files shelf.old) words.now (Appends (O.written out.old) (O.written out.new)) result }
-    ensures named { Names (IsNamedIn (command_of words.now)) result }
+    ensures whole { ConcludesOver (S.state shelf.old).files words.now (Appends (O.log out.old).written (O.log out.new).written) result }
+    ensures named { Names (λ name. IsNamedIn (command_of words.now) name × IsLast name (S.state shelf.new).opened) result }
     ensures usage { (status_of_end result ≡ statuses.Usage) ↔ (command_of words.now ≡ None) }
     ensures not_built { IsNotBuilt (command_of words.now) → status_of_end result ≡ statuses.NotYet }
-    ensures blames { Blames (S.misses shelf.old) (S.misses shelf.new) (S.faults shelf.old) (S.faults shelf.new) result }
-    ensures write_fault { StopsWith statuses.WriteFault result → Rose (O.faults out.old) (O.faults out.new) }
-    ensures untouched { may_write (status_of_end result) ≡ false → O.written out.new ≡ O.written out.old }
-    ensures held { S.files shelf.new ≡ S.files shelf.old }
+    ensures opened { OpensInOrder (files_of (command_of words.now)) (S.state shelf.old).opened (S.state shelf.new).opened }
+    ensures held { (S.state shelf.new).files ≡ (S.state shelf.old).files }
+    ensures misses { (S.state shelf.new).misses ≡ counted_if (ends_with statuses.Missing result) (S.state shelf.old).misses }
+    ensures read_faults { (S.state shelf.new).faults ≡ counted_if (ends_with statuses.ReadFault result) (S.state shelf.old).faults }
+    ensures write_faults { (O.log out.new).faults ≡ counted_if (ends_with statuses.WriteFault result) (O.log out.old).faults }
+    ensures untouched { may_have_written result ≡ false → O.log out.new ≡ O.log out.old }
 {
     match command_of(words.as_slice()) {
         None => Err(Stop::Usage),
@@ -74,9 +79,10 @@ fn carry_out<'w, S: Shelf, O: Sink>(
 }
 
 /// Tells the line of a run that was stopped, and says how the run ended.
+#[tactic(auto, using(crate::proofs::RunLemmas::ends_by))]
 fn conclude<E: Sink>(ended: Result<bool, Stop<'_>>, err: &mut E) -> Status
-    ensures status { result ≡ status_of_end ended.entry }
-    ensures told { Tells (E.written err.old) (E.written err.new) (E.faults err.old) (E.faults err.new) (line_of_end ended.entry) }
+    ensures ends { EndsAs result ended.entry }
+    ensures told { Tells (E.log err.old) (E.log err.new) (line_of_end ended.entry) }
 {
     let status = status_of(&ended);
     if let Err(stop) = ended {

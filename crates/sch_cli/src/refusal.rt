@@ -22,7 +22,7 @@ impl Refusal {
     /// Writes the line of a document that is refused for it.
     #[tactic(auto, unfolding(crate::specs::Refusals::document_refused_line))]
     pub(crate) fn tell<E: Sink>(&self, err: &mut E) -> Result<(), Failed>
-        ensures { Wrote (E.written err.old) (E.written err.new) (E.faults err.old) (E.faults err.new) (document_refused_line self.now) result }
+        ensures { Wrote (E.log err.old) (E.log err.new) (document_refused_line self.now) result }
     {
         match self {
             Refusal::TooLarge => write_all(err, b"sch: document refused: TooLarge\n"),
@@ -34,7 +34,7 @@ impl Refusal {
 /// Writes the line of a document that is refused for a fault.
 #[tactic(auto, unfolding(crate::specs::Refusals::fault_line))]
 fn tell_fault<E: Sink>(fault: &DocFault, err: &mut E) -> Result<(), Failed>
-    ensures { Wrote (E.written err.old) (E.written err.new) (E.faults err.old) (E.faults err.new) (fault_line fault.now) result }
+    ensures { Wrote (E.log err.old) (E.log err.new) (fault_line fault.now) result }
 {
     let mut buffer = Buffer::new();
     let line = buffer.format(fault.line);

@@ -37,7 +37,7 @@ enum Change<'a> {
     Assert { test: &'a str, message: &'a str },
 }
 
-/// What an event does: the place behind it, and what it adds.
+/// What an event does: the place after it, and what it adds.
 #[derive(Clone, Copy, Debug)]
 struct Step<'a> {
     place: Place<'a>,

@@ -1,14 +1,14 @@
 //! What stops a run before its report is whole, and what is told of it.
 
 ghost use Rattle.std.specs.Prelude.{◌≡◌, ◌++◌, codes};
-ghost use Rattle.pyx_write.specs.Escapes.{escaped};
+ghost use Rattle.pyx_core.specs.Escapes.{escaped};
 ghost use Rattle.sch_io.specs.Wrote.{Wrote};
 ghost use Rattle.sch_cli.specs.declared.stop.Stop.TheVariants as stops;
 ghost use Rattle.sch_cli.specs.inner.Stops.{line_of, status_of};
 
 use crate::refusal::Refusal;
 use crate::status::Status;
-use pyx_write::write_escaped;
+use pyx_write::write_line_rest;
 use sch_base::Text;
 use sch_io::{Failed, Sink, write_all};
 use std::alloc::AllocError;
@@ -58,7 +58,7 @@ impl Stop<'_> {
 
     /// Writes its line.
     pub(crate) fn tell<E: Sink>(&self, err: &mut E) -> Result<(), Failed>
-        ensures { Wrote (E.written err.old) (E.written err.new) (E.faults err.old) (E.faults err.new) (line_of self.now) result }
+        ensures { Wrote (E.log err.old) (E.log err.new) (line_of self.now) result }
     {
         match self {
             Stop::Usage => write_all(err, b"sch: usage\n"),
@@ -72,22 +72,11 @@ impl Stop<'_> {
     }
 }
 
-/// Writes a line that ends with a file's name.
-#[tactic(auto, using(sch_io::specs::Wrote::writes))]
+/// Writes a line that ends with a file's name, which has the escapes of PYX.
+#[tactic(auto, using(sch_io::proofs::Writes::writes))]
 fn write_named<E: Sink>(err: &mut E, text: &[u8], name: &Text) -> Result<(), Failed>
-    ensures { Wrote (E.written err.old) (E.written err.new) (E.faults err.old) (E.faults err.new)
-        (text.now ++ (escaped name.now ++ codes "\n")) result }
+    ensures { Wrote (E.log err.old) (E.log err.new) (text.now ++ (escaped name.now ++ codes "\n")) result }
 {
     write_all(err, text)?;
-    write_name(err, name)
-}
-
-/// Writes a file's name with the escapes of PYX, and the line end.
-#[tactic(auto, using(sch_io::specs::Wrote::writes))]
-fn write_name<E: Sink>(err: &mut E, name: &Text) -> Result<(), Failed>
-    ensures { Wrote (E.written err.old) (E.written err.new) (E.faults err.old) (E.faults err.new)
-        (escaped name.now ++ codes "\n") result }
-{
-    write_escaped(err, name.as_str())?;
-    write_all(err, b"\n")
+    write_line_rest(err, name.as_str())
 }

@@ -1,7 +1,6 @@
 //! A validation: the schema and the document read, the rules tried at each node, the report written.
 
-ghost use Rattle.std.specs.Prelude.{◌≡◌, ◌≤◌, ◌⊎◌, false, Some, IfOk, IfSome, length};
-ghost use Rattle.sch_io.specs.Counts.{Rose};
+ghost use Rattle.std.specs.Prelude.{◌≡◌, ◌≤◌, ◌⊎◌, [], ◌∷◌, true, false, Some, IfOk, IfSome, length};
 ghost use Rattle.sch_io.specs.Files.{Files};
 ghost use Rattle.sch_io.specs.Wrote.{Appends};
 ghost use Rattle.sch_io.specs.declared.reading.TheConstants.{MAX_FILE_BYTES};
@@ -9,8 +8,8 @@ ghost use Rattle.sch_cli.specs.declared.status.Status.TheVariants as statuses;
 ghost use Rattle.sch_cli.specs.FirstSchema.{AreCounted};
 ghost use Rattle.sch_cli.specs.Found.{finds};
 ghost use Rattle.sch_cli.specs.Output.{IsPlanOf, IsValidation, IsReadBy, StopsAtSchema, StopsAtDocument, validated};
-ghost use Rattle.sch_cli.specs.Runs.{may_write};
-ghost use Rattle.sch_cli.specs.inner.Stops.{Loads, OnlyReads, Blames, IsRead, IsMissing, IsLoaded, Concludes, ReportsAs, StopsWith, Names, status_of_end};
+ghost use Rattle.sch_cli.specs.Runs.{IsLast, OpensInOrder, counted_if};
+ghost use Rattle.sch_cli.specs.inner.Stops.{Loads, Reads, IsRead, IsMissing, IsLoaded, Concludes, ReportsAs, Names, ends_with, may_have_written};
 
 use crate::judged::judge;
 use crate::refusal::Refusal;
@@ -29,12 +28,8 @@ pub(crate) fn read_file<'w, S: Shelf>(
     name: &'w Text,
     shelf: &mut S,
 ) -> Result<Option<Bytes>, Stop<'w>>
-    ensures told { (files : Files) → S.files shelf.old ≡ Some files → Loads (IsRead files name.now) (IsMissing files name.now) name.now result }
-    ensures only { OnlyReads name.now result }
-    ensures held { S.files shelf.new ≡ S.files shelf.old }
-    ensures blames { Blames (S.misses shelf.old) (S.misses shelf.new) (S.faults shelf.old) (S.faults shelf.new) result }
-    ensures faults_later { S.faults shelf.old ≤ S.faults shelf.new }
-    ensures misses_later { S.misses shelf.old ≤ S.misses shelf.new }
+    ensures told { (files : Files) → (S.state shelf.old).files ≡ Some files → Loads (IsRead files name.now) (IsMissing files name.now) name.now result }
+    ensures reads { Reads (S.state shelf.old) (S.state shelf.new) name.now result }
     ensures short { IfOk result (λ found. IfSome found (λ bytes. length bytes ≤ MAX_FILE_BYTES)) }
 {
     match read_all(alloc, shelf, name.as_str()) {
@@ -53,13 +48,9 @@ pub(crate) fn load_plan<'w, S: Shelf>(
     name: &'w Text,
     shelf: &mut S,
 ) -> Result<Plan, Stop<'w>>
-    ensures told { (files : Files) → S.files shelf.old ≡ Some files → Loads (IsPlanOf files name.now) (StopsAtSchema files name.now) name.now result }
+    ensures told { (files : Files) → (S.state shelf.old).files ≡ Some files → Loads (IsPlanOf files name.now) (StopsAtSchema files name.now) name.now result }
     ensures counted { IfOk result (λ plan. AreCounted plan) }
-    ensures only { OnlyReads name.now result }
-    ensures held { S.files shelf.new ≡ S.files shelf.old }
-    ensures blames { Blames (S.misses shelf.old) (S.misses shelf.new) (S.faults shelf.old) (S.faults shelf.new) result }
-    ensures faults_later { S.faults shelf.old ≤ S.faults shelf.new }
-    ensures misses_later { S.misses shelf.old ≤ S.misses shelf.new }
+    ensures reads { Reads (S.state shelf.old) (S.state shelf.new) name.now result }
 {
     let Some(bytes) = read_file(alloc, name, shelf)? else {
         return Err(Stop::NotYet);
@@ -77,12 +68,8 @@ pub(crate) fn load_document<'w, S: Shelf>(
     name: &'w Text,
     shelf: &mut S,
 ) -> Result<Tree, Stop<'w>>
-    ensures told { (files : Files) → S.files shelf.old ≡ Some files → Loads (IsLoaded files name.now) (StopsAtDocument files name.now) name.now result }
-    ensures only { OnlyReads name.now result }
-    ensures held { S.files shelf.new ≡ S.files shelf.old }
-    ensures blames { Blames (S.misses shelf.old) (S.misses shelf.new) (S.faults shelf.old) (S.faults shelf.new) result }
-    ensures faults_later { S.faults shelf.old ≤ S.faults shelf.new }
-    ensures misses_later { S.misses shelf.old ≤ S.misses shelf.new }
+    ensures told { (files : Files) → (S.state shelf.old).files ≡ Some files → Loads (IsLoaded files name.now) (StopsAtDocument files name.now) name.now result }
+    ensures reads { Reads (S.state shelf.old) (S.state shelf.new) name.now result }
 {
     let Some(bytes) = read_file(alloc, name, shelf)? else {
         return Err(Stop::DocumentRefused(Refusal::TooLarge));
@@ -102,14 +89,17 @@ pub(crate) fn validate<'w, S: Shelf, O: Sink>(
     shelf: &mut S,
     out: &mut O,
 ) -> Result<bool, Stop<'w>>
-    ensures whole { (files : Files) → S.files shelf.old ≡ Some files →
-        Concludes (IsValidation files schema.now document.now) (IsReadBy files schema.now document.now) (Appends (O.written out.old) (O.written out.new)) result }
-    ensures named { Names (λ name. (name ≡ schema.now) ⊎ (name ≡ document.now)) result }
-    ensures words { StopsWith statuses.Usage result → ⊥ }
-    ensures blames { Blames (S.misses shelf.old) (S.misses shelf.new) (S.faults shelf.old) (S.faults shelf.new) result }
-    ensures write_fault { StopsWith statuses.WriteFault result → Rose (O.faults out.old) (O.faults out.new) }
-    ensures untouched { may_write (status_of_end result) ≡ false → O.written out.new ≡ O.written out.old }
-    ensures held { S.files shelf.new ≡ S.files shelf.old }
+    ensures whole { (files : Files) → (S.state shelf.old).files ≡ Some files →
+        Concludes (IsValidation files schema.now document.now) (IsReadBy files schema.now document.now)
+        (Appends (O.log out.old).written (O.log out.new).written) result }
+    ensures named { Names (λ name. ((name ≡ schema.now) ⊎ (name ≡ document.now)) × IsLast name (S.state shelf.new).opened) result }
+    ensures opened { OpensInOrder (schema.now ∷ document.now ∷ []) (S.state shelf.old).opened (S.state shelf.new).opened }
+    ensures words { ends_with statuses.Usage result ≡ false }
+    ensures misses { (S.state shelf.new).misses ≡ counted_if (ends_with statuses.Missing result) (S.state shelf.old).misses }
+    ensures read_faults { (S.state shelf.new).faults ≡ counted_if (ends_with statuses.ReadFault result) (S.state shelf.old).faults }
+    ensures write_faults { (O.log out.new).faults ≡ counted_if (ends_with statuses.WriteFault result) (O.log out.old).faults }
+    ensures untouched { may_have_written result ≡ false → O.log out.new ≡ O.log out.old }
+    ensures held { (S.state shelf.new).files ≡ (S.state shelf.old).files }
 {
     let plan = load_plan(alloc, schema, shelf)?;
     let tree = load_document(alloc, document, shelf)?;
@@ -124,7 +114,13 @@ fn report<'w, O: Sink>(
     out: &mut O,
 ) -> Result<bool, Stop<'w>>
     requires { AreCounted plan.now }
-    ensures { ReportsAs (O.written out.old) (O.written out.new) (O.faults out.old) (O.faults out.new) (validated plan.now tree.now.nodes).out (finds plan.now tree.now.nodes) result }
+    ensures told { ReportsAs (O.log out.old).written (O.log out.new).written (validated plan.now tree.now.nodes).out (finds plan.now tree.now.nodes) result }
+    ensures unnamed { Names (λ _. ⊥) result }
+    ensures words { ends_with statuses.Usage result ≡ false }
+    ensures misses { ends_with statuses.Missing result ≡ false }
+    ensures read_faults { ends_with statuses.ReadFault result ≡ false }
+    ensures write_faults { (O.log out.new).faults ≡ counted_if (ends_with statuses.WriteFault result) (O.log out.old).faults }
+    ensures writes { may_have_written result ≡ true }
 {
     let judged = judge(alloc, plan, tree)?;
     match write_report(alloc, plan, tree, &judged.found, out) {

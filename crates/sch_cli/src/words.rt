@@ -6,7 +6,7 @@ use sch_base::Text;
 use std::alloc::{AllocError, Global};
 use std::marker::Model;
 
-/// The words of a command line behind the program's name, seen by contracts as a list of texts.
+/// The words of a command line after the program's name, seen by contracts as a list of texts.
 #[derive(Debug, Drop)]
 pub struct Words {
     alloc: Global,

@@ -50,7 +50,8 @@ impl From<Failed> for OutError {
 
 /// Writes the report: each node in document order, with the rule that it fired and its findings.
 ///
-/// After an error a front of the report was written. The time grows with the number of nodes, and for a node with
+/// A node that fired a rule is the root or an element, since others have no location so far. After an error a front of
+/// the report was written. The time grows with the number of nodes, and for a node with
 /// findings with its depth and theirs.
 pub fn write_report<O: Sink>(
     alloc: Global,

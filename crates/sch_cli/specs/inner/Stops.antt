@@ -1,8 +1,8 @@
 -- How the parts of a run end: with a value, or with what stops the run.
-use Rattle.std.specs.Prelude.{◌≡◌, ℕ, ◌<◌, ◌≤◌, ◌⊎◌, List, [], Bool, true, false, Option, None, Some, Result, Ok, Err, MatchResult, IfSome, length, if◌then◌else◌}
+use Rattle.std.specs.Prelude.{◌≡◌, ℕ, ◌<◌, ◌≤◌, ◌⊎◌, List, [], ◌∷◌, ◌++◌, Bool, true, false, Option, None, Some, Result, Ok, Err, MatchResult, IfSome, length, if◌then◌else◌}
 use Rattle.std.specs.FinMap.{get}
 use Rattle.sch_io.specs.Files.{Files}
-use Rattle.sch_io.specs.Counts.{Rose}
+use Rattle.sch_io.specs.ShelfState.{ShelfState}
 use Rattle.sch_io.specs.declared.reading.TheConstants.{MAX_FILE_BYTES}
 use Rattle.sch_io.specs.Wrote.{Appends}
 use Rattle.doc_tree.specs.Table.{Contents}
@@ -13,7 +13,7 @@ use Rattle.sch_cli.specs.declared.status.Status.TheVariants as status
 use Rattle.sch_cli.specs.Commands.{command_of}
 use Rattle.sch_cli.specs.Refusals.{document_refused_line}
 use Rattle.sch_cli.specs.Output.{Output, IsOutput, IsTreeOf, ComesTo, stopped, usage_line, not_yet_line, missing_line, read_fault_line, write_fault_line, memory_line}
-use Rattle.sch_cli.specs.Runs.{AppendsFront, Fronted}
+use Rattle.sch_cli.specs.Runs.{AppendsFront, Fronted, is_status, counted_if, may_write}
 
 -- the status of a stop
 abbrev pub status_of : Stop → Status
@@ -60,24 +60,30 @@ ByCause decided unread unwritten memory (ReadFault name) = unread name.now
 ByCause decided unread unwritten memory WriteFault = unwritten
 ByCause decided unread unwritten memory Memory = memory
 
--- the result is a stop of this status
-abbrev pub StopsWith : {A : Type 0} → Status → Result A Stop → Type 0
-StopsWith wanted result = MatchResult result (λ _. ⊥) (λ stop. status_of stop ≡ wanted)
+-- whether the result is a stop of the wanted status
+abbrev pub ends_with : {A : Type 0} → Status → Result A Stop → Bool
+ends_with wanted (Ok value) = false
+ends_with wanted (Err stop) = is_status wanted (status_of stop)
+
+-- whether a run that ends so may have written to the output
+abbrev pub may_have_written : {A : Type 0} → Result A Stop → Bool
+may_have_written (Ok value) = true
+may_have_written (Err stop) = may_write (status_of stop)
 
 -- a name that the result tells is such a one
 abbrev pub Names : {A : Type 0} → (List ℕ → Type 0) → Result A Stop → Type 0
 Names is_such result = MatchResult result (λ _. Unit {0}) (λ stop. IfSome (name_in stop) is_such)
 
--- a stop of the outside comes only where its count rose
-pub record Blames {A : Type 0} (misses misses' faults faults' : ℕ) (result : Result A Stop) : Type 0 where
-  pub missing : StopsWith status.Missing result → Rose misses misses'
-  pub read_fault : StopsWith status.ReadFault result → Rose faults faults'
-
--- reading a file tells its name alone, and neither judges the words nor writes
-pub record OnlyReads {A : Type 0} (name : List ℕ) (result : Result A Stop) : Type 0 where
+-- the named file alone was opened; faults and misses are counted exactly where they are told; the name in a line is this
+-- one, and the stop is neither of the words nor of the output
+pub record Reads {A : Type 0} (old new : ShelfState) (name : List ℕ) (result : Result A Stop) : Type 0 where
+  pub held : new.files ≡ old.files
+  pub opened : new.opened ≡ old.opened ++ name ∷ []
+  pub faults : new.faults ≡ counted_if (ends_with status.ReadFault result) old.faults
+  pub misses : new.misses ≡ counted_if (ends_with status.Missing result) old.misses
   pub named : Names (λ told. told ≡ name) result
-  pub no_usage : StopsWith status.Usage result → ⊥
-  pub no_write : StopsWith status.WriteFault result → ⊥
+  pub no_usage : ends_with status.Usage result ≡ false
+  pub no_write : ends_with status.WriteFault result ≡ false
 
 -- a file was loaded as a value that goes on, or it stops the run
 abbrev pub Loads : {A : Type 0} → (A → Type 0) → (Output → Type 0) → List ℕ → Result A Stop → Type 0
@@ -118,8 +124,16 @@ abbrev pub ConcludesOver : Option Files → List (List ℕ) → (List ℕ → Ty
 ConcludesOver None words written result = Unit {0}
 ConcludesOver (Some files) words written result = Concludes (IsOutput words files) (ComesTo (command_of words) files) written result
 
--- a report was written whole, or a front of it, and a failed write shows in the count of faults
-abbrev pub ReportsAs : Option (List ℕ) → Option (List ℕ) → ℕ → ℕ → List ℕ → Bool → Result Bool Stop → Type 0
-ReportsAs old new before now text found result = MatchResult result
+-- the status of a run is that of its end, as far as counts and the output go
+pub record EndsAs (ends : Status) (result : Result Bool Stop) : Type 0 where
+  pub is : ends ≡ status_of_end result
+  pub missing : is_status status.Missing ends ≡ ends_with status.Missing result
+  pub read_fault : is_status status.ReadFault ends ≡ ends_with status.ReadFault result
+  pub write_fault : is_status status.WriteFault ends ≡ ends_with status.WriteFault result
+  pub writes : may_write ends ≡ may_have_written result
+
+-- a report was written whole, or a front of it where a write failed or memory ran out
+abbrev pub ReportsAs : Option (List ℕ) → Option (List ℕ) → List ℕ → Bool → Result Bool Stop → Type 0
+ReportsAs old new text found result = MatchResult result
     (λ finds. (finds ≡ found) × Appends old new text)
-    (ByCause (λ output. ⊥) (λ name. ⊥) (Rose before now × AppendsFront old new text) (AppendsFront old new text))
+    (ByCause (λ output. ⊥) (λ name. ⊥) (AppendsFront old new text) (AppendsFront old new text))
