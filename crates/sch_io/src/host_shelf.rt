@@ -1,12 +1,12 @@
 //! A shelf over the files and the standard input of the host.
 
-ghost use Rattle.std.specs.Prelude.{◌≡◌, [], None, Some};
+ghost use Rattle.std.specs.Prelude.{◌≡◌, false, [], None, Some};
 ghost use Rattle.std.specs.Io.{ReadsAtMost};
 ghost use Rattle.std.specs.Io.KnownBytes.{ReadConsumes};
 ghost use Rattle.sch_io.specs.inner.Sources.{rest_of_source};
 
 use crate::error::{Failed, OpenError};
-use crate::opened_names::OpenedNames;
+use crate::history::History;
 use crate::shelf::Shelf;
 use std::io::{ErrorKind, Input, Read};
 use std::marker::Model;
@@ -32,7 +32,7 @@ enum Source<F, I> {
 pub struct HostShelf<'a, R: Files + Input> {
     rt: &'a R,
     source: Source<R::File, R::Reader>,
-    opened: OpenedNames,
+    history: History,
     taken: u64,
     faults: u64,
     misses: u64,
@@ -45,18 +45,18 @@ impl<'a, R: Files + Input> Model for HostShelf<'a, R> {
 
     ghost use Rattle.sch_io.specs.inner.Sources.{rest_of_source};
 
-    ghost view = { λ s. record { rest = rest_of_source R.File.remaining R.Reader.remaining s.source; taken = s.taken; opened = s.opened.names; faults = s.faults; misses = s.misses } };
+    ghost view = { λ s. record { rest = rest_of_source R.File.remaining R.Reader.remaining s.source; taken = s.taken; ended = s.history.ended; opened = s.history.opened; faults = s.faults; misses = s.misses } };
 }
 
 impl<'a, R: Files + Input> HostShelf<'a, R> {
     /// A shelf over the host, with nothing open, no name opened, no fault and no miss so far.
     pub fn new(rt: &'a R) -> HostShelf<'a, R>
-        ensures { result ≡ record { rest = Some []; taken = 0; opened = []; faults = 0; misses = 0 } }
+        ensures { result ≡ record { rest = Some []; taken = 0; ended = false; opened = []; faults = 0; misses = 0 } }
     {
         HostShelf {
             rt,
             source: Source::Nothing,
-            opened: OpenedNames::new(),
+            history: History::new(),
             taken: 0,
             faults: 0,
             misses: 0,
@@ -65,11 +65,11 @@ impl<'a, R: Files + Input> HostShelf<'a, R> {
 }
 
 impl<'a, R: Files + Input> Shelf for HostShelf<'a, R> {
-    ghost state = { λ s. record { files = None; rest = s.rest; taken = s.taken; opened = s.opened; faults = s.faults; misses = s.misses } };
+    ghost state = { λ s. record { files = None; rest = s.rest; taken = s.taken; ended = s.ended; opened = s.opened; faults = s.faults; misses = s.misses } };
 
     #[tactic(auto, unfolding(crate::specs::Counts::one_more))]
     fn open(&mut self, name: &str) -> Result<(), OpenError> {
-        self.opened.push(name.as_bytes());
+        self.history.open(name.as_bytes());
         self.taken = 0;
         self.source = Source::Nothing;
         if name == STANDARD_INPUT {
@@ -98,6 +98,9 @@ impl<'a, R: Files + Input> Shelf for HostShelf<'a, R> {
         match read_source(&mut self.source, buf) {
             Ok(n) => {
                 self.taken = self.taken.saturating_add(n as u64);
+                if n == 0 {
+                    self.history.end();
+                }
                 Ok(n)
             }
             Err(_) => {

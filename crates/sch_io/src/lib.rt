@@ -5,11 +5,11 @@
 mod bytes;
 mod calls;
 mod error;
+mod history;
 mod host_shelf;
 mod host_sink;
 mod memory_shelf;
 mod memory_sink;
-mod opened_names;
 mod reading;
 mod shelf;
 mod sink;

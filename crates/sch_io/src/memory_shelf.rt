@@ -1,19 +1,19 @@
 //! A shelf that keeps its files in memory.
 
-ghost use Rattle.std.specs.Prelude.{◌≡◌, ◌<◌, ◌≤◌, [], ◌∷◌, ◌++◌, length, take, min, map, ◌↔◌, IsTrue, None, Some, OnOk, OnErr, IfOk, IsErrOf, MatchOption, is_err};
+ghost use Rattle.std.specs.Prelude.{◌≡◌, ◌+◌, ◌<◌, ◌≤◌, [], ◌∷◌, ◌++◌, false, length, take, min, map, ◌↔◌, IsTrue, None, Some, OnOk, OnErr, IfOk, IsErrOf, MatchOption, is_err};
 ghost use Rattle.std.specs.FinMap as maps;
 ghost use Rattle.std.specs.Ordering.{nat_cmp};
 ghost use Rattle.std.specs.Cmp.Lexicographic.{slice_cmp};
 ghost use Rattle.std.specs.Io.{ReadsAtMost};
 ghost use Rattle.std.specs.Io.KnownBytes.{ReadConsumes};
-ghost use Rattle.sch_io.specs.Counts.{CountsTaken, faults_after, faults_of_open, misses_of_open};
+ghost use Rattle.sch_io.specs.Counts.{CountsTaken, ended_after, faults_after, faults_of_open, misses_of_open};
 ghost use Rattle.sch_io.specs.Files.{Opens};
 ghost use Rattle.sch_io.specs.Calls.{fails_next, made_next};
-ghost use Rattle.sch_io.specs.inner.NamedFiles.{entry_of, content_at};
+ghost use Rattle.sch_io.specs.inner.NamedFiles.{IsWithin, content_at, entry_of, rest_of, taken_of};
 
 use crate::calls::Calls;
 use crate::error::{Failed, OpenError};
-use crate::opened_names::OpenedNames;
+use crate::history::History;
 use crate::shelf::Shelf;
 use std::alloc::{AllocError, Global};
 use std::marker::Model;
@@ -41,7 +41,7 @@ pub struct MemoryShelf {
     alloc: Global,
     files: Vec<NamedFile>,
     open_file: Option<OpenFile>,
-    opened: OpenedNames,
+    history: History,
     calls: Calls,
     faults: u64,
     misses: u64,
@@ -56,7 +56,7 @@ impl Model for MemoryShelf {
 
     ghost use Rattle.sch_io.specs.inner.NamedFiles.{files_of, rest_of, taken_of, IsWithin};
 
-    ghost view = { λ s. record { files = files_of s.files.items; rest = rest_of s.files.items s.open_file; taken = taken_of s.open_file; opened = s.opened.names; calls = s.calls; faults = s.faults; misses = s.misses } };
+    ghost view = { λ s. record { files = files_of s.files.items; rest = rest_of s.files.items s.open_file; taken = taken_of s.open_file; ended = s.history.ended; opened = s.history.opened; calls = s.calls; faults = s.faults; misses = s.misses } };
 
     ghost invariant = { λ s. IsWithin s.files.items s.open_file };
 }
@@ -64,13 +64,13 @@ impl Model for MemoryShelf {
 impl MemoryShelf {
     /// A shelf without files.
     pub fn new(alloc: Global) -> MemoryShelf
-        ensures { result ≡ record { files = maps.empty; rest = []; taken = 0; opened = []; calls = record { made = 0; failing = [] }; faults = 0; misses = 0 } }
+        ensures { result ≡ record { files = maps.empty; rest = []; taken = 0; ended = false; opened = []; calls = record { made = 0; failing = [] }; faults = 0; misses = 0 } }
     {
         MemoryShelf {
             alloc,
             files: Vec::new(alloc),
             open_file: None,
-            opened: OpenedNames::new(),
+            history: History::new(),
             calls: Calls::new(alloc),
             faults: 0,
             misses: 0,
@@ -99,13 +99,14 @@ impl MemoryShelf {
 }
 
 impl Shelf for MemoryShelf {
-    ghost state = { λ s. record { files = Some s.files; rest = Some s.rest; taken = s.taken; opened = s.opened; faults = s.faults; misses = s.misses } };
+    ghost state = { λ s. record { files = Some s.files; rest = Some s.rest; taken = s.taken; ended = s.ended; opened = s.opened; faults = s.faults; misses = s.misses } };
 
     /// Fails exactly at the calls given to `fail_at`.
     #[tactic(auto, unfolding(crate::specs::Counts::one_more))]
     fn open(&mut self, name: &str) -> Result<(), OpenError>
         ensures opened { Opens (Some self.new.files) (Some self.new.rest) name.now result }
         ensures fresh { self.new.taken ≡ 0 }
+        ensures begun { self.new.ended ≡ false }
         ensures held { self.new.files ≡ self.old.files }
         ensures noted { self.new.opened ≡ self.old.opened ++ name.now ∷ [] }
         ensures faults { self.new.faults ≡ faults_of_open result self.old.faults }
@@ -113,7 +114,7 @@ impl Shelf for MemoryShelf {
         ensures chosen { IsErrOf result OpenError.Failed ↔ IsTrue (fails_next self.old.calls) }
         ensures counted { self.new.calls ≡ made_next self.old.calls }
     {
-        self.opened.push(name.as_bytes());
+        self.history.open(name.as_bytes());
         self.open_file = None;
         if self.calls.next() {
             self.faults = self.faults.saturating_add(1);
@@ -138,6 +139,7 @@ impl Shelf for MemoryShelf {
         ensures bound { ReadsAtMost result buf.new }
         ensures bytes { ReadConsumes (Some self.old.rest) (Some self.new.rest) result buf.new }
         ensures taken { CountsTaken self.old.taken self.new.taken result }
+        ensures ended { self.new.ended ≡ ended_after result self.old.ended }
         ensures held { self.new.files ≡ self.old.files }
         ensures noted { self.new.opened ≡ self.old.opened }
         ensures faults { self.new.faults ≡ faults_after result self.old.faults }
@@ -150,19 +152,32 @@ impl Shelf for MemoryShelf {
             self.faults = self.faults.saturating_add(1);
             return Err(Failed);
         }
-        let Some(open_file) = self.open_file else {
-            return Ok(0);
-        };
-        let Some(file) = self.files.get(open_file.place) else {
-            return Ok(0);
-        };
-        let n = copy_front(&file.content.as_slice()[open_file.at..], buf);
-        self.open_file = Some(OpenFile {
-            place: open_file.place,
-            at: open_file.at + n,
-        });
+        let n = read_open(self.files.as_slice(), &mut self.open_file, buf);
+        if n == 0 {
+            self.history.end();
+        }
         Ok(n)
     }
+}
+
+/// Moves what is left of the open file into `buf`, as far as it goes, and answers how many bytes.
+fn read_open(files: &[NamedFile], open_file: &mut Option<OpenFile>, buf: &mut [u8]) -> usize
+    requires within { IsWithin files.now open_file.old }
+    ensures bound { result ≤ length buf.new }
+    ensures fills { result ≡ min (length (rest_of files.now open_file.old)) (length buf.old) }
+    ensures bytes { rest_of files.now open_file.old ≡ take result buf.new ++ rest_of files.now open_file.new }
+    ensures taken { taken_of open_file.new ≡ taken_of open_file.old + result }
+    ensures still_within { IsWithin files.now open_file.new }
+{
+    let Some(OpenFile { place, at }) = *open_file else {
+        return 0;
+    };
+    let Some(file) = files.get(place) else {
+        return 0;
+    };
+    let n = copy_front(&file.content.as_slice()[at..], buf);
+    *open_file = Some(OpenFile { place, at: at + n });
+    n
 }
 
 /// The place of the first file of that name.

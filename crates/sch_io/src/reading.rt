@@ -1,6 +1,6 @@
 //! Reading a file whole.
 
-ghost use Rattle.std.specs.Prelude.{◌≡◌, ◌<◌, ◌∷◌, [], ◌++◌, ◌↔◌, length, IfOk, IsErrOf, OnOk};
+ghost use Rattle.std.specs.Prelude.{◌≡◌, ◌<◌, ◌∷◌, [], ◌++◌, ◌↔◌, false, is_ok, length, IfOk, IsErrOf, OnOk};
 ghost use Rattle.std.specs.Io.KnownBytes.{IsAtEnd};
 ghost use Rattle.sch_io.specs.Counts.{faults_of_reading, misses_of_reading};
 ghost use Rattle.sch_io.specs.Files.{Files};
@@ -25,6 +25,7 @@ pub fn read_all<S: Shelf>(alloc: Global, shelf: &mut S, name: &str) -> Result<By
     ensures told { (files : Files) → (S.state shelf.old).files ≡ Some files → ReadsWhole files name.now result }
     ensures counted { IfOk result (λ bytes. (S.state shelf.new).taken ≡ length bytes) }
     ensures at_end { OnOk result (IsAtEnd (S.state shelf.new).rest) }
+    ensures ended { (S.state shelf.new).ended ≡ is_ok result }
     ensures too_large { IsErrOf result ReadError.TooLarge ↔ (MAX_FILE_BYTES < (S.state shelf.new).taken) }
     ensures held { (S.state shelf.new).files ≡ (S.state shelf.old).files }
     ensures noted { (S.state shelf.new).opened ≡ (S.state shelf.old).opened ++ name.now ∷ [] }
@@ -40,10 +41,12 @@ pub fn read_all<S: Shelf>(alloc: Global, shelf: &mut S, name: &str) -> Result<By
 
 /// The rest of the open file, of which nothing was read yet.
 fn read_rest<S: Shelf>(alloc: Global, shelf: &mut S) -> Result<Bytes, ReadError>
-    requires { (S.state shelf.old).taken ≡ 0 }
+    requires fresh { (S.state shelf.old).taken ≡ 0 }
+    requires begun { (S.state shelf.old).ended ≡ false }
     ensures told { ReadsRest (S.state shelf.old).rest result }
     ensures counted { IfOk result (λ bytes. (S.state shelf.new).taken ≡ length bytes) }
     ensures at_end { OnOk result (IsAtEnd (S.state shelf.new).rest) }
+    ensures ended { (S.state shelf.new).ended ≡ is_ok result }
     ensures too_large { IsErrOf result ReadError.TooLarge ↔ (MAX_FILE_BYTES < (S.state shelf.new).taken) }
     ensures held { (S.state shelf.new).files ≡ (S.state shelf.old).files }
     ensures noted { (S.state shelf.new).opened ≡ (S.state shelf.old).opened }
