@@ -1,7 +1,7 @@
 //! Documents with namespaces, their nodes, their first faults, and their texts written again.
 
 use crate::rows::{sides, text_of};
-use doc_tree::{MAX_TEXT_BYTES, Tree};
+use doc_tree::{MAX_LIVE_TEXT_BYTES, Tree};
 use name_scopes::{DocFault, DocKind, LoadError, load_tree, write_tree};
 use sch_io::{Failed, MemorySink};
 use std::alloc::Global;
@@ -39,7 +39,7 @@ const FAULTY_DOCUMENTS: &str = " => line 1: Pyx(NoRoot)\n\
 
 /// Loads a text of a test.
 fn loaded(rt: &impl Abort, alloc: Global, text: &str) -> Result<Tree, LoadError> {
-    assert!(rt; text.len() <= MAX_TEXT_BYTES);
+    assert!(rt; text.len() <= MAX_LIVE_TEXT_BYTES);
     load_tree(alloc, text.as_bytes())
 }
 

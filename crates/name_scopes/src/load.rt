@@ -16,7 +16,7 @@ use doc_tree::{MAX_LIVE_TEXT_BYTES, Tree};
 use pyx_core::{Located, Mode, events_nest, read_front};
 use std::alloc::Global;
 
-/// Loads a document of at most `MAX_TEXT_BYTES` bytes: the tree of its events, with each name in the namespace that the
+/// Loads a document of at most `MAX_LIVE_TEXT_BYTES` bytes: the tree of its events, with each name in the namespace that the
 /// nearest declaration of its prefix gives (Namespaces in XML 1.0, section 6), or its first fault.
 ///
 /// Costs time linear in the bytes.
