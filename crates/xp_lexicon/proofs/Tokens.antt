@@ -13,7 +13,9 @@ use Rattle.xp_grammar.specs.declared.token.Placed.{Placed}
 use Rattle.xp_grammar.specs.declared.token.Token.{Token}
 use Rattle.xp_grammar.specs.declared.token.Token.TheVariants as token
 use Rattle.xp_lexicon.specs.declared.lexeme.Lexeme.{Lexeme}
-use Rattle.xp_lexicon.specs.Lexicon.{named, node_types, axis_names, trimmed, goes_on, called, name_token, starred_token, token_of, ends_operand, IsLexeme, IsLongest, TokensFrom, at_end, whitespace, one_token, bad_token, Tokenized}
+use Rattle.xp_lexicon.specs.Lexicon.{node_types, trimmed, goes_on, called, name_token, starred_token, token_of, ends_operand, IsLexeme, IsLongest, TokensFrom, at_end, whitespace, one_token, bad_token, Tokenized}
+use Rattle.xp_tree.specs.Named.{named}
+use Rattle.xp_tree.specs.AxisNames.{axis_names}
 use Rattle.xp_lexicon.specs.inner.Scanning.{Stops, Ran, IsEnd, LongestAt, NoToken, ReadAt}
 use Rattle.xp_lexicon.proofs.Same.{same_lexeme, lexeme_takes}
 

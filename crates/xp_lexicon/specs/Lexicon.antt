@@ -4,12 +4,12 @@ use Rattle.std.specs.Prelude.{◌≡◌, ◌≤◌, ◌+◌, ℕ, suc, Bool, tru
 use Rattle.std.specs.Char.{is_ascii_digit}
 use Rattle.std.specs.List.{list_any, starts_with}
 use Rattle.std.specs.Option.{option_map}
-use Rattle.std.specs.Str.{bytes_eq, all_ascii_digits}
+use Rattle.std.specs.Str.{all_ascii_digits}
 use Rattle.sch_base.specs.Characters.{is_whitespace}
 use Rattle.sch_base.specs.Names.{is_ncname}
-use Rattle.xp_tree.specs.declared.terms.AxisName.{AxisName}
-use Rattle.xp_tree.specs.declared.terms.AxisName.TheVariants as axis
 use Rattle.xp_tree.specs.declared.terms.Operator.TheVariants as operator
+use Rattle.xp_tree.specs.AxisNames.{axis_names}
+use Rattle.xp_tree.specs.Named.{named}
 use Rattle.xp_grammar.specs.declared.token.NodeType.{NodeType}
 use Rattle.xp_grammar.specs.declared.token.NodeType.TheVariants as node_type
 use Rattle.xp_grammar.specs.declared.token.Placed.{Placed}
@@ -17,11 +17,6 @@ use Rattle.xp_grammar.specs.declared.token.Token.{Token}
 use Rattle.xp_grammar.specs.declared.token.Token.TheVariants as token
 use Rattle.xp_lexicon.specs.declared.lexeme.Lexeme.{Lexeme}
 use Rattle.xp_lexicon.specs.declared.lexeme.Lexeme.TheVariants as lexeme
-
--- what a table has beside a text
-abbrev pub named : {A : Type 0} → List (List ℕ × A) → List ℕ → Option A
-named [] text = None
-named (entry ∷ table) text = if bytes_eq text entry.0 then Some entry.1 else named table text
 
 -- the symbols that are the same token at each place
 abbrev pub symbols : List (List ℕ × Token)
@@ -61,23 +56,6 @@ node_types = (codes "comment", node_type.Comment)
     ∷ (codes "text", node_type.Chars)
     ∷ (codes "processing-instruction", node_type.Pi)
     ∷ (codes "node", node_type.Node)
-    ∷ []
-
--- AxisName: section 2.2
-abbrev pub axis_names : List (List ℕ × AxisName)
-axis_names = (codes "ancestor", axis.Ancestor)
-    ∷ (codes "ancestor-or-self", axis.AncestorOrSelf)
-    ∷ (codes "attribute", axis.Attribute)
-    ∷ (codes "child", axis.Child)
-    ∷ (codes "descendant", axis.Descendant)
-    ∷ (codes "descendant-or-self", axis.DescendantOrSelf)
-    ∷ (codes "following", axis.Following)
-    ∷ (codes "following-sibling", axis.FollowingSibling)
-    ∷ (codes "namespace", axis.Namespace)
-    ∷ (codes "parent", axis.Parent)
-    ∷ (codes "preceding", axis.Preceding)
-    ∷ (codes "preceding-sibling", axis.PrecedingSibling)
-    ∷ (codes "self", axis.SelfNode)
     ∷ []
 
 -- Digits

@@ -1,7 +1,8 @@
 //! Symbols: tokens of one or two signs (XPath 1.0, section 3.7).
 
 ghost use Rattle.std.specs.Prelude.{◌≡◌, ◌∷◌, ◌++◌, [], encode_utf8, MatchOption};
-ghost use Rattle.xp_lexicon.specs.Lexicon.{named, symbols};
+ghost use Rattle.xp_lexicon.specs.Lexicon.{symbols};
+ghost use Rattle.xp_tree.specs.Named.{named};
 ghost use Rattle.xp_lexicon.specs.inner.Scanning.{LongestOf, NoneOf, is_symbol};
 
 use crate::lexeme::{Lexeme, Scanned};

@@ -3,14 +3,16 @@
 ghost use Rattle.std.specs.Prelude.{◌≡◌, [], Some};
 ghost use Rattle.std.specs.Option.{option_map};
 ghost use Rattle.xp_grammar.specs.declared.token.Token.TheVariants as token;
-ghost use Rattle.xp_lexicon.specs.Lexicon.{named, axis_names, node_types, called, ends_operand, name_token, starred_token, token_of};
+ghost use Rattle.xp_lexicon.specs.Lexicon.{node_types, called, ends_operand, name_token, starred_token, token_of};
+ghost use Rattle.xp_tree.specs.Named.{named};
+ghost use Rattle.xp_tree.specs.AxisNames.{axis_names};
 ghost use Rattle.xp_lexicon.specs.declared.lexeme.Lexeme.TheVariants as lexeme;
 
 use crate::lexeme::Lexeme;
 use crate::run::{Class, after_run};
-use crate::words::{axis_named, node_type_named, operator_named};
+use crate::words::{node_type_named, operator_named};
 use xp_grammar::{Token, Word};
-use xp_tree::Operator;
+use xp_tree::{AxisName, Operator};
 
 /// Whether an operand may end with the token: `*` and names after it are operators (XPath 1.0, section 3.7).
 pub(crate) fn ends_operand(token: &Token) -> bool
@@ -115,7 +117,7 @@ fn called<'a>(name: Word<'a>) -> Token<'a>
 fn axis_token<'a>(name: Word<'a>) -> Option<Token<'a>>
     ensures { result ≡ option_map token.Axis (named axis_names name.entry) }
 {
-    match axis_named(name.as_str()) {
+    match AxisName::named(name.as_str()) {
         Some(axis) => Some(Token::Axis(axis)),
         None => None,
     }

@@ -1,10 +1,11 @@
 //! Names that mean something of their own.
 
 ghost use Rattle.std.specs.Prelude.{◌≡◌};
-ghost use Rattle.xp_lexicon.specs.Lexicon.{named, operator_names, node_types, axis_names};
+ghost use Rattle.xp_lexicon.specs.Lexicon.{operator_names, node_types};
+ghost use Rattle.xp_tree.specs.Named.{named};
 
 use xp_grammar::{NodeType, Token};
-use xp_tree::{AxisName, Operator};
+use xp_tree::Operator;
 
 /// The operator of a name after an operand (XPath 1.0, section 3.7).
 pub(crate) fn operator_named<'a>(name: &str) -> Option<Token<'a>>
@@ -28,28 +29,6 @@ pub(crate) fn node_type_named(name: &str) -> Option<NodeType>
         "text" => Some(NodeType::Chars),
         "processing-instruction" => Some(NodeType::Pi),
         "node" => Some(NodeType::Node),
-        _ => None,
-    }
-}
-
-/// The axis of a name (XPath 1.0, section 2.2).
-pub(crate) fn axis_named(name: &str) -> Option<AxisName>
-    ensures { result ≡ named axis_names name.now }
-{
-    match name {
-        "ancestor" => Some(AxisName::Ancestor),
-        "ancestor-or-self" => Some(AxisName::AncestorOrSelf),
-        "attribute" => Some(AxisName::Attribute),
-        "child" => Some(AxisName::Child),
-        "descendant" => Some(AxisName::Descendant),
-        "descendant-or-self" => Some(AxisName::DescendantOrSelf),
-        "following" => Some(AxisName::Following),
-        "following-sibling" => Some(AxisName::FollowingSibling),
-        "namespace" => Some(AxisName::Namespace),
-        "parent" => Some(AxisName::Parent),
-        "preceding" => Some(AxisName::Preceding),
-        "preceding-sibling" => Some(AxisName::PrecedingSibling),
-        "self" => Some(AxisName::SelfNode),
         _ => None,
     }
 }

@@ -13,7 +13,8 @@ use Rattle.xp_tree.specs.View.{tree_of, trees_seen, operands_seen, steps_seen}
 use Rattle.xp_tree.specs.Tree.{Tree, Steps, operand, root, here, from}
 use Rattle.xp_tree.proofs.ViewLemmas.{of-operand, of-step}
 use Rattle.xp_print.specs.Adding.{Added}
-use Rattle.xp_print.specs.Printed.{is_bare_path, binding_of, operator_text, is_name_like, name_like_next, axis_text, test_text, bracketed, enclosed, unless, operand_text, printed, printed_rest, printed_steps, printed_predicates, printed_args}
+use Rattle.xp_print.specs.Printed.{is_bare_path, binding_of, operator_text, is_name_like, name_like_next, test_text, bracketed, enclosed, unless, operand_text, printed, printed_rest, printed_steps, printed_predicates, printed_args}
+use Rattle.xp_tree.specs.AxisNames.{axis_text}
 
 append-none : (xs : List ℕ) → xs ++ [] ≡ xs
 append-none [] = refl

@@ -5,10 +5,9 @@ use Rattle.xp_tree.specs.declared.terms.Level.{Level}
 use Rattle.xp_tree.specs.declared.terms.Level.TheVariants as levels
 use Rattle.xp_tree.specs.declared.terms.Operator.{Operator}
 use Rattle.xp_tree.specs.declared.terms.Operator.TheVariants as operators
-use Rattle.xp_tree.specs.declared.terms.AxisName.{AxisName}
-use Rattle.xp_tree.specs.declared.terms.AxisName.TheVariants as axes
 use Rattle.xp_tree.specs.declared.terms.StepTest.{StepTest}
 use Rattle.xp_tree.specs.declared.terms.StepTest.TheVariants as tests
+use Rattle.xp_tree.specs.AxisNames.{axis_text}
 use Rattle.xp_tree.specs.Tree.{Tree, PathStart, Steps, Operands, Trees, chain, negated, path, filtered, variable, literal, number, call, root, here, from, no_steps, step, no_operands, operand, no_trees, tree}
 
 -- how tightly the operators of a level bind; a sign binds tighter than all but `|`
@@ -45,7 +44,7 @@ operator_text operators.Div = codes " div "
 operator_text operators.Mod = codes " mod "
 operator_text operators.Union = codes " | "
 
--- the operator would be read as a name test behind a `/`
+-- the operator would be read as a name test after a `/`
 abbrev pub is_name_like : Operator → Bool
 is_name_like operators.Or = true
 is_name_like operators.And = true
@@ -54,25 +53,10 @@ is_name_like operators.Div = true
 is_name_like operators.Mod = true
 is_name_like _ = false
 
--- the token behind an operand is such an operator: the next one, or what stands behind the chain
+-- the token after an operand is such an operator: the next one, or what stands after the chain
 abbrev pub name_like_next : Bool → Operands → Bool
 name_like_next behind no_operands = behind
 name_like_next behind (operand operator offset e rest) = is_name_like operator
-
-abbrev pub axis_text : AxisName → List ℕ
-axis_text axes.Ancestor = codes "ancestor"
-axis_text axes.AncestorOrSelf = codes "ancestor-or-self"
-axis_text axes.Attribute = codes "attribute"
-axis_text axes.Child = codes "child"
-axis_text axes.Descendant = codes "descendant"
-axis_text axes.DescendantOrSelf = codes "descendant-or-self"
-axis_text axes.Following = codes "following"
-axis_text axes.FollowingSibling = codes "following-sibling"
-axis_text axes.Namespace = codes "namespace"
-axis_text axes.Parent = codes "parent"
-axis_text axes.Preceding = codes "preceding"
-axis_text axes.PrecedingSibling = codes "preceding-sibling"
-axis_text axes.SelfNode = codes "self"
 
 -- single quotes, or double ones for a text that holds a single one
 abbrev pub quote_of : List ℕ → List ℕ
@@ -115,7 +99,7 @@ is_path_base e = is_base e
 abbrev pub enclosed : Bool → List ℕ → List ℕ
 enclosed bare text = if bare then text else bracketed text
 
--- `/` alone stands in parentheses before what would be read as a name test behind it
+-- `/` alone stands in parentheses before what would be read as a name test after it
 abbrev pub is_bare_path : Bool → PathStart → Steps → Bool
 is_bare_path true root no_steps = false
 is_bare_path _ _ _ = true
@@ -126,7 +110,7 @@ unless true text = []
 unless false text = text
 
 abbrev mutual
-  -- the text of an expression; whether a name-like operator stands behind it
+  -- the text of an expression; whether a name-like operator stands after it
   pub printed : Bool → Tree → List ℕ
   printed behind (chain level offset first rest) =
       operand_text (binding level) first (printed false first) (printed (name_like_next behind rest) first) ++ printed_rest (binding level) behind rest

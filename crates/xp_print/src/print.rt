@@ -9,8 +9,8 @@ ghost use Rattle.xp_print.specs.Adding.{Added};
 ghost use Rattle.xp_print.specs.Printed.{binding, operand_text, enclosed, printed, printed_rest, printed_start, printed_steps, printed_predicates, printed_args, printed_chain};
 
 use crate::terms::{
-    add, add_quoted, add_signs, add_test, add_unless, axis_text, binding, binding_of, is_bare_path,
-    is_base, is_name_like_next, is_path_base, operator_text,
+    add, add_quoted, add_signs, add_test, add_unless, binding, binding_of, is_bare_path, is_base,
+    is_name_like_next, is_path_base, operator_text,
 };
 use sch_base::Text;
 use std::alloc::{AllocError, Global};
@@ -26,7 +26,7 @@ pub fn print_expr(alloc: Global, expr: &Expr) -> Result<Text, AllocError>
     Ok(Text::from(out))
 }
 
-/// Adds an expression; `behind` says whether an operator stands behind it that would be read as a name test after `/`.
+/// Adds an expression; `behind` says whether an operator stands after it that would be read as a name test after `/`.
 #[cycle(print)]
 fn add_expr(out: &mut String, expr: &Expr, behind: bool) -> Result<(), AllocError>
     ensures { OnOk result (Added (string_bytes out.old) (printed behind (tree_of expr.now)) (string_bytes out.new)) }
@@ -148,7 +148,7 @@ fn add_steps(out: &mut String, steps: &[Step]) -> Result<(), AllocError>
     let mut first = true;
     for step in steps {
         add_unless(out, first, "/")?;
-        add(out, axis_text(step.axis))?;
+        add(out, step.axis.as_str())?;
         add(out, "::")?;
         add_test(out, &step.test)?;
         add_predicates(out, &step.predicates)?;

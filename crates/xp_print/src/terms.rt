@@ -3,12 +3,12 @@
 ghost use Rattle.std.specs.Prelude.{◌≡◌, ◌++◌, OnOk, string_bytes, replicate, drop};
 ghost use Rattle.xp_tree.specs.View.{tree_of, start_of, operands_seen, steps_seen};
 ghost use Rattle.xp_print.specs.Adding.{Added};
-ghost use Rattle.xp_print.specs.Printed.{binding, binding_of, is_base, is_path_base, is_bare_path, operator_text, is_name_like, name_like_next, unless, axis_text, quote_of, quoted, test_text};
+ghost use Rattle.xp_print.specs.Printed.{binding, binding_of, is_base, is_path_base, is_bare_path, operator_text, is_name_like, name_like_next, unless, quote_of, quoted, test_text};
 ghost use Rattle.xp_tree.specs.declared.terms.StepTest.TheVariants as tests;
 
 use sch_base::Text;
 use std::alloc::AllocError;
-use xp_tree::{AxisName, Expr, Level, Operand, Operator, Start, Step, StepTest};
+use xp_tree::{Expr, Level, Operand, Operator, Start, Step, StepTest};
 
 /// Adds a text at the end.
 pub(crate) fn add(out: &mut String, text: &str) -> Result<(), AllocError>
@@ -130,7 +130,7 @@ pub(crate) fn operator_text(operator: Operator) -> &'static str
     }
 }
 
-/// Whether an operator would be read as a name test behind a `/`.
+/// Whether an operator would be read as a name test after a `/`.
 pub(crate) fn is_name_like(operator: Operator) -> bool
     ensures { result ≡ is_name_like operator }
 {
@@ -140,7 +140,7 @@ pub(crate) fn is_name_like(operator: Operator) -> bool
     )
 }
 
-/// Whether a name-like operator stands before the operand at a place, or behind the chain where there is none.
+/// Whether a name-like operator stands before the operand at a place, or after the chain where there is none.
 pub(crate) fn is_name_like_next(rest: &[Operand], at: usize, behind: bool) -> bool
     ensures { result ≡ name_like_next behind (operands_seen (drop at rest.now)) }
 {
@@ -158,27 +158,6 @@ pub(crate) fn is_bare_path(start: &Start, steps: &[Step], behind: bool) -> bool
         Start::Root => !behind || !steps.is_empty(),
         Start::Here => true,
         Start::From(_) => true,
-    }
-}
-
-/// The name of an axis.
-pub(crate) fn axis_text(axis: AxisName) -> &'static str
-    ensures { result.now ≡ axis_text axis }
-{
-    match axis {
-        AxisName::Ancestor => "ancestor",
-        AxisName::AncestorOrSelf => "ancestor-or-self",
-        AxisName::Attribute => "attribute",
-        AxisName::Child => "child",
-        AxisName::Descendant => "descendant",
-        AxisName::DescendantOrSelf => "descendant-or-self",
-        AxisName::Following => "following",
-        AxisName::FollowingSibling => "following-sibling",
-        AxisName::Namespace => "namespace",
-        AxisName::Parent => "parent",
-        AxisName::Preceding => "preceding",
-        AxisName::PrecedingSibling => "preceding-sibling",
-        AxisName::SelfNode => "self",
     }
 }
 

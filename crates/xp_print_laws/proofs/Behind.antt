@@ -12,8 +12,10 @@ use Rattle.xp_grammar.specs.declared.token.NodeType.TheVariants as node_type
 use Rattle.xp_grammar.specs.declared.token.Token.{Token}
 use Rattle.xp_grammar.specs.declared.token.Token.TheVariants as token
 use Rattle.std.specs.List.{list_any}
-use Rattle.xp_lexicon.specs.Lexicon.{named, symbols, ends_operand, goes_on}
-use Rattle.xp_print.specs.Printed.{operator_text, is_name_like, axis_text, test_text, quoted}
+use Rattle.xp_lexicon.specs.Lexicon.{symbols, ends_operand, goes_on}
+use Rattle.xp_tree.specs.Named.{named}
+use Rattle.xp_print.specs.Printed.{operator_text, is_name_like, test_text, quoted}
+use Rattle.xp_tree.specs.AxisNames.{axis_text}
 use Rattle.xp_print_laws.specs.PrintedTokens.{test_tokens}
 use Rattle.xp_print_laws.proofs.Fits.{FitsTest, fits_star, fits_prefix, fits_named, fits_node, fits_chars, fits_comment, fits_pi, fits_target}
 use Rattle.xp_print_laws.proofs.Longest.{no_pair, stops}

@@ -6,7 +6,8 @@ use Rattle.xp_tree.specs.declared.terms.Level.{Level}
 use Rattle.xp_tree.specs.declared.terms.Operator.TheVariants as operators
 use Rattle.xp_grammar.specs.declared.token.Token.{Token}
 use Rattle.xp_grammar.specs.declared.token.Token.TheVariants as token
-use Rattle.xp_print.specs.Printed.{binding, binding_of, sign_binding, name_like_next, is_base, is_path_base, operator_text, axis_text, test_text, bracketed, operand_text, enclosed, printed, printed_start, printed_steps, printed_rest, printed_predicates, printed_args}
+use Rattle.xp_print.specs.Printed.{binding, binding_of, sign_binding, name_like_next, is_base, is_path_base, operator_text, test_text, bracketed, operand_text, enclosed, printed, printed_start, printed_steps, printed_rest, printed_predicates, printed_args}
+use Rattle.xp_tree.specs.AxisNames.{axis_text}
 use Rattle.xp_print_laws.specs.PrintedTokens.{in_parens, operand_tokens, enclosed_tokens, test_tokens, tokens_printed, start_tokens, steps_tokens, rest_tokens, predicates_tokens, arguments_tokens}
 use Rattle.xp_print_laws.proofs.Fits.{Fits, fits_chain, fits_negated, fits_root, fits_root_within, fits_from_root, fits_from_here, fits_from_base, fits_filtered, fits_variable, fits_literal, fits_number, fits_call, FitsAround, around_bare, around_within, FitsOperands, fits_no_more, fits_one_more, FitsBase, base_bare, base_within, FitsSteps, fits_step, FitsMoreSteps, fits_no_more_steps, fits_more_steps, FitsPredicates, fits_no_predicate, fits_predicate, FitsArguments, fits_no_argument, fits_argument}
 use Rattle.xp_print_laws.proofs.Fitting.{path-base}

@@ -9,8 +9,10 @@ use Rattle.xp_tree.specs.declared.terms.AxisName.{AxisName}
 use Rattle.xp_tree.specs.declared.terms.AxisName.TheVariants as axes
 use Rattle.xp_grammar.specs.declared.token.NodeType.{NodeType}
 use Rattle.xp_grammar.specs.declared.token.NodeType.TheVariants as node_type
-use Rattle.xp_lexicon.specs.Lexicon.{named, axis_names, node_types, IsNcname}
-use Rattle.xp_print.specs.Printed.{axis_text}
+use Rattle.xp_lexicon.specs.Lexicon.{node_types, IsNcname}
+use Rattle.xp_tree.specs.Named.{named}
+use Rattle.xp_tree.specs.AxisNames.{axis_names}
+use Rattle.xp_tree.specs.AxisNames.{axis_text}
 
 word : (bytes : List ℕ) → is_utf8 bytes ≡ true → is_ncname bytes ≡ true → IsNcname bytes
 word bytes utf8 name = record { utf8 = IsUtf8-from_is_utf8 bytes utf8; name = name }

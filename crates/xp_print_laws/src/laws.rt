@@ -1,4 +1,4 @@
-//! Laws of the definitions, for the proofs of callers.
+//! Laws of printing, for the proofs of callers.
 
 ghost use Rattle.xp_print_laws.specs.Reprinted.{PrintedTokensDeriveTheSame};
 ghost use Rattle.xp_print_laws.specs.Spelling.{PrintedSpellsNothingElse, PrintedSpellsTheSame, PrintedTextHasThePrintedTokens};

@@ -1,5 +1,5 @@
-//! How texts and expressions belong together: a text spells at most one expression, and the printed text of an
-//! expression that some text spells, spells it again.
+//! The laws of printing: the printed text of an expression that some text spells, spells the same expression, but for
+//! offsets, and nothing else; it needs no deeper nesting than that text (XPath 1.0, section 3).
 #![tactic(auto)]
 
 mod laws;

@@ -2,3 +2,5 @@ pub mod Tree
 pub mod View
 pub mod PatternTree
 pub mod Decimals
+pub mod Named
+pub mod AxisNames

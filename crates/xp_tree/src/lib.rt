@@ -2,6 +2,7 @@
 //! where it begins.
 #![tactic(auto)]
 
+mod axis_names;
 mod build;
 mod expr;
 mod numbers;

@@ -88,7 +88,7 @@ pub add_steps-loop-step-init : goal.add_steps-loop-step-init
 add_steps-loop-step-init t c = begin _ _ _ refl
 
 pub add_steps-loop-step-preserved : goal.add_steps-loop-step-preserved
-add_steps-loop-step-preserved t c = moved _ (rw c.deref.ensures.value at c.in_ok-add_predicates.ensures) (moved _ c.in_ok-add_test.ensures (moved _ c.in_ok-add-2.ensures (moved _ (rw c.axis_text.ensures at c.in_ok-add.ensures) (moved _ c.in_ok-add_unless.ensures
+add_steps-loop-step-preserved t c = moved _ (rw c.deref.ensures.value at c.in_ok-add_predicates.ensures) (moved _ c.in_ok-add_test.ensures (moved _ c.in_ok-add-2.ensures (moved _ (rw c.as_str.ensures at c.in_ok-add.ensures) (moved _ c.in_ok-add_unless.ensures
     (steps-next _ _ _ c.step-item.result _ _ c.loop-step-test.true c.step-item.is c.loop-step.invariant)))))
 
 pub add_steps-returns : goal.add_steps-returns
