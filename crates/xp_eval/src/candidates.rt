@@ -46,7 +46,6 @@ fn nodes_on_axis(alloc: Global, tree: &Tree, axis: Axis, n: NodeId) -> Result<No
     ensures live { IfOk result (λ nodes. (m : ℕ) → mem m nodes ≡ true → is_live tree.now.nodes m ≡ true) }
 {
     tree.laws();
-    tree.scope_laws();
     if tree.contains(n) {
         axis_nodes(alloc, tree, n, axis)
     } else {

@@ -30,7 +30,6 @@ pub(crate) fn way_to(alloc: Global, tree: &Tree, n: NodeId) -> Result<NodeList, 
     ensures { IfOk result (λ way. way ≡ starts tree.now.nodes false n) }
 {
     tree.laws();
-    tree.nesting();
     let mut way = ItemList::new(alloc);
     push_way(tree, &mut way, n)?;
     Ok(way)

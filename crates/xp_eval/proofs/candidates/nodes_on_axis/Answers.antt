@@ -8,5 +8,5 @@ returns-then-contains-clause-live c = all_live c.args.tree.now.nodes c.laws.ensu
 pub returns-else-contains-clause-nodes : goal.returns-else-contains-clause-nodes
 returns-else-contains-clause-nodes c =
     c.new.ensures
-    ∙ sym (dead_axis c.args.tree.now.nodes c.laws.ensures.ordered c.laws.ensures.ways_up c.scope_laws.ensures c.args.n
+    ∙ sym (dead_axis c.args.tree.now.nodes c.laws.ensures.ordered c.laws.ensures.ways_up c.laws.ensures.scopes c.args.n
     (sym c.contains.ensures ∙ c.if-contains.false) c.args.axis)
