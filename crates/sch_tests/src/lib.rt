@@ -5,5 +5,6 @@
 mod locations;
 #[cfg(test)]
 mod reports;
+pub mod rows;
 #[cfg(test)]
 mod runs;

@@ -3,6 +3,7 @@
 use crate::reports::{
     EMPTY_LIST, ITEMS, ITEMS_REPORT, LISTS, LISTS_REPORT, NOTHING_FIRED, TWO_ITEMS,
 };
+use crate::rows::sides;
 use sch_cli::{Status, Words, run};
 use sch_io::{MemoryShelf, MemorySink};
 use std::alloc::Global;
@@ -120,18 +121,10 @@ fn stopped(
     Ok(())
 }
 
-/// The two parts of a line of a table.
-fn parted(line: &str) -> Result<(&str, &str), Fail> {
-    match line.split_once(" => ") {
-        Some(parts) => Ok(parts),
-        None => Err("a line of a table without its mark".into()),
-    }
-}
-
 /// Asserts each line of a table of words.
 fn stopped_as(rt: &impl Abort, alloc: Global, table: &str) -> Result<(), Fail> {
     for line in table.lines() {
-        let (words, wanted) = parted(line)?;
+        let (words, wanted) = sides(line)?;
         stopped(rt, alloc, words, 0, ROOM, wanted)?;
     }
     Ok(())
@@ -140,7 +133,7 @@ fn stopped_as(rt: &impl Abort, alloc: Global, table: &str) -> Result<(), Fail> {
 /// Asserts each line of a table of documents that are refused.
 fn refused_as(rt: &impl Abort, alloc: Global, table: &str) -> Result<(), Fail> {
     for line in table.lines() {
-        let (document, wanted) = parted(line)?;
+        let (document, wanted) = sides(line)?;
         let document = document.replace(alloc, "|", "\n")?;
         validated(rt, alloc, ITEMS, document.as_bytes(), b"", wanted)?;
     }
