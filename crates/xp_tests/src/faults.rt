@@ -1,153 +1,82 @@
-//! Tests of first faults.
+//! First faults of expressions.
 
-use crate::{MAX_EXPRESSION_BYTES, ParseError, SyntaxFault, SyntaxKind, parse_expr};
-use std::alloc::Global;
-use std::process::Abort;
+use crate::tables::{expressions_are, nested_are};
 use std::test::Fail;
 
-fn refused(rt: &impl Abort, alloc: Global, text: &str, kind: SyntaxKind, offset: u32) {
-    assert!(rt; text.len() <= MAX_EXPRESSION_BYTES);
-    let fault = SyntaxFault { kind, offset };
-    assert_eq!(rt;
-        parse_expr(alloc, text).err(),
-        Some(ParseError::Fault(fault))
-    );
-}
+/// Each kind of faults, at each place where it may stand.
+const FIRST_FAULTS: &str = " => Unexpected 0\n\
+a + => Unexpected 3\n\
+) => Unexpected 0\n\
+a b => BadToken 2\n\
+'abc => BadToken 0\n\
+foo::a => BadToken 0\n\
+] + b => Unexpected 0\n\
+a + ) b => Unexpected 4\n\
+a + b ) => Unexpected 6\n\
+a[b => Unexpected 3\n\
+a +  => Unexpected 4\n\
+# + b => BadToken 0\n\
+a + # + b => BadToken 4\n\
+a + # => BadToken 4\n\
+a ! => BadToken 2\n\
+é × 2 => BadToken 3\n";
 
-fn unexpected(rt: &impl Abort, alloc: Global, text: &str, offset: u32) {
-    refused(rt, alloc, text, SyntaxKind::Unexpected, offset);
-}
+/// What a name is, by the token before it and by what follows it.
+const NAMES: &str = "\
+a p:b => Unexpected 2\n\
+a p:* => Unexpected 2\n\
+a and:b => Unexpected 2\n\
+/ and b => BadToken 6\n\
+and and and => expression\n\
+* * * => expression\n\
+a/foo(b) => Unexpected 2\n\
+@child::a => Unexpected 1\n\
+p:*( => Unexpected 3\n\
+p:*::a => BadToken 0\n\
+a + p:* :: b => BadToken 4\n\
+a p:*::b => Unexpected 2\n\
+.[1] => Unexpected 1\n\
+p:l (a) => expression\n\
+$ x => BadToken 0\n\
+$p:* => BadToken 2\n\
+p: a => BadToken 1\n\
+p :a => BadToken 2\n\
+) $ => Unexpected 0\n";
 
-fn bad_token(rt: &impl Abort, alloc: Global, text: &str, offset: u32) {
-    refused(rt, alloc, text, SyntaxKind::BadToken, offset);
-}
+/// As many brackets and signs as may be open at a place.
+const AT_THE_LIMIT: &str = "\
+( a ) => expression\n\
+( text() ) => expression\n\
+( count(a) ) => TooNested 64\n\
+- a  => expression\n\
+- (a)  => expression\n\
+-( -a ) => TooNested 128\n";
 
-fn too_nested(rt: &impl Abort, alloc: Global, text: &str, offset: u32) {
-    refused(rt, alloc, text, SyntaxKind::TooNested, offset);
-}
+/// One more.
+const OVER_THE_LIMIT: &str = "\
+( a ) => TooNested 64\n\
+a[ a ] => TooNested 129\n\
+- a  => TooNested 64\n\
+1- a  => expression\n";
 
-fn accepted(rt: &impl Abort, alloc: Global, text: &str) {
-    assert!(rt; text.len() <= MAX_EXPRESSION_BYTES);
-    assert!(rt; parse_expr(alloc, text).is_ok());
-}
-
-/// `open` this many times, `middle`, `close` as often.
-fn nested(
-    alloc: Global,
-    open: &str,
-    count: usize,
-    middle: &str,
-    close: &str,
-) -> Result<String, Fail> {
-    let mut text = String::new(alloc);
-    for _ in 0..count {
-        text.push_str(open)?;
-    }
-    text.push_str(middle)?;
-    for _ in 0..count {
-        text.push_str(close)?;
-    }
-    Ok(text)
-}
+/// One less.
+const BELOW_THE_LIMIT: &str = "\
+( -a ) => expression\n";
 
 #[test]
 fn first_faults(rt: HostRuntime) -> Result<(), Fail> {
-    let alloc = rt.alloc();
-    unexpected(&rt, alloc, "a +", 3);
-    unexpected(&rt, alloc, ")", 0);
-    bad_token(&rt, alloc, "a b", 2);
-    bad_token(&rt, alloc, "'abc", 0);
-    bad_token(&rt, alloc, "foo::a", 0);
-    let text = nested(alloc, "(", 65, "a", ")")?;
-    too_nested(&rt, alloc, text.as_str(), 64);
-    Ok(())
-}
-
-#[test]
-fn unexpected_at_each_place(rt: HostRuntime) -> Result<(), Fail> {
-    let alloc = rt.alloc();
-    unexpected(&rt, alloc, "", 0);
-    unexpected(&rt, alloc, "] + b", 0);
-    unexpected(&rt, alloc, "a + ) b", 4);
-    unexpected(&rt, alloc, "a + b )", 6);
-    unexpected(&rt, alloc, "a[b", 3);
-    unexpected(&rt, alloc, "a + ", 4);
-    Ok(())
-}
-
-#[test]
-fn bad_tokens_at_each_place(rt: HostRuntime) -> Result<(), Fail> {
-    let alloc = rt.alloc();
-    bad_token(&rt, alloc, "# + b", 0);
-    bad_token(&rt, alloc, "a + # + b", 4);
-    bad_token(&rt, alloc, "a + #", 4);
-    bad_token(&rt, alloc, "a !", 2);
-    bad_token(&rt, alloc, "é × 2", 3);
-    Ok(())
-}
-
-#[test]
-fn names_with_prefixes_and_operators(rt: HostRuntime) -> Result<(), Fail> {
-    let alloc = rt.alloc();
-    unexpected(&rt, alloc, "a p:b", 2);
-    unexpected(&rt, alloc, "a p:*", 2);
-    unexpected(&rt, alloc, "a and:b", 2);
-    bad_token(&rt, alloc, "/ and b", 6);
-    accepted(&rt, alloc, "and and and");
-    accepted(&rt, alloc, "* * *");
-    Ok(())
+    expressions_are(&rt, rt.alloc(), FIRST_FAULTS)
 }
 
 #[test]
 fn classes_of_names(rt: HostRuntime) -> Result<(), Fail> {
-    let alloc = rt.alloc();
-    unexpected(&rt, alloc, "a/foo(b)", 2);
-    unexpected(&rt, alloc, "@child::a", 1);
-    unexpected(&rt, alloc, "p:*(", 3);
-    unexpected(&rt, alloc, ".[1]", 1);
-    accepted(&rt, alloc, "p:l (a)");
-    let text = nested(alloc, "(", 64, "count(a)", ")")?;
-    too_nested(&rt, alloc, text.as_str(), 64);
-    Ok(())
+    expressions_are(&rt, rt.alloc(), NAMES)
 }
 
 #[test]
-fn dollars_colons_and_first_places(rt: HostRuntime) -> Result<(), Fail> {
+fn nesting(rt: HostRuntime) -> Result<(), Fail> {
     let alloc = rt.alloc();
-    bad_token(&rt, alloc, "$ x", 0);
-    bad_token(&rt, alloc, "$p:*", 2);
-    bad_token(&rt, alloc, "p: a", 1);
-    bad_token(&rt, alloc, "p :a", 2);
-    unexpected(&rt, alloc, ") $", 0);
-    Ok(())
-}
-
-#[test]
-fn signs_up_to_the_limit(rt: HostRuntime) -> Result<(), Fail> {
-    let alloc = rt.alloc();
-    let text = nested(alloc, "-", 64, "a", "")?;
-    accepted(&rt, alloc, text.as_str());
-    let text = nested(alloc, "-", 65, "a", "")?;
-    too_nested(&rt, alloc, text.as_str(), 64);
-    let text = nested(alloc, "-", 64, "(a)", "")?;
-    accepted(&rt, alloc, text.as_str());
-    let text = nested(alloc, "a - ", 65, "a", "")?;
-    accepted(&rt, alloc, text.as_str());
-    Ok(())
-}
-
-#[test]
-fn brackets_up_to_the_limit(rt: HostRuntime) -> Result<(), Fail> {
-    let alloc = rt.alloc();
-    let text = nested(alloc, "(", 64, "a", ")")?;
-    accepted(&rt, alloc, text.as_str());
-    let text = nested(alloc, "a[", 65, "a", "]")?;
-    too_nested(&rt, alloc, text.as_str(), 129);
-    let text = nested(alloc, "-(", 64, "-a", ")")?;
-    too_nested(&rt, alloc, text.as_str(), 128);
-    let text = nested(alloc, "(", 63, "-a", ")")?;
-    accepted(&rt, alloc, text.as_str());
-    let text = nested(alloc, "(", 64, "text()", ")")?;
-    accepted(&rt, alloc, text.as_str());
-    Ok(())
+    nested_are(&rt, alloc, 63, BELOW_THE_LIMIT)?;
+    nested_are(&rt, alloc, 64, AT_THE_LIMIT)?;
+    nested_are(&rt, alloc, 65, OVER_THE_LIMIT)
 }

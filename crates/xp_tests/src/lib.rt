@@ -1,4 +1,5 @@
-//! Outside examples of the language of expressions; those of values and matches stand in `xp_tool`.
+//! Outside examples of the language of expressions: the texts of XPath 1.0 and of XSLT 1.0, their trees, their first
+//! faults and their printed texts. Those of values and of matches stand in `xp_tool`.
 #![tactic(auto)]
 
 #[cfg(test)]
@@ -6,10 +7,10 @@ mod faults;
 #[cfg(test)]
 mod patterns;
 #[cfg(test)]
-mod printing;
-#[cfg(test)]
 mod records;
 #[cfg(test)]
 mod spelling;
+#[cfg(test)]
+mod tables;
 #[cfg(test)]
 mod tokens;

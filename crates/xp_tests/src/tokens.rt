@@ -1,10 +1,10 @@
 //! Tokens read as a tree, and the kinds of first faults.
 
-use super::{ParseError, parse_tokens};
 use std::alloc::Global;
 use std::process::Abort;
 use std::test::Fail;
 use xp_grammar::{Placed, SyntaxFault, SyntaxKind, Token, Word};
+use xp_parse::{ParseError, parse_tokens};
 use xp_tree::{Expr, Operator};
 
 fn expect_fault(
