@@ -8,6 +8,7 @@ mod faults;
 mod patterns;
 #[cfg(test)]
 mod records;
+pub mod rows;
 #[cfg(test)]
 mod spelling;
 #[cfg(test)]

@@ -1,6 +1,7 @@
 //! Match patterns: their trees, and their first faults.
 
-use crate::tables::{parted, patterns_are};
+use crate::rows::parted;
+use crate::tables::patterns_are;
 use std::alloc::Global;
 use std::process::Abort;
 use std::test::Fail;

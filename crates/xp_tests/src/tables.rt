@@ -1,17 +1,10 @@
 //! Tables of texts: a line for each, with what is wanted of it after `=>`.
 
+use crate::rows::parted;
 use std::alloc::Global;
 use std::process::Abort;
 use std::test::Fail;
 use xp_syntax::{MAX_EXPRESSION_BYTES, ParseError, parse_expr, parse_pattern, print_expr};
-
-/// The two parts of a line of a table.
-pub(crate) fn parted<'l>(line: &'l str, mark: &str) -> Result<(&'l str, &'l str), Fail> {
-    match line.split_once(mark) {
-        Some(parts) => Ok(parts),
-        None => Err("a line of a table without its mark".into()),
-    }
-}
 
 /// What was found: the kind and the place of a first fault, or what there is without one.
 fn told(alloc: Global, error: Option<ParseError>, good: &str) -> Result<String, Fail> {
