@@ -10,8 +10,8 @@ use Rattle.pyx_core.specs.declared.cutting.Cutting.{Cutting}
 use Rattle.pyx_core.specs.Before.{closed}
 use Rattle.pyx_core.specs.inner.Cutting.{Keeps, Fed, Finished}
 use Rattle.pyx_core.specs.Reader.{ReaderState, kept_after, Reads, Refuses, Feeds, Finishes}
-use Rattle.pyx_core.specs.inner.Reader.{state_of, kept_in, error_of, stops, answer_of}
-use Rattle.pyx_core.specs.inner.Reading.{ReadsAll}
+use Rattle.pyx_core.specs.inner.ReaderFields.{state_of, kept_in, error_of, stops, answer_of}
+use Rattle.pyx_core.specs.inner.ReadAll.{ReadsAll}
 use Rattle.pyx_core.specs.Reading.{Judged, so_far, completed, fault_so_far, or_lacking, fault_of, events_unless, events_before_fault, sound, IfFault}
 use Rattle.pyx_core.specs.Lines.{ended_lines, unended}
 use Rattle.pyx_core.proofs.JudgeLemmas.{judged_stopped}

@@ -1,5 +1,5 @@
 pub mod Begun
 pub mod Cutting
-pub mod Reader
-pub mod Reading
+pub mod ReadAll
+pub mod ReaderFields
 pub mod Standing

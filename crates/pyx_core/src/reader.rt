@@ -6,7 +6,7 @@ ghost use Rattle.pyx_core.specs.declared.event.Located.{Located};
 ghost use Rattle.pyx_core.specs.declared.fault.FeedError.{FeedError};
 ghost use Rattle.pyx_core.specs.declared.mode.Mode.{Mode};
 ghost use Rattle.pyx_core.specs.Reader.{Reads, IsStopped, Feeds, Done, Finishes};
-ghost use Rattle.pyx_core.specs.inner.Reader.{error_of, stops, answer_of};
+ghost use Rattle.pyx_core.specs.inner.ReaderFields.{error_of, stops, answer_of};
 
 use crate::cutting::Cutting;
 use crate::{FeedError, Located, Mode, PyxFault};
@@ -34,7 +34,7 @@ impl Model for Reader {
 
     ghost Value = { ReaderState };
 
-    ghost use Rattle.pyx_core.specs.inner.Reader.{state_of};
+    ghost use Rattle.pyx_core.specs.inner.ReaderFields.{state_of};
 
     ghost view = { λ r. state_of r.cutting r.stopped };
 }

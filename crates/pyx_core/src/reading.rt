@@ -4,7 +4,7 @@ ghost use Rattle.std.specs.Prelude.{◌≡◌, ℕ, [], length, None, Some, IfOk
 ghost use Rattle.pyx_core.specs.declared.mode.Mode.{Mode};
 ghost use Rattle.pyx_core.specs.Reader.{Reads};
 ghost use Rattle.pyx_core.specs.Reading.{fault_of, events_of, events_before_fault, IfFault};
-ghost use Rattle.pyx_core.specs.inner.Reading.{ReadsAll};
+ghost use Rattle.pyx_core.specs.inner.ReadAll.{ReadsAll};
 
 use crate::{FeedError, LocatedList, Mode, PyxFault, Reader};
 use std::alloc::{AllocError, Global};

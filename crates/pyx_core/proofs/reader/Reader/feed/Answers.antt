@@ -1,5 +1,5 @@
 use Rattle.std.proofs.Common.{◌++◌, ◌∙◌, ap}
-use Rattle.pyx_core.specs.inner.Reader.{error_of, stops}
+use Rattle.pyx_core.specs.inner.ReaderFields.{error_of, stops}
 use Rattle.pyx_core.proofs.ReaderLemmas.{feeds, keeps_from}
 use Rattle.pyx_core.proofs.reader.Reader.feed.Goals as goal
 
