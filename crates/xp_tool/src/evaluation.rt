@@ -60,10 +60,10 @@ pub(crate) struct Counted<T> {
 }
 
 impl<T> Counted<T> {
-    /// The result of a call that counted its visits from none.
-    pub(crate) fn new<L: Ledger>(result: Result<T, EvalError>, steps: &Steps<L>) -> Counted<T> {
+    /// The answer of a call that counted its visits from none.
+    pub(crate) fn new<L: Ledger>(answer: Result<T, EvalError>, steps: &Steps<L>) -> Counted<T> {
         Counted {
-            result: result.map_err(Fault::from),
+            result: answer.map_err(Fault::from),
             visits: steps.taken(),
         }
     }

@@ -37,7 +37,7 @@ pub(crate) fn table_holds(
 ) -> Result<(), Fail> {
     for line in table.lines() {
         let (asked, wanted) = parted(line, " => ")?;
-        let found = answer(rt, sample, question, asked)?;
+        let found = answer_to(rt, sample, question, asked)?;
         let told = found_told(sample, &found, wanted)?;
         assert_eq!(rt; told.as_str(), wanted, "at {asked}");
     }
@@ -61,7 +61,7 @@ struct Answer {
 }
 
 /// The answer to a question.
-fn answer(
+fn answer_to(
     rt: &impl Abort,
     sample: &Sample,
     question: Question,
