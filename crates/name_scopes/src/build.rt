@@ -23,7 +23,9 @@ use crate::fault::{DocKind, EventError};
 use crate::qnames::split;
 use crate::scope::Scope;
 use crate::tag::{attribute_namespace, check_tag};
-use doc_tree::{AppendError, MAX_DEPTH, MAX_LIVE_NODES, MAX_LIVE_TEXT_BYTES, NewNode, NodeId, Tree};
+use doc_tree::{
+    AppendError, MAX_DEPTH, MAX_LIVE_NODES, MAX_LIVE_TEXT_BYTES, NewNode, NodeId, Tree,
+};
 use pyx_core::{Attr, Event};
 use std::alloc::{AllocError, Global};
 
