@@ -7,31 +7,32 @@ use std::test::Fail;
 #[test]
 fn numbers_words_once(rt: HostRuntime) -> Result<(), Fail> {
     let mut words = WordTable::new(rt.alloc());
-    assert_eq!(rt; words.number(rt.alloc(), "a")?, 0);
-    assert_eq!(rt; words.number(rt.alloc(), "b")?, 1);
-    assert_eq!(rt; words.number(rt.alloc(), "a")?, 0);
-    assert_eq!(rt; words.find("b"), Some(1));
-    assert_eq!(rt; words.find("c"), None);
-    assert_eq!(rt; words.word(1), "b");
+    let first = words.number(rt.alloc(), "a")?;
+    let second = words.number(rt.alloc(), "b")?;
+    let third = words.number(rt.alloc(), "a")?;
+    assert_eq!(rt; (first, second, third), (0, 1, 0));
+    assert_eq!(rt; (words.find("b"), words.find("c"), words.word(1)), (Some(1), None, "b"));
     Ok(())
 }
 
 #[test]
 fn numbers_names_once(rt: HostRuntime) -> Result<(), Fail> {
-    let mut names = NameTable::new(rt.alloc());
-    for (prefix, wanted) in [("p", 0), ("", 1), ("p", 0)] {
-        let id = names.number(rt.alloc(), prefix, "a", "u")?;
-        assert_eq!(rt; id.index(), wanted);
-    }
     let mut tree = Tree::new(rt.alloc())?;
-    for (prefix, wanted) in [("p", 0), ("", 1), ("p", 0)] {
-        let id = tree.name_id(prefix, "a", "u")?;
-        assert_eq!(rt; id.index(), wanted);
-    }
-    assert_eq!(rt;
-        tree.nodes_in_order(rt.alloc())?.as_slice(),
-        [tree.root()].as_slice()
-    );
+    let first = tree.name_id("p", "a", "u")?;
+    let second = tree.name_id("", "a", "u")?;
+    let third = tree.name_id("p", "a", "u")?;
+    assert_eq!(rt; (first.index(), second.index(), third.index()), (0, 1, 0));
+    assert_eq!(rt; tree.nodes_in_order(rt.alloc())?.as_slice(), [tree.root()].as_slice());
+    Ok(())
+}
+
+#[test]
+fn numbers_names_of_a_table_once(rt: HostRuntime) -> Result<(), Fail> {
+    let mut names = NameTable::new(rt.alloc());
+    let first = names.number(rt.alloc(), "p", "a", "u")?;
+    let second = names.number(rt.alloc(), "", "a", "u")?;
+    let third = names.number(rt.alloc(), "p", "a", "u")?;
+    assert_eq!(rt; (first.index(), second.index(), third.index()), (0, 1, 0));
     Ok(())
 }
 
@@ -58,15 +59,5 @@ fn places_and_string_values(rt: HostRuntime) -> Result<(), Fail> {
     for n in nodes {
         assert_eq!(rt; tree.string_value(rt.alloc(), n)?.as_str(), "xyz");
     }
-    Ok(())
-}
-
-#[test]
-fn declared_prefix(rt: HostRuntime) -> Result<(), Fail> {
-    let mut tree = Tree::new(rt.alloc())?;
-    let name = tree.name_id("p", "a", "u")?;
-    let element = tree.append_node(tree.root(), NewNode::Element(name))?;
-    tree.append_decl(element, "p", "u")?;
-    assert_eq!(rt; tree.lookup(element, "p"), Some("u"));
     Ok(())
 }
