@@ -73,10 +73,28 @@ pub(crate) fn places_of(
     requires { nodes.now ≡ order tree.now.nodes }
     ensures { IfOk result (λ places. HoldsPlaces tree.now.nodes places.items) }
 {
-    tree.laws();
-    let mut places = vec![in alloc; 0; numbers_of(nodes)]?;
-    fill_places(places.as_mut_slice(), tree, nodes);
+    let mut places = vec![in alloc; 0; numbers_in(tree, nodes)]?;
+    fill_all(places.as_mut_slice(), tree, nodes);
     Ok(places)
+}
+
+/// A number above those of all nodes of the tree.
+fn numbers_in(tree: &Tree, nodes: &[NodeId]) -> usize
+    requires { nodes.now ≡ order tree.now.nodes }
+    ensures { (n : ℕ) → is_live tree.now.nodes n ≡ true → n < result }
+{
+    tree.laws();
+    numbers_of(nodes)
+}
+
+/// Writes the places of all elements of the tree.
+fn fill_all(places: &mut [usize], tree: &Tree, nodes: &[NodeId])
+    requires order { nodes.now ≡ order tree.now.nodes }
+    requires room { (n : ℕ) → is_live tree.now.nodes n ≡ true → n < length places.old }
+    ensures { HoldsPlaces tree.now.nodes places.new }
+{
+    tree.laws();
+    fill_places(places, tree, nodes);
 }
 
 /// Writes the places of all kids of the nodes.
