@@ -3,7 +3,7 @@ use Rattle.std.proofs.Common.{◌≡◌, ℕ, Bool, true, false, cond, not, ◌&
 use Rattle.std.specs.List.{flat_map, list_any}
 use Rattle.std.specs.Prelude.{option_and_then, option_map}
 use Rattle.std.specs.Str.{bytes_eq}
-use Rattle.doc_tree.specs.declared.kinds.Kind.TheVariants.{Root}
+use Rattle.doc_tree.specs.kind.Kind.TheVariants.{Root}
 use Rattle.doc_tree.specs.Kinds.{is_element}
 use Rattle.doc_tree.specs.Laws.{HasWaysUp, Ordered, WellFormed}
 use Rattle.doc_tree.specs.Lists.{mem}

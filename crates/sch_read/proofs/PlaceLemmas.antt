@@ -1,7 +1,7 @@
 -- Places at which no rule can be broken: attributes, and what stands in an element of another namespace.
 use Rattle.std.proofs.Common.{◌≡◌, ℕ, suc, ◌+◌, ◌≤◌, Bool, true, false, cond, ◌||◌, List, [], ◌∷◌, ◌++◌, length, Option, None, Some, Result, Ok, refl, sym, ap, ◌∙◌, subst, arith, eqb, eqb-true, true≢false}
 use Rattle.std.specs.List.{flat_map, list_any}
-use Rattle.doc_tree.specs.declared.kinds.Kind.TheVariants.{Attribute}
+use Rattle.doc_tree.specs.kind.Kind.TheVariants.{Attribute}
 use Rattle.doc_tree.specs.Laws.{HasWaysUp, Ordered, WellFormed}
 use Rattle.doc_tree.specs.Lists.{mem, occurs}
 use Rattle.doc_tree.specs.Order.{Nested}

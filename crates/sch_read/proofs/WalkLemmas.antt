@@ -2,7 +2,7 @@
 use Rattle.std.proofs.Common.{◌≡◌, ℕ, true, false, Bool, cond, List, [], ◌∷◌, ◌++◌, Option, None, Some, refl, ap, ◌∙◌, append-nil}
 use Rattle.std.specs.List.{flat_map}
 use Rattle.std.proofs.lemmas.Grind.{flat_map-append}
-use Rattle.doc_tree.specs.declared.kinds.Kind.TheVariants.{Attribute}
+use Rattle.doc_tree.specs.kind.Kind.TheVariants.{Attribute}
 use Rattle.doc_tree.specs.Laws.{Ordered, WellFormed}
 use Rattle.doc_tree.specs.Lists.{mem}
 use Rattle.doc_tree.specs.Order.{Nested}

@@ -38,7 +38,6 @@ impl Source<'_> {
             (flat_map (keys_at self.now.tree.now.nodes) (below self.now.tree.now.nodes n)) taken.old taken.new result }
     {
         self.tree.laws();
-        self.tree.nesting();
         self.judge(taken, n)?;
         if self.is_foreign(n) {
             return Ok(());

@@ -86,7 +86,6 @@ impl Source<'_> {
         ensures { OnOk result (ReadsOn message.old message.new (flat_map (part_at self.now.tree.now.nodes) (below self.now.tree.now.nodes n))) }
     {
         self.tree.laws();
-        self.tree.nesting();
         self.push_part(message, n)?;
         if self.is_foreign(n) {
             return Ok(());
@@ -129,7 +128,6 @@ impl Source<'_> {
         ensures { OnOk result (string_bytes text.new ≡ string_bytes text.old ++ flat_map (counted_text self.now.tree.now.nodes) (below self.now.tree.now.nodes n)) }
     {
         self.tree.laws();
-        self.tree.nesting();
         text.push_str(self.text_at(n))?;
         if self.is_foreign(n) {
             return Ok(());

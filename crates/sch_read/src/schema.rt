@@ -57,7 +57,7 @@ impl Source<'_> {
             .kids(n)
             .iter()
             .copied()
-            .find(|kid| self.is_element(*kid))
+            .find(|kid| self.tree.is_element(*kid))
     }
 
     /// The schema that an element says.

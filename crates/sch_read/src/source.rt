@@ -2,8 +2,7 @@
 
 ghost use Rattle.std.specs.Prelude.{◌≡◌, ◌<◌, length, find, IfSome};
 ghost use Rattle.std.specs.Option.{option_copied, option_map};
-ghost use Rattle.doc_tree.specs.Kinds.{is_element};
-ghost use Rattle.doc_tree.specs.Table.{attrs_of, content_of, kind_of, numbered};
+ghost use Rattle.doc_tree.specs.Table.{attrs_of, content_of, numbered};
 ghost use Rattle.doc_tree.specs.Walks.{characters_in};
 ghost use Rattle.sch_rules.specs.Attributes.{is_abstract, is_called, said, said_text};
 ghost use Rattle.sch_rules.specs.Elements.{element_name, is_at_top, is_foreign, local_at, word_above, word_at};
@@ -26,18 +25,11 @@ pub(crate) struct Source<'a> {
 }
 
 impl<'a> Source<'a> {
-    /// Whether the node is an element.
-    pub(crate) fn is_element(&self, n: NodeId) -> bool
-        ensures { result ≡ is_element (kind_of self.now.tree.now.nodes n) }
-    {
-        self.tree.contains(n) && matches!(self.tree.kind(n), Kind::Element)
-    }
-
     /// The characters of a text node; empty for every other node.
     fn characters(&self, n: NodeId) -> &'a str
         ensures { result.now ≡ characters_in (content_of self.now.tree.now.nodes n) }
     {
-        if self.tree.contains(n) && matches!(self.tree.kind(n), Kind::Text) {
+        if matches!(self.tree.kind_of(n), Some(Kind::Text)) {
             self.tree.value(n)
         } else {
             ""
@@ -49,7 +41,7 @@ impl<'a> Source<'a> {
         ensures name { option_map (numbered self.now.tree.now.names) result ≡ element_name (content_of self.now.tree.now.nodes n) }
         ensures known { IfSome result (λ id. id < length self.now.tree.now.names) }
     {
-        if self.is_element(n) {
+        if self.tree.is_element(n) {
             self.tree.name(n)
         } else {
             None
@@ -126,16 +118,6 @@ impl<'a> Source<'a> {
             .any(|kid| is_word(word, self.word_at(*kid)))
     }
 
-    /// Whether the attribute has no namespace and this name.
-    fn is_called(&self, name: &str, a: NodeId) -> bool
-        ensures { result ≡ is_called self.now.tree.now.nodes name.now a }
-    {
-        match self.tree.name(a) {
-            Some(id) => self.tree.uri_of(id) == "" && self.tree.local_of(id) == name,
-            None => false,
-        }
-    }
-
     /// The element's attribute with this name.
     fn attribute(&self, n: NodeId, name: &str) -> Option<NodeId>
         ensures { result ≡ find (is_called self.now.tree.now.nodes name.now) (attrs_of self.now.tree.now.nodes n) }
@@ -144,7 +126,7 @@ impl<'a> Source<'a> {
             .attrs(n)
             .iter()
             .copied()
-            .find(|a| self.is_called(name, *a))
+            .find(|a| self.tree.has_name(*a, "", name))
     }
 
     /// The value of the element's attribute with this name.

@@ -2,16 +2,12 @@
 use Rattle.std.specs.Prelude.{ℕ, Bool, false, ◌&&◌, List, [], Option, None, Some, codes, find, option_map}
 use Rattle.std.specs.Option.{option_map_or}
 use Rattle.std.specs.Str.{bytes_eq}
+use Rattle.doc_tree.specs.NameTests.{has_name}
 use Rattle.doc_tree.specs.Table.{Table, Name, attrs_of, name_of, value_of}
-
--- whether there is a name without a namespace, with this local part
-abbrev pub is_plain_name : List ℕ → Option Name → Bool
-is_plain_name local None = false
-is_plain_name local (Some name) = bytes_eq name.uri [] && bytes_eq name.local local
 
 -- whether the attribute has no namespace and this name
 abbrev pub is_called : Table → List ℕ → ℕ → Bool
-is_called T name a = is_plain_name name (name_of T a)
+is_called T name a = has_name T a [] name
 
 -- the value of the element's attribute with this name
 abbrev pub said : Table → ℕ → List ℕ → Option (List ℕ)

@@ -7,7 +7,7 @@ use Rattle.sch_read.proofs.source.Source.+check_below.Goals as goal
 
 pub returns-then-is_foreign : goal.returns-then-is_foreign
 returns-then-is_foreign t c =
-    below-foreign c.args.self.now.tree.now.nodes c.laws.ensures.ordered c.nesting.ensures c.args.taken.now c.judge.new.taken c.args.n c.requires.lives
+    below-foreign c.args.self.now.tree.now.nodes c.laws.ensures.ordered c.laws.ensures.nested c.args.taken.now c.judge.new.taken c.args.n c.requires.lives
     (sym c.is_foreign.ensures ∙ c.if-is_foreign.true) c.in_ok-judge.ensures
 
 pub check_below-requires : goal.check_below-requires
@@ -21,7 +21,7 @@ check_below-requires t c =
 pub returns-in_err-check_below : goal.returns-in_err-check_below
 returns-in_err-check_below t c =
     told-exit c.in_err-check_below.field-0.0 c.from_residual-in_err-check_below.result c.from_residual-in_err-check_below.ensures.1
-    (below-kids c.args.self.now.tree.now.nodes c.laws.ensures.ordered c.nesting.ensures c.laws.ensures.well_formed c.args.taken.now c.judge.new.taken c.check_below.new.taken c.args.n _
+    (below-kids c.args.self.now.tree.now.nodes c.laws.ensures.ordered c.laws.ensures.nested c.laws.ensures.well_formed c.args.taken.now c.judge.new.taken c.check_below.new.taken c.args.n _
     c.in_ok-judge.ensures (rw c.kids-kid-items.ensures at (
     kid-stop c.args.self.now.tree.now.nodes c.judge.new.taken c.loop-kid.taken c.check_below.new.taken c.kids-kid-items.result.now c.loop-kid.kid-index c.kid-item.result c.in_err-check_below.field-0.0
     c.kid-item.is c.loop-kid-test.true c.loop-kid.invariant c.in_err-check_below.ensures))).refuses
@@ -33,5 +33,5 @@ loop-kid-preserved t c =
 
 pub returns : goal.returns
 returns t c =
-    below-kids c.args.self.now.tree.now.nodes c.laws.ensures.ordered c.nesting.ensures c.laws.ensures.well_formed c.args.taken.now c.judge.new.taken c.loop-kid.taken c.args.n _
+    below-kids c.args.self.now.tree.now.nodes c.laws.ensures.ordered c.laws.ensures.nested c.laws.ensures.well_formed c.args.taken.now c.judge.new.taken c.loop-kid.taken c.args.n _
     c.in_ok-judge.ensures (rw c.kids-kid-items.ensures at (rw (all_taken c.kids-kid-items.result.now c.loop-kid.kid-index c.loop-kid-test.false c.loop-kid.auto.kid-index-end) at c.loop-kid.invariant))

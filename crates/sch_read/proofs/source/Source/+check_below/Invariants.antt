@@ -1,7 +1,7 @@
 -- A way down ends, and the kids so far were checked.
 use Rattle.std.proofs.Common.{◌-◌, ◌+◌, length, take, Ok}
 use Rattle.std.specs.List.{flat_map}
-use Rattle.doc_tree.specs.declared.limits.TheConstants.{MAX_DEPTH}
+use Rattle.doc_tree.specs.limits.TheConstants.{MAX_DEPTH}
 use Rattle.doc_tree.specs.Walks.{ancestors, below}
 use Rattle.sch_rules.specs.FirstBroken.{first_over}
 use Rattle.sch_rules.specs.Keys.{keys_at}

@@ -14,7 +14,7 @@ use Rattle.sch_read.proofs.source.Source.+push_parts.Goals as goal
 pub returns-then-is_foreign : goal.returns-then-is_foreign
 returns-then-is_foreign t c =
     subst (ReadsOn c.args.message.now c.push_part.new.message)
-    (sym (told-foreign c.args.self.now.tree.now.nodes c.laws.ensures.ordered c.nesting.ensures (part_at c.args.self.now.tree.now.nodes) (silent-parts c.args.self.now.tree.now.nodes) c.args.n c.requires.lives
+    (sym (told-foreign c.args.self.now.tree.now.nodes c.laws.ensures.ordered c.laws.ensures.nested (part_at c.args.self.now.tree.now.nodes) (silent-parts c.args.self.now.tree.now.nodes) c.args.n c.requires.lives
     (sym c.is_foreign.ensures ∙ c.if-is_foreign.true)
     ∙ own-part c.args.self.now.tree.now.nodes c.args.n c.requires.counts)) c.in_ok-push_part.ensures
 

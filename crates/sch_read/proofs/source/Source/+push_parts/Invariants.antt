@@ -1,7 +1,7 @@
 -- A way down ends, and the kids so far were read.
 use Rattle.std.proofs.Common.{◌-◌, ◌+◌, length, take}
 use Rattle.std.specs.List.{flat_map}
-use Rattle.doc_tree.specs.declared.limits.TheConstants.{MAX_DEPTH}
+use Rattle.doc_tree.specs.limits.TheConstants.{MAX_DEPTH}
 use Rattle.doc_tree.specs.Walks.{ancestors, below}
 use Rattle.sch_rules.specs.RawSchema.{part_at}
 use Rattle.sch_read.specs.inner.Messages.{ReadsOn}

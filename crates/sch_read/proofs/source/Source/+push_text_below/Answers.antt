@@ -14,7 +14,7 @@ returns-then-is_foreign t c =
     c.in_ok-push_str.ensures.bytes
     ∙ ap (λ l. string_bytes c.args.text.now ++ l) (
     c.text_at.ensures
-    ∙ sym (told-foreign c.args.self.now.tree.now.nodes c.laws.ensures.ordered c.nesting.ensures (counted_text c.args.self.now.tree.now.nodes) (silent-text c.args.self.now.tree.now.nodes) c.args.n c.requires.lives
+    ∙ sym (told-foreign c.args.self.now.tree.now.nodes c.laws.ensures.ordered c.laws.ensures.nested (counted_text c.args.self.now.tree.now.nodes) (silent-text c.args.self.now.tree.now.nodes) c.args.n c.requires.lives
     (sym c.is_foreign.ensures ∙ c.if-is_foreign.true)
     ∙ own-text c.args.self.now.tree.now.nodes c.args.n c.requires.counts))
 

@@ -1,7 +1,7 @@
 -- A way down ends, and the texts of the kids so far stand at the end.
 use Rattle.std.proofs.Common.{◌≡◌, ◌++◌, ◌-◌, ◌+◌, length, take, string_bytes}
 use Rattle.std.specs.List.{flat_map}
-use Rattle.doc_tree.specs.declared.limits.TheConstants.{MAX_DEPTH}
+use Rattle.doc_tree.specs.limits.TheConstants.{MAX_DEPTH}
 use Rattle.doc_tree.specs.Walks.{ancestors, below}
 use Rattle.sch_rules.specs.RawSchema.{counted_text}
 use Rattle.sch_read.proofs.source.Source.+push_text_below.Given as goal
