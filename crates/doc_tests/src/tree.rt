@@ -11,7 +11,10 @@ fn numbers_words_once(rt: HostRuntime) -> Result<(), Fail> {
     let second = words.number(rt.alloc(), "b")?;
     let third = words.number(rt.alloc(), "a")?;
     assert_eq!(rt; (first, second, third), (0, 1, 0));
-    assert_eq!(rt; (words.find("b"), words.find("c"), words.word(1)), (Some(1), None, "b"));
+    assert_eq!(rt;
+        (words.find("b"), words.find("c"), words.word(1)),
+        (Some(1), None, "b")
+    );
     Ok(())
 }
 
@@ -22,7 +25,10 @@ fn numbers_names_once(rt: HostRuntime) -> Result<(), Fail> {
     let second = tree.name_id("", "a", "u")?;
     let third = tree.name_id("p", "a", "u")?;
     assert_eq!(rt; (first.index(), second.index(), third.index()), (0, 1, 0));
-    assert_eq!(rt; tree.nodes_in_order(rt.alloc())?.as_slice(), [tree.root()].as_slice());
+    assert_eq!(rt;
+        tree.nodes_in_order(rt.alloc())?.as_slice(),
+        [tree.root()].as_slice()
+    );
     Ok(())
 }
 
