@@ -10,7 +10,7 @@ use Rattle.sch_cli.specs.declared.stop.Stop.{Stop}
 use Rattle.sch_cli.specs.declared.stop.Stop.TheVariants.{Usage, NotYet, DocumentRefused, Missing, ReadFault, WriteFault, Memory}
 use Rattle.sch_cli.specs.Commands.{Command, validate, command_of, shown}
 use Rattle.sch_cli.specs.Output.{Output, IsValidation, IsReadBy, IsOutputOf, IsOutput, ComesTo, IsNamedIn, files_of}
-use Rattle.sch_cli.specs.Runs.{Ends, EndsOver, IsLineOf, IsLast, OpensInOrder, Tells, is_status}
+use Rattle.sch_cli.specs.Runs.{EndsBy, Ends, IsLineOf, IsLast, OpensInOrder, Tells, is_status}
 use Rattle.sch_cli.specs.inner.Stops.{Names, Concludes, ConcludesOver, EndsAs, ends_with, status_of, status_of_end, line_of_end, stopped_by}
 
 -- the words ask for the validation that the program's own command names
@@ -72,7 +72,7 @@ ends_by ends result is = subst (λ (status : Status). EndsAs status result) (sym
 
 -- what was concluded is what the status says
 pub ends_as : (is_output : Output → Type 0) (comes_to written told : List ℕ → Type 0) (result : Result Bool Stop) → Concludes is_output comes_to written result → told (line_of_end result) →
-    Ends is_output comes_to written told (status_of_end result)
+    EndsBy is_output comes_to written told (status_of_end result)
 ends_as is_output comes_to written told (Ok true) ends tells = record { output = ends.0; may_be = ends.1; ends = ends.2; out = ends.4; err = subst told (sym ends.3) tells }
 ends_as is_output comes_to written told (Ok false) ends tells = record { output = ends.0; may_be = ends.1; ends = ends.2; out = ends.4; err = subst told (sym ends.3) tells }
 ends_as is_output comes_to written told (Err Usage) ends tells = record { output = stopped_by Usage; may_be = ends.0; ends = refl; out = ends.1; err = tells }
@@ -85,8 +85,8 @@ ends_as is_output comes_to written told (Err Memory) ends tells = (ends, tells)
 
 -- the same over a shelf that tells its files
 pub run_ends : (words : List (List ℕ)) (files : Option Files) (a b : Option (List ℕ)) (c d : SinkLog) (status : Status) (result : Result Bool Stop) →
-    status ≡ status_of_end result → Tells c d (line_of_end result) → ConcludesOver files words (Appends a b) result → EndsOver files words (Appends a b) (Tells c d) status
+    status ≡ status_of_end result → Tells c d (line_of_end result) → ConcludesOver files words (Appends a b) result → Ends files words (Appends a b) (Tells c d) status
 run_ends words None a b c d status result is tells ends = tt
 run_ends words (Some files) a b c d status result is tells ends =
-    subst (Ends (IsOutput words files) (ComesTo (command_of words) files) (Appends a b) (Tells c d)) (sym is)
+    subst (EndsBy (IsOutput words files) (ComesTo (command_of words) files) (Appends a b) (Tells c d)) (sym is)
     (ends_as (IsOutput words files) (ComesTo (command_of words) files) (Appends a b) (Tells c d) result ends tells)

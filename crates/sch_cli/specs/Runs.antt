@@ -56,24 +56,24 @@ pub record Unread (comes_to : List ℕ → Type 0) (written told : List ℕ → 
 
 -- what a status says of the bytes on the output and the line on the error output, by the outputs that may be and the
 -- files to which the run comes
-abbrev pub Ends : (Output → Type 0) → (List ℕ → Type 0) → (List ℕ → Type 0) → (List ℕ → Type 0) → Status → Type 0
-Ends is_output comes_to written told Clean = Decided is_output written told Clean
-Ends is_output comes_to written told Findings = Decided is_output written told Findings
-Ends is_output comes_to written told Usage = Decided is_output written told Usage
-Ends is_output comes_to written told SchemaRefused = Decided is_output written told SchemaRefused
-Ends is_output comes_to written told DocumentRefused = Decided is_output written told DocumentRefused
-Ends is_output comes_to written told ScriptRefused = Decided is_output written told ScriptRefused
-Ends is_output comes_to written told Faulted = Decided is_output written told Faulted
-Ends is_output comes_to written told Missing = Decided is_output written told Missing
-Ends is_output comes_to written told NotYet = Decided is_output written told NotYet
-Ends is_output comes_to written told ReadFault = Unread comes_to written told
-Ends is_output comes_to written told WriteFault = Fronted is_output written × told write_fault_line
-Ends is_output comes_to written told Memory = (written [] ⊎ Fronted is_output written) × told memory_line
+abbrev pub EndsBy : (Output → Type 0) → (List ℕ → Type 0) → (List ℕ → Type 0) → (List ℕ → Type 0) → Status → Type 0
+EndsBy is_output comes_to written told Clean = Decided is_output written told Clean
+EndsBy is_output comes_to written told Findings = Decided is_output written told Findings
+EndsBy is_output comes_to written told Usage = Decided is_output written told Usage
+EndsBy is_output comes_to written told SchemaRefused = Decided is_output written told SchemaRefused
+EndsBy is_output comes_to written told DocumentRefused = Decided is_output written told DocumentRefused
+EndsBy is_output comes_to written told ScriptRefused = Decided is_output written told ScriptRefused
+EndsBy is_output comes_to written told Faulted = Decided is_output written told Faulted
+EndsBy is_output comes_to written told Missing = Decided is_output written told Missing
+EndsBy is_output comes_to written told NotYet = Decided is_output written told NotYet
+EndsBy is_output comes_to written told ReadFault = Unread comes_to written told
+EndsBy is_output comes_to written told WriteFault = Fronted is_output written × told write_fault_line
+EndsBy is_output comes_to written told Memory = (written [] ⊎ Fronted is_output written) × told memory_line
 
 -- the same over a shelf that tells its files; one that tells none decides nothing
-abbrev pub EndsOver : Option Files → List (List ℕ) → (List ℕ → Type 0) → (List ℕ → Type 0) → Status → Type 0
-EndsOver None words written told status = Unit {0}
-EndsOver (Some files) words written told status = Ends (IsOutput words files) (ComesTo (command_of words) files) written told status
+abbrev pub Ends : Option Files → List (List ℕ) → (List ℕ → Type 0) → (List ℕ → Type 0) → Status → Type 0
+Ends None words written told status = Unit {0}
+Ends (Some files) words written told status = EndsBy (IsOutput words files) (ComesTo (command_of words) files) written told status
 
 -- the line of a status; a name in it is of the command's file that was opened last
 abbrev pub IsLineOf : Option Command → List (List ℕ) → Status → List ℕ → Type 0

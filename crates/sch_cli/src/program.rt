@@ -5,7 +5,7 @@ ghost use Rattle.sch_io.specs.Wrote.{Appends};
 ghost use Rattle.sch_cli.specs.declared.status.Status.TheVariants as statuses;
 ghost use Rattle.sch_cli.specs.Commands.{command_of};
 ghost use Rattle.sch_cli.specs.Output.{IsNamedIn, files_of};
-ghost use Rattle.sch_cli.specs.Runs.{EndsOver, Tells, IsLineOf, IsLast, IsNotBuilt, OpensInOrder, counted_if, is_status, may_write};
+ghost use Rattle.sch_cli.specs.Runs.{Ends, Tells, IsLineOf, IsLast, IsNotBuilt, OpensInOrder, counted_if, is_status, may_write};
 ghost use Rattle.sch_cli.specs.inner.Stops.{ConcludesOver, EndsAs, Names, ends_with, may_have_written, status_of_end, line_of_end};
 
 use crate::command::{Command, command_of};
@@ -27,7 +27,7 @@ pub fn run<S: Shelf, O: Sink, E: Sink>(
     err: &mut E,
 ) -> Status
     // over a shelf that tells its files, the run ends as the files and words say
-    ensures whole { EndsOver (S.state shelf.old).files words.now (Appends (O.log out.old).written (O.log out.new).written)
+    ensures whole { Ends (S.state shelf.old).files words.now (Appends (O.log out.old).written (O.log out.new).written)
         (Tells (E.log err.old) (E.log err.new)) result }
     ensures line { (line : List ℕ) × IsLineOf (command_of words.now) (S.state shelf.new).opened result line
         × Tells (E.log err.old) (E.log err.new) line }
