@@ -25,7 +25,7 @@ use Rattle.xp_meaning.proofs.Places.{candidates-answer}
 use Rattle.xslt_match.specs.Matching.{step_of, is_candidate, is_left, survives}
 use Rattle.xslt_match.specs.Positional.{asks_position, is_number_type, is_positional, some_positional}
 use Rattle.xslt_match.proofs.Filters.{and-false}
-use Rattle.xslt_match_laws.specs.Fitting.{AllFit}
+use Rattle.xslt_match_laws.specs.inner.Fitted.{AllFitted}
 use Rattle.xslt_match_laws.proofs.Contexts.{none_of, meaning_same}
 use Rattle.xslt_match_laws.proofs.Numbers.{Plain, plain_holds, meaning_plain}
 use Rattle.xslt_match_laws.proofs.Gathering.{answered-done, mem-filter, both, parts, sub-mem}
@@ -72,7 +72,7 @@ module _ (act : ℕ → ℕ → Evaluation EvalFault Value) (at : ℕ → Evalua
 
 module _ (T : Table) (L : Lets) (n : ℕ) where
   -- predicates that aren't positional leave a node where they are all true at the node alone
-  pub tested-alone : (ts : TypedTrees) → some_positional ts ≡ false → AllFit L ts → (ns js : List ℕ) → (filtered (meanings T L ts) n ns).answer ≡ Ok js →
+  pub tested-alone : (ts : TypedTrees) → some_positional ts ≡ false → AllFitted L ts → (ns js : List ℕ) → (filtered (meanings T L ts) n ns).answer ≡ Ok js →
       (k : ℕ) (b : Bool) → mem k ns ≡ true → (all_true (meanings T L ts) (placed n 1 1 k)).answer ≡ Ok b → mem k js ≡ b
   tested-alone no_typed free fits ns js is k b among tested = ap (mem k) (sym (answered-done ns js is)) ∙ among ∙ answered-done true b tested
   tested-alone (typed t ts) free fits ns js is k b among tested =
@@ -148,7 +148,7 @@ module _ (T : Table) (L : Lets) (n : ℕ) (s : TypedPatternStepTree) where
   parent-is form axes.SelfNode x k h on = absurd (true≢false (sym h))
 
   -- a candidate survives its test where the step selects it
-  pub survives-selected : WellFormed T → is_pattern_axis s.axis ≡ true → AllFit L s.predicates → (x k : ℕ) (js : List ℕ) (b : Bool) →
+  pub survives-selected : WellFormed T → is_pattern_axis s.axis ≡ true → AllFitted L s.predicates → (x k : ℕ) (js : List ℕ) (b : Bool) →
       (step_at T (step_of T L s) n x).answer ≡ Ok js → is_candidate T s x k ≡ true → mem k (order T) ≡ true → (survives T L s n k).answer ≡ Ok b → mem k js ≡ b
   survives-selected form axis fits x k js b is candidate listed survived = by (some_positional s.predicates) refl survived
     where

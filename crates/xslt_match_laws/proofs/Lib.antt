@@ -1,4 +1,5 @@
 mod Contexts
+mod Fitted
 mod Numbers
 mod Gathering
 mod Choosing

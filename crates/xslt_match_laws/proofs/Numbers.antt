@@ -25,7 +25,9 @@ use Rattle.xp_meaning.specs.Language.{in_language}
 use Rattle.xp_meaning.specs.Evaluation.{Lets, Operand, meaning, meanings, some_true, all_true, compared, values, slot_value, start_nodes, steps_meant, comparands_meant}
 use Rattle.xp_meaning.proofs.Choices.{came_before, same_ok}
 use Rattle.xslt_match.specs.Positional.{is_number_type}
-use Rattle.xslt_match_laws.specs.Fitting.{type_in, SlotFits, Compares, Fits}
+use Rattle.xp_typed_tree.specs.WellTyped.{Compares}
+use Rattle.xslt_match_laws.specs.Fitting.{type_in, SlotFits}
+use Rattle.xslt_match_laws.specs.inner.Fitted.{Fitted}
 
 -- a value that is no number
 abbrev pub Plain : Value → Type 0
@@ -111,7 +113,7 @@ module _ (T : Table) where
         compared_plain (comparands_meant T L rest) two.first c v two.then
 
     -- a value of an expression whose type isn't that of numbers
-    pub meaning_plain : (t : TypedTree) (c : Context) (v : Value) → is_number_type (type_of t) ≡ false → Fits L t → (meaning T L t c).answer ≡ Ok v → Plain v
+    pub meaning_plain : (t : TypedTree) (c : Context) (v : Value) → is_number_type (type_of t) ≡ false → Fitted L t → (meaning T L t c).answer ≡ Ok v → Plain v
     unfolding visit behind reading done
     meaning_plain (disjunction ts) c v h fits is = made_plain (some_true (meanings T L ts) c) (λ b. Truth b) v (λ b. tt) is
     meaning_plain (conjunction ts) c v h fits is = made_plain (all_true (meanings T L ts) c) (λ b. Truth b) v (λ b. tt) is

@@ -26,7 +26,8 @@ use Rattle.xp_meaning.proofs.Choices.{came_before}
 use Rattle.xslt_match.specs.Matching.{starts, path_matches, some_path}
 use Rattle.xslt_match.proofs.Filters.{iff, found, kept-passes}
 use Rattle.xslt_match_laws.specs.Reading.{as_steps, as_place, as_paths, as_expression}
-use Rattle.xslt_match_laws.specs.Fitting.{StepsFit, PathsFit}
+use Rattle.xslt_match_laws.specs.inner.Fitted.{StepsFitted, PathsFitted}
+use Rattle.xslt_match_laws.proofs.Fitted.{paths_fitted}
 use Rattle.xslt_match_laws.specs.Laws.{MatchesAreSelected}
 use Rattle.xslt_match_laws.proofs.Gathering.{answered-done, mem-filter, parts, in-filter, in-front, in-back, any-at}
 use Rattle.xslt_match_laws.proofs.Ways.{Way, Clean, Begun, path-clean, path-way, path-member}
@@ -162,7 +163,7 @@ module _ (T : Table) (form : WellFormed T) (ord : Ordered T) (up : HasWaysUp T) 
       in-filter (on_axis T axes.AncestorOrSelf n) m (order T) (sym (ord.live_in_order m) ∙ above-live m h) (or_comm (mem m (ancestors T n)) (eqb m n) ∙ h)
 
   -- a path whose chains are tested, where its evaluations have no fault
-  path-chained : (p : TypedPathTree) (b : Bool) → PatternStepsTyped p.steps → StepsFit L p.steps → ((m : ℕ) → mem m (above T n) ≡ true → Clean T L n p.steps (begin p.from_root m)) →
+  path-chained : (p : TypedPathTree) (b : Bool) → PatternStepsTyped p.steps → StepsFitted L p.steps → ((m : ℕ) → mem m (above T n) ≡ true → Clean T L n p.steps (begin p.from_root m)) →
       (path_matches T L n p).answer ≡ Ok b → Chained T L n p.steps (starts T p.from_root n) b
   path-chained p b typed fits clean is =
       chained T form L n p.steps (starts T p.from_root n) (starts T p.from_root n) b typed fits (λ m h. h) (by p.from_root clean) is
@@ -181,7 +182,7 @@ module _ (T : Table) (form : WellFormed T) (ord : Ordered T) (up : HasWaysUp T) 
   chain-member p false b c m h w = c.member m (above-starts m h) w
 
   -- what the tests of the paths tell
-  matched : (ps : List TypedPathTree) (b : Bool) → PathsTyped ps → PathsFit L ps → ((m : ℕ) → mem m (above T n) ≡ true → AllClean T L n ps m) →
+  matched : (ps : List TypedPathTree) (b : Bool) → PathsTyped ps → PathsFitted L ps → ((m : ℕ) → mem m (above T n) ≡ true → AllClean T L n ps m) →
       (some_path T L n ps).answer ≡ Ok b → Matched T L n ps b
   matched [] b typed fits clean is =
       record { way = λ h. absurd (true≢false (sym h ∙ sym (answered-done false b is))); member = λ m h w. absurd w }
@@ -217,7 +218,7 @@ pub matches_are_selected : (T : Table) → WellFormed T → Ordered T → HasWay
 matches_are_selected T form ord up L ps n sets b live typed fits evaluates is =
     let here : mem n (order T) ≡ true = sym (ord.live_in_order n) ∙ live in
     let told_at : (m : ℕ) → mem m (above T n) ≡ true → Told T L n ps m (sets m) = λ m h. evaluated T L n m ps (sets m) here (evaluates m h) in
-    let tested = matched T form ord up L n live ps b typed fits (λ m h. (told_at m h).clean) (sym (answer_visit (some_path T L n ps)) ∙ is) in
+    let tested = matched T form ord up L n live ps b typed (paths_fitted L ps typed fits) (λ m h. (told_at m h).clean) (sym (answer_visit (some_path T L n ps)) ∙ is) in
     iff b (list_any (λ m. mem n (sets m)) (above T n))
     (λ h. let k = tested.way h in any-at (λ m. mem n (sets m)) k.node (above T n) k.listed ((told_at k.node k.listed).member k.holds))
     (λ h. let f = found (λ m. mem n (sets m)) (above T n) h in tested.member f.at f.listed ((told_at f.at f.listed).way f.passes))

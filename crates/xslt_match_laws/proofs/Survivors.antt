@@ -12,7 +12,7 @@ use Rattle.xp_meaning.specs.Evaluation.{Lets}
 use Rattle.xp_meaning.proofs.Choices.{came_before}
 use Rattle.xslt_match.specs.Matching.{leads, led_to, reaches, standing, survives, survivors, chains}
 use Rattle.xslt_match.proofs.Filters.{found, kept-passes, kept-listed, or-false}
-use Rattle.xslt_match_laws.specs.Fitting.{AllFit, StepsFit}
+use Rattle.xslt_match_laws.specs.inner.Fitted.{AllFitted, StepsFitted}
 use Rattle.xslt_match_laws.proofs.Gathering.{answered-done, in-filter, any-at, Drawn, given, drawn}
 use Rattle.xslt_match_laws.proofs.Choosing.{selected-candidate, survives-selected}
 use Rattle.xslt_match_laws.proofs.Ways.{Selects, Looks, Leg, Way, Clean, looks-leads, leads-looks, way-reaches, Begun}
@@ -54,7 +54,7 @@ module _ (T : Table) (form : WellFormed T) (L : Lets) (n : ℕ) where
   abbrev led_from : TypedPatternStepTree → List ℕ → ℕ → Bool
   led_from s alive k = list_any (λ m. leads T s m k) alive
 
-  came : (s : TypedPatternStepTree) (ss : List TypedPatternStepTree) (ms alive left : List ℕ) → is_pattern_axis s.axis ≡ true → AllFit L s.predicates →
+  came : (s : TypedPatternStepTree) (ss : List TypedPatternStepTree) (ms alive left : List ℕ) → is_pattern_axis s.axis ≡ true → AllFitted L s.predicates →
       ((m : ℕ) → mem m alive ≡ true → Clean T L n (s ∷ ss) m) → (survivors T L s n (standing T s ss ms n)).answer ≡ Ok left → (k : ℕ) →
       mem k (filter (led_from s alive) left) ≡ true → Came T L n s ss (standing T s ss ms n) alive k
   came s ss ms alive left axis fits clean is k h =
@@ -76,7 +76,7 @@ module _ (T : Table) (form : WellFormed T) (L : Lets) (n : ℕ) where
       }
 
   -- the next node of a way is alive too
-  goes-on : (s : TypedPatternStepTree) (ss : List TypedPatternStepTree) (ms alive left : List ℕ) → is_pattern_axis s.axis ≡ true → AllFit L s.predicates →
+  goes-on : (s : TypedPatternStepTree) (ss : List TypedPatternStepTree) (ms alive left : List ℕ) → is_pattern_axis s.axis ≡ true → AllFitted L s.predicates →
       ((m : ℕ) → mem m alive ≡ true → mem m ms ≡ true) → (survivors T L s n (standing T s ss ms n)).answer ≡ Ok left → (m : ℕ) → mem m alive ≡ true →
       (leg : Leg T L n s m (λ k. Way T L n ss k)) → mem leg.to (filter (led_from s alive) left) ≡ true
   goes-on s ss ms alive left axis fits among is m h leg =
@@ -93,7 +93,7 @@ module _ (T : Table) (form : WellFormed T) (L : Lets) (n : ℕ) where
       (g.keeps leg.to (ap (λ b. mem leg.to (cond b (leg.to ∷ []) [])) alone ∙ ap (λ b. b || false) (eq-eqb leg.to leg.to refl)))
       (any-at (λ j. leads T s j leg.to) m alive h l)
 
-  pub chained : (ss : List TypedPatternStepTree) (ms alive : List ℕ) (b : Bool) → PatternStepsTyped ss → StepsFit L ss → ((m : ℕ) → mem m alive ≡ true → mem m ms ≡ true) →
+  pub chained : (ss : List TypedPatternStepTree) (ms alive : List ℕ) (b : Bool) → PatternStepsTyped ss → StepsFitted L ss → ((m : ℕ) → mem m alive ≡ true → mem m ms ≡ true) →
       ((m : ℕ) → mem m alive ≡ true → Clean T L n ss m) → (chains T L n ss ms alive).answer ≡ Ok b → Chained T L n ss alive b
   chained [] ms alive b typed fits among clean is =
       let same : mem n alive ≡ b = answered-done (mem n alive) b is in

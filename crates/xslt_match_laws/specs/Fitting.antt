@@ -1,9 +1,9 @@
--- What a pattern's predicates keep to beyond being well typed (XPath 1.0, sections 2.4, 3.1 and 3.4): else a predicate
--- could have a number as its value though its type is another.
+-- The lets that a pattern's predicates keep to beyond being well typed (XPath 1.0, section 2.4): else a predicate could
+-- have a number as its value though its type is another.
 use Rattle.std.specs.Prelude.{◌≡◌, List, [], ◌∷◌, Option, None, Some, Result, Ok, Err}
 use Rattle.xp_typed_tree.specs.declared.value_type.ValueType.{ValueType}
 use Rattle.xp_typed_tree.specs.declared.value_type.ValueType.TheVariants as types
-use Rattle.xp_typed_tree.specs.TypedTree.{TypedTree, Comparands, TypedTrees, TypedPatternStepTree, TypedPathTree, disjunction, conjunction, comparison, arithmetic, negation, union, location, selection, slot, text, whole, application, no_comparands, comparand, no_typed, typed}
+use Rattle.xp_typed_tree.specs.TypedTree.{TypedTree, TypedTrees, TypedPatternStepTree, TypedPathTree, slot, no_typed, typed}
 use Rattle.xp_outcome.specs.Slots.{in_slot}
 use Rattle.xp_values.specs.declared.values.Value.{Value}
 use Rattle.xp_values.specs.declared.values.Value.TheVariants.{NodeSet, Truth, Number, Chars}
@@ -23,25 +23,10 @@ SlotFits None type = Unit {0}
 SlotFits (Some (Ok v)) type = type_in v ≡ type
 SlotFits (Some (Err f)) type = Unit {0}
 
--- a comparison has two sides
-abbrev pub Compares : Comparands → Type 0
-Compares no_comparands = ⊥
-Compares (comparand operator operand rest) = Unit {0}
-
--- a predicate that is a variable alone has a slot that fits, and one that is a comparison has two sides
+-- a predicate that is a variable alone has a slot that fits
 abbrev pub Fits : Lets → TypedTree → Type 0
-Fits L (disjunction ts) = Unit {0}
-Fits L (conjunction ts) = Unit {0}
-Fits L (comparison first rest) = Compares rest
-Fits L (arithmetic first rest) = Unit {0}
-Fits L (negation signs operand) = Unit {0}
-Fits L (union ts) = Unit {0}
-Fits L (location place steps) = Unit {0}
-Fits L (selection base predicates) = Unit {0}
 Fits L (slot place type) = SlotFits (in_slot L place) type
-Fits L (text value) = Unit {0}
-Fits L (whole value) = Unit {0}
-Fits L (application f args) = Unit {0}
+Fits L _ = Unit {0}
 
 -- each of some predicates fits
 abbrev pub AllFit : Lets → TypedTrees → Type 0

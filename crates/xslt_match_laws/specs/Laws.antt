@@ -13,9 +13,9 @@ use Rattle.xslt_match.specs.Matching.{matching}
 use Rattle.xslt_match_laws.specs.Reading.{as_expression}
 use Rattle.xslt_match_laws.specs.Fitting.{PathsFit}
 
--- where the lets have the types that the pattern's variables say and its comparisons have two sides, the pattern read
--- as an expression has no fault at the node or at an ancestor as context, and no test has one, the node matches exactly
--- where it is in the node-set of one of these evaluations
+-- where the lets have the types that the pattern's variables say, the pattern read as an expression has no fault at the
+-- node or at an ancestor as context, and no test has one, the node matches exactly where it is in the node-set of one of
+-- these evaluations
 abbrev pub MatchesAreSelected : Table → Type 0
 MatchesAreSelected T =
     (L : Lets) (ps : List TypedPathTree) (n : ℕ) (sets : ℕ → List ℕ) (b : Bool) →
