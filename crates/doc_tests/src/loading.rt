@@ -38,7 +38,7 @@ const FAULTY_DOCUMENTS: &str = " => line 1: Pyx(NoRoot)\n\
 (a|(b|)a| => line 3: Pyx(WrongEnd)\n";
 
 /// Loads a text of a test.
-fn loaded(rt: &impl Abort, alloc: Global, text: &str) -> Result<Tree, LoadError> {
+pub(crate) fn loaded(rt: &impl Abort, alloc: Global, text: &str) -> Result<Tree, LoadError> {
     assert!(rt; text.len() <= MAX_LIVE_TEXT_BYTES);
     load_tree(alloc, text.as_bytes())
 }

@@ -1,6 +1,7 @@
 //! Trees that are built node by node, and the tables of their names.
 
-use doc_tree::{NameTable, NewNode, NodeId, Tree, WordTable};
+use crate::loading::loaded;
+use doc_tree::{Kind, NameTable, NewNode, NodeId, Tree, WordTable};
 use std::process::Abort;
 use std::test::Fail;
 
@@ -42,28 +43,46 @@ fn numbers_names_of_a_table_once(rt: HostRuntime) -> Result<(), Fail> {
     Ok(())
 }
 
-/// The answers of `is_before` for each node against each.
-fn in_order(rt: &impl Abort, tree: &Tree, nodes: &[NodeId]) {
-    for (i, a) in nodes.iter().enumerate() {
-        for (j, b) in nodes.iter().enumerate() {
-            assert!(rt; tree.contains(*a));
-            assert!(rt; tree.contains(*b));
-            assert_eq!(rt; tree.is_before(*a, *b), i < j, "{i} {j}");
-        }
-    }
+#[test]
+fn first_node(rt: HostRuntime) -> Result<(), Fail> {
+    let mut tree = Tree::new(rt.alloc())?;
+    let name = tree.name_id("", "a", "")?;
+    let n = tree.append_node(tree.root(), NewNode::Element(name))?;
+    assert_eq!(rt; tree.kind_of(n), Some(Kind::Element));
+    Ok(())
+}
+
+/// A document, each of whose nodes comes before those after it.
+const PLACES: &str = "(a\nAk v\n(b\n-xy\n)b\n-z\n)a\n";
+
+/// The string-values of its nodes, in document order.
+const STRING_VALUES: [&str; 6] = ["xyz", "xyz", "v", "xy", "xy", "z"];
+
+/// Asserts of which of two nodes `is_before` says that it comes first.
+fn is_first(rt: &impl Abort, tree: &Tree, a: NodeId, b: NodeId, wanted: bool) {
+    assert!(rt; tree.contains(a));
+    assert!(rt; tree.contains(b));
+    assert_eq!(rt; tree.is_before(a, b), wanted);
 }
 
 #[test]
-fn places_and_string_values(rt: HostRuntime) -> Result<(), Fail> {
-    let mut tree = Tree::new(rt.alloc())?;
-    let name = tree.name_id("", "a", "")?;
-    let outer = tree.append_node(tree.root(), NewNode::Element(name))?;
-    let inner = tree.append_node(outer, NewNode::Element(name))?;
-    let text = tree.append_node(inner, NewNode::Text("xyz"))?;
-    let nodes = [tree.root(), outer, inner, text];
-    in_order(&rt, &tree, &nodes);
-    for n in nodes {
-        assert_eq!(rt; tree.string_value(rt.alloc(), n)?.as_str(), "xyz");
+fn places(rt: HostRuntime) -> Result<(), Fail> {
+    let tree = loaded(&rt, rt.alloc(), PLACES)?;
+    let nodes = tree.nodes_in_order(rt.alloc())?;
+    for (i, a) in nodes.as_slice().iter().enumerate() {
+        for (j, b) in nodes.as_slice().iter().enumerate() {
+            is_first(&rt, &tree, *a, *b, i < j);
+        }
+    }
+    Ok(())
+}
+
+#[test]
+fn string_values(rt: HostRuntime) -> Result<(), Fail> {
+    let tree = loaded(&rt, rt.alloc(), PLACES)?;
+    let nodes = tree.nodes_in_order(rt.alloc())?;
+    for (n, wanted) in nodes.as_slice().iter().zip(STRING_VALUES) {
+        assert_eq!(rt; tree.string_value(rt.alloc(), *n)?.as_str(), wanted);
     }
     Ok(())
 }
