@@ -28,6 +28,18 @@ pub(crate) enum Question {
     Pattern,
 }
 
+/// Asserts each line of some tables.
+pub(crate) fn tables_hold(
+    rt: &impl Abort,
+    sample: &Sample,
+    tables: &[(Question, &str)],
+) -> Result<(), Fail> {
+    for (question, table) in tables {
+        table_holds(rt, sample, *question, table)?;
+    }
+    Ok(())
+}
+
 /// Asserts each line of a table; where a line tells of `reads` or of `visits`, these are asserted too.
 pub(crate) fn table_holds(
     rt: &impl Abort,

@@ -4,7 +4,7 @@
 //! A line names the context node, the expression, its value, after `reads` the cells and lets that are read, and
 //! after `visits` how many there are.
 
-use crate::tests::rows::{Question, table_holds};
+use crate::tests::rows::{Question, table_holds, tables_hold};
 use crate::tests::samples::{a_long_text, a_note, three_bs, two_texts};
 use std::test::Fail;
 
@@ -315,110 +315,55 @@ a: number('9007199254740992') => evaluation fault NumberRange\n\
 a: number('-9007199254740992') => evaluation fault NumberRange\n\
 a: number('9007199254740992.5') => evaluation fault NotWhole\n";
 
+/// The tables of questions about an element with three elements b.
+const OF_THREE_BS: [(Question, &str); 12] = [
+    (Question::Value, PATHS_AND_NUMBERS),
+    (Question::Value, FIRST_FAULTS),
+    (Question::Value, REFUSED_THINGS),
+    (Question::Value, TYPE_FAULTS),
+    (Question::Value, FIRST_OF_SEVERAL),
+    (Question::Pattern, PATTERNS),
+    (Question::Value, FUNCTIONS_ON_TEXTS),
+    (Question::Value, AXES_AND_UNIONS),
+    (Question::Value, READS),
+    (Question::Match, MATCHES),
+    (Question::Nodes, MATCHING_NODES),
+    (Question::Value, GREATEST_NUMBERS),
+];
+
+/// Those about an element with two texts.
+const OF_TWO_TEXTS: [(Question, &str); 3] = [
+    (Question::Value, STRING_VALUES),
+    (Question::Value, READS_OF_TEXTS),
+    (Question::Match, MATCHES_OF_TEXTS),
+];
+
+/// Those about a variable that has a note.
+const OF_A_NOTE: [(Question, &str); 2] = [
+    (Question::Value, READS_OF_VARIABLES),
+    (Question::Match, MATCHES_WITH_VARIABLES),
+];
+
 #[test]
-fn paths_and_numbers(rt: HostRuntime) -> Result<(), Fail> {
+fn three_elements(rt: HostRuntime) -> Result<(), Fail> {
     let sample = three_bs(&rt, rt.alloc())?;
-    table_holds(&rt, &sample, Question::Value, PATHS_AND_NUMBERS)
+    tables_hold(&rt, &sample, &OF_THREE_BS)
 }
 
 #[test]
-fn first_faults(rt: HostRuntime) -> Result<(), Fail> {
-    let sample = three_bs(&rt, rt.alloc())?;
-    table_holds(&rt, &sample, Question::Value, FIRST_FAULTS)
+fn two_texts_apart(rt: HostRuntime) -> Result<(), Fail> {
+    let sample = two_texts(&rt, rt.alloc())?;
+    tables_hold(&rt, &sample, &OF_TWO_TEXTS)
 }
 
 #[test]
-fn refused_things(rt: HostRuntime) -> Result<(), Fail> {
-    let sample = three_bs(&rt, rt.alloc())?;
-    table_holds(&rt, &sample, Question::Value, REFUSED_THINGS)
-}
-
-#[test]
-fn type_faults(rt: HostRuntime) -> Result<(), Fail> {
-    let sample = three_bs(&rt, rt.alloc())?;
-    table_holds(&rt, &sample, Question::Value, TYPE_FAULTS)
-}
-
-#[test]
-fn first_of_several(rt: HostRuntime) -> Result<(), Fail> {
-    let sample = three_bs(&rt, rt.alloc())?;
-    table_holds(&rt, &sample, Question::Value, FIRST_OF_SEVERAL)
-}
-
-#[test]
-fn patterns(rt: HostRuntime) -> Result<(), Fail> {
-    let sample = three_bs(&rt, rt.alloc())?;
-    table_holds(&rt, &sample, Question::Pattern, PATTERNS)
+fn a_variable(rt: HostRuntime) -> Result<(), Fail> {
+    let sample = a_note(&rt, rt.alloc())?;
+    tables_hold(&rt, &sample, &OF_A_NOTE)
 }
 
 #[test]
 fn greatest_texts(rt: HostRuntime) -> Result<(), Fail> {
     let sample = a_long_text(&rt, rt.alloc())?;
     table_holds(&rt, &sample, Question::Value, GREATEST_TEXTS)
-}
-
-#[test]
-fn functions_on_texts(rt: HostRuntime) -> Result<(), Fail> {
-    let sample = three_bs(&rt, rt.alloc())?;
-    table_holds(&rt, &sample, Question::Value, FUNCTIONS_ON_TEXTS)
-}
-
-#[test]
-fn axes_and_unions(rt: HostRuntime) -> Result<(), Fail> {
-    let sample = three_bs(&rt, rt.alloc())?;
-    table_holds(&rt, &sample, Question::Value, AXES_AND_UNIONS)
-}
-
-#[test]
-fn string_values(rt: HostRuntime) -> Result<(), Fail> {
-    let sample = two_texts(&rt, rt.alloc())?;
-    table_holds(&rt, &sample, Question::Value, STRING_VALUES)
-}
-
-#[test]
-fn reads_of_expressions(rt: HostRuntime) -> Result<(), Fail> {
-    let sample = three_bs(&rt, rt.alloc())?;
-    table_holds(&rt, &sample, Question::Value, READS)
-}
-
-#[test]
-fn reads_of_texts(rt: HostRuntime) -> Result<(), Fail> {
-    let sample = two_texts(&rt, rt.alloc())?;
-    table_holds(&rt, &sample, Question::Value, READS_OF_TEXTS)
-}
-
-#[test]
-fn reads_of_variables(rt: HostRuntime) -> Result<(), Fail> {
-    let sample = a_note(&rt, rt.alloc())?;
-    table_holds(&rt, &sample, Question::Value, READS_OF_VARIABLES)
-}
-
-#[test]
-fn matches_of_elements(rt: HostRuntime) -> Result<(), Fail> {
-    let sample = three_bs(&rt, rt.alloc())?;
-    table_holds(&rt, &sample, Question::Match, MATCHES)
-}
-
-#[test]
-fn matches_of_texts(rt: HostRuntime) -> Result<(), Fail> {
-    let sample = two_texts(&rt, rt.alloc())?;
-    table_holds(&rt, &sample, Question::Match, MATCHES_OF_TEXTS)
-}
-
-#[test]
-fn matches_with_variables(rt: HostRuntime) -> Result<(), Fail> {
-    let sample = a_note(&rt, rt.alloc())?;
-    table_holds(&rt, &sample, Question::Match, MATCHES_WITH_VARIABLES)
-}
-
-#[test]
-fn matching_nodes(rt: HostRuntime) -> Result<(), Fail> {
-    let sample = three_bs(&rt, rt.alloc())?;
-    table_holds(&rt, &sample, Question::Nodes, MATCHING_NODES)
-}
-
-#[test]
-fn greatest_numbers(rt: HostRuntime) -> Result<(), Fail> {
-    let sample = three_bs(&rt, rt.alloc())?;
-    table_holds(&rt, &sample, Question::Value, GREATEST_NUMBERS)
 }
