@@ -58,6 +58,13 @@ impl<T> ItemList<T> {
         self.items.as_slice().get(index)
     }
 
+    /// The items themselves, to be taken one by one.
+    pub fn into_vec(self) -> Vec<T>
+        ensures { result.items ≡ self }
+    {
+        self.items
+    }
+
     /// The items from the last to the first. They are turned round where they are, so that no memory is taken.
     pub fn reversed(mut self) -> ItemList<T>
         ensures { result ≡ reverse self }
