@@ -1,5 +1,8 @@
 //! Syntax faults.
 
+ghost use Rattle.std.specs.Prelude.{◌≡◌};
+ghost use Rattle.xp_grammar.specs.FaultNames.{kind_name};
+
 /// What is wrong at the first fault of an expression or a pattern.
 #[derive(Clone, Copy, Debug, PartialEq, Eq)]
 pub enum SyntaxKind {
@@ -9,6 +12,19 @@ pub enum SyntaxKind {
     Unexpected,
     /// Only the limit of nesting refuses the token.
     TooNested,
+}
+
+impl SyntaxKind {
+    /// The kind's name, as messages tell it.
+    pub fn name(self) -> &'static str
+        ensures { result.now ≡ kind_name self }
+    {
+        match self {
+            SyntaxKind::BadToken => "BadToken",
+            SyntaxKind::Unexpected => "Unexpected",
+            SyntaxKind::TooNested => "TooNested",
+        }
+    }
 }
 
 /// The first fault of a text, with the number of bytes before it.
