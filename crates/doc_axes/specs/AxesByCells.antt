@@ -4,7 +4,7 @@ use Rattle.std.specs.Prelude.{◌≡◌, ℕ, true, [], ◌∷◌, ◌++◌, Non
 use Rattle.doc_tree.specs.declared.axes.Axis.TheVariants.{Ancestor, AncestorOrSelf, Attribute, Child, Descendant, DescendantOrSelf, Following, FollowingSibling, Parent, Preceding, PrecedingSibling, SelfNode}
 use Rattle.doc_tree.specs.Table.{Table, parent_of, kids_of, attrs_of, is_live}
 use Rattle.doc_tree.specs.Walks.{ancestors, above}
-use Rattle.doc_axes.specs.Axes.{axis_order, axis_nodes, backwards, kids_beside}
+use Rattle.doc_axes.specs.Axes.{axis_order, axis_nodes, kids_beside}
 use Rattle.doc_axes.specs.Plain.{plain_below, NoAttributes}
 use Rattle.doc_axes.specs.Siblings.{kids_behind, kids_before}
 

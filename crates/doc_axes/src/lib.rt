@@ -11,4 +11,4 @@ mod walks;
 pub use axes::axis_nodes;
 pub use laws::{axes_by_cells, axes_partition};
 pub use node_test::passes;
-pub use sets::{copied_nodes, in_document_order, one_node, push_all, union_in_order};
+pub use sets::{in_document_order, union_in_order};

@@ -1,6 +1,6 @@
 //! Node-sets in document order.
 
-ghost use Rattle.std.specs.Prelude.{◌≡◌, ◌∷◌, [], ◌++◌, ◌<◌, true, length, IfOk, OnOk};
+ghost use Rattle.std.specs.Prelude.{◌≡◌, ◌++◌, ◌<◌, true, length, IfOk};
 ghost use Rattle.doc_axes.specs.Sets.{in_order, IsNodeSet, union};
 
 use doc_tree::{NodeId, NodeList, Tree};
@@ -37,27 +37,6 @@ pub fn union_in_order(
     both.push_all(a.as_slice())?;
     both.push_all(b.as_slice())?;
     in_document_order(alloc, tree, &both)
-}
-
-/// Puts nodes at the end of the list.
-pub fn push_all(list: &mut NodeList, nodes: &[NodeId]) -> Result<(), AllocError>
-    ensures { OnOk result (list.new ≡ list.old ++ nodes.now) }
-{
-    list.push_all(nodes)
-}
-
-/// The list of one node.
-pub fn one_node(alloc: Global, n: NodeId) -> Result<NodeList, AllocError>
-    ensures { IfOk result (λ nodes. nodes ≡ n ∷ []) }
-{
-    ItemList::of_one(alloc, n)
-}
-
-/// The same nodes as a list of its own.
-pub fn copied_nodes(alloc: Global, nodes: &[NodeId]) -> Result<NodeList, AllocError>
-    ensures { IfOk result (λ list. list ≡ nodes.now) }
-{
-    ItemList::copy_of(alloc, nodes)
 }
 
 /// The live ones of some nodes in document order, each once: the two halves are ordered apart, then joined.
