@@ -1,17 +1,11 @@
 -- What is told along document order, from a node downwards: for each caller that goes down a tree.
-use Rattle.std.proofs.Common.{◌≡◌, ℕ, List, [], ◌∷◌, ◌++◌, refl, ap, ◌∙◌}
+use Rattle.std.proofs.Common.{◌≡◌, ℕ, List, ◌++◌, ap, ◌∙◌}
 use Rattle.std.specs.List.{flat_map}
 use Rattle.std.proofs.lemmas.Grind.{flat_map-append}
+use Rattle.sch_base.proofs.Lists.{flat_map-flat}
 use Rattle.doc_table.specs.Table.{Table, kids_of, attrs_of}
 use Rattle.doc_table.specs.Walks.{below}
 use Rattle.doc_table.specs.Laws.{Ordered}
-
--- what the items give that the items give
-pub flat_map-flat : {X Y Z : Type 0} (f : Y → List Z) (g : X → List Y) (xs : List X) →
-    flat_map f (flat_map g xs) ≡ flat_map (λ x. flat_map f (g x)) xs
-flat_map-flat f g [] = refl
-flat_map-flat f g (x ∷ xs) =
-    flat_map-append f (g x) (flat_map g xs) ∙ ap (λ l. flat_map f (g x) ++ l) (flat_map-flat f g xs)
 
 -- of a node, of its attributes, and of its kids in turn with all below them
 pub told_below : {A : Type 0} (f : ℕ → List A) (T : Table) → Ordered T → (n : ℕ) →

@@ -23,18 +23,4 @@ impl Tree {
         self.bare.laws();
         self.bare.scope_laws();
     }
-
-    /// `laws`, of which callers ask for the nesting alone.
-    pub fn nesting(&self)
-        ensures { Nested self.now.nodes }
-    {
-        self.laws();
-    }
-
-    /// `laws`, of which callers ask for the ways up and the scopes along them alone.
-    pub fn scope_laws(&self)
-        ensures { HasScopes self.now.nodes }
-    {
-        self.laws();
-    }
 }

@@ -5,6 +5,7 @@ use Rattle.std.proofs.lemmas.Bool.{eq-eqb}
 use Rattle.std.proofs.Math.Bool.{or-true}
 use Rattle.std.proofs.lemmas.Grind.{flat_map-append}
 use Rattle.std.proofs.Math.Seq.{take-length}
+use Rattle.sch_base.proofs.Lists.{flat_map-flat}
 use Rattle.sch_io.specs.SinkLog.{SinkLog}
 use Rattle.sch_io.specs.Wrote.{Wrote}
 use Rattle.sch_io.proofs.Writes.{wrote_then, wrote_stopped}
@@ -16,11 +17,6 @@ use Rattle.doc_tree.specs.Walks.{ancestors}
 use Rattle.doc_write.specs.TreeText.{line_text}
 use Rattle.doc_write.specs.inner.Parts.{closing_text, opening_text, text_below}
 use Rattle.sch_io.proofs.Writes.{wrote_cut}
-
--- the lines of the items, written
-flat_map-flat : {A B C : Type 0} (f : B → List C) (g : A → List B) (xs : List A) → flat_map f (flat_map g xs) ≡ flat_map (λ x. flat_map f (g x)) xs
-flat_map-flat f g [] = refl
-flat_map-flat f g (x ∷ xs) = flat_map-append f (g x) (flat_map g xs) ∙ ap (λ l. flat_map f (g x) ++ l) (flat_map-flat f g xs)
 
 -- how a node begins, with its attributes
 abbrev pub head_text : Table → ℕ → List ℕ

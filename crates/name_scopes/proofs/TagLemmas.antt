@@ -3,8 +3,7 @@ use Rattle.std.proofs.Common.{◌≡◌, ◌≢◌, ℕ, ◌+◌, ◌<◌, ◌�
 use Rattle.std.proofs.Math.Bool.{or-true, or-false}
 use Rattle.std.proofs.lemmas.List.Folds.{list_any-append}
 use Rattle.std.proofs.lemmas.Bool.{or_parts}
-use Rattle.std.specs.List.{list_any, flat_map, filter, position_or_len}
-use Rattle.std.proofs.lemmas.Grind.{common_steps}
+use Rattle.std.specs.List.{list_any, flat_map, filter}
 use Rattle.std.proofs.lemmas.List.{drop_more, take_more, take-append-drop}
 use Rattle.std.proofs.lemmas.List.Elements.{filter-append}
 use Rattle.doc_tree.specs.Numbering.{EachOnce, Numbered}
@@ -14,11 +13,6 @@ use Rattle.pyx_core.specs.declared.event.Attr.{Attr}
 use Rattle.std.specs.Str.{bytes_eq}
 use Rattle.std.proofs.lemmas.Slice.Eq.{bytes_eq-Decides}
 use Rattle.name_scopes.specs.DocFaults.{has_pair, same_qname, same_expanded, expanded_attr}
-
--- where no element passes, none does
-pub none_passes : {X : Type 0} (p : X → Bool) (xs : List X) → position_or_len p xs ≡ length xs → list_any p xs ≡ false
-none_passes p [] e = refl
-none_passes p (x ∷ xs) e = grind (arith, common_steps, none_passes p xs)
 
 -- two that are the same, in a list with one more at its end
 module _ {X : Type 0} (same : X → X → Bool) where

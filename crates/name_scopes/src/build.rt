@@ -95,7 +95,6 @@ impl Loader {
             TakesEvent taken place standing event.now self.new result }
     {
         self.tree.laws();
-        self.tree.scope_laws();
         append_leaf(&mut self.tree, self.place, event)?;
         Ok(())
     }
@@ -107,7 +106,6 @@ impl Loader {
             TakesEvent taken place standing (event_kind.Start name.now attrs.now) self.new result }
     {
         self.tree.laws();
-        self.tree.scope_laws();
         declare(&mut self.scope, attrs)?;
         if let Some(kind) = self.check(name, attrs)? {
             return Err(EventError::Kind(kind));
@@ -208,7 +206,6 @@ fn begin(
     ensures deep { IfErr result (IsTooDeep tree.old.nodes parent) }
 {
     tree.laws();
-    tree.scope_laws();
     let element = append_element(tree, parent, scope, name)?;
     append_decls(tree, element, attrs)?;
     append_attributes(tree, element, scope, attrs)?;
@@ -286,7 +283,6 @@ fn append_attributes(
     for attr in attrs {
         if is_plain(attr) {
             tree.laws();
-            tree.scope_laws();
             append_attribute(tree, element, scope, attr)?;
         }
     }

@@ -12,7 +12,7 @@ pub(crate) struct QName<'a> {
 }
 
 /// Splits a QName at its first colon.
-#[tactic(auto, using(crate::proofs::TagLemmas::none_passes))]
+#[tactic(auto, using(sch_base::proofs::Lists::none_passes))]
 pub(crate) fn split(name: &str) -> QName
     ensures prefix { result.prefix.now ≡ prefix_part name.now }
     ensures local { result.local.now ≡ local_part name.now }

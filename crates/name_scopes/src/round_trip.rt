@@ -11,7 +11,6 @@ pub fn text_comes_back(tree: &Tree)
     ensures { TextComesBack tree.now.nodes }
 {
     tree.laws();
-    tree.scope_laws();
     qnames_split();
     written_is_read_back();
 }
@@ -29,7 +28,5 @@ pub fn namespaces_follow(one: &Tree, other: &Tree)
     ensures { NamespacesFollow one.now.nodes other.now.nodes }
 {
     one.laws();
-    one.scope_laws();
     other.laws();
-    other.scope_laws();
 }

@@ -41,7 +41,7 @@ pub loop-attr-preserved : goal.loop-attr-preserved
 loop-attr-preserved c = elim c.if-is_plain.branch [
   | then-is_plain+in_ok-append_attribute w ↦
       rw w.tree-is (attributing-more c.args.tree.now.nodes c.loop-attr.tree.nodes w.append_attribute.new.tree.nodes c.args.element w.in_ok-append_attribute.field-0 c.args.scope.now c.args.attrs.now c.loop-attr.attr-index c.attr-item.result
-      c.loop-attr-test.true c.attr-item.is (sym c.is_plain.ensures ∙ w.if-is_plain.true) w.in_ok-append_attribute.ensures w.laws.ensures.ways_up w.laws.ensures.well_formed w.scope_laws.ensures
+      c.loop-attr-test.true c.attr-item.is (sym c.is_plain.ensures ∙ w.if-is_plain.true) w.in_ok-append_attribute.ensures w.laws.ensures.ways_up w.laws.ensures.well_formed w.laws.ensures.scopes
       c.requires.all_named c.requires.known c.loop-attr.invariant)
   | else-is_plain w ↦
       rw w.tree-is (attributing-same c.args.tree.now.nodes c.loop-attr.tree.nodes c.args.element c.args.scope.now c.args.attrs.now c.loop-attr.attr-index c.attr-item.result c.loop-attr-test.true c.attr-item.is

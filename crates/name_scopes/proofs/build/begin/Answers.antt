@@ -18,12 +18,12 @@ append_attributes-requires-clause-receives c =
 pub append_attributes-requires-clause-scope_is : goal.append_attributes-requires-clause-scope_is
 append_attributes-requires-clause-scope_is c =
     begun-scope c.args.tree.now.nodes c.append_element.new.tree.nodes c.append_decls.new.tree.nodes c.args.parent c.in_ok-element.element c.args.scope.now c.args.name.now c.args.attrs.now
-    c.in_ok-element.ensures.grew c.in_ok-append_decls.ensures c.scope_laws.ensures (holder-live c.args.tree.now.nodes c.args.parent c.requires.receives.holder) c.requires.scope_is
+    c.in_ok-element.ensures.grew c.in_ok-append_decls.ensures c.laws.ensures.scopes (holder-live c.args.tree.now.nodes c.args.parent c.requires.receives.holder) c.requires.scope_is
 
 pub append_attributes-requires-clause-scoped : goal.append_attributes-requires-clause-scoped
 append_attributes-requires-clause-scoped c =
     begun-scoped c.args.tree.now.nodes c.append_element.new.tree.nodes c.append_decls.new.tree.nodes c.args.parent c.in_ok-element.element c.args.scope.now c.args.name.now c.args.attrs.now
-    c.in_ok-element.ensures.grew c.in_ok-append_decls.ensures c.scope_laws.ensures (holder-live c.args.tree.now.nodes c.args.parent c.requires.receives.holder) c.requires.scope_is
+    c.in_ok-element.ensures.grew c.in_ok-append_decls.ensures c.laws.ensures.scopes (holder-live c.args.tree.now.nodes c.args.parent c.requires.receives.holder) c.requires.scope_is
     c.requires.named c.requires.all_named (tag-good c.args.scope.now c.args.name.now c.args.attrs.now c.requires.good) c.requires.scoped
 
 pub returns-clause-begins : goal.returns-clause-begins

@@ -22,6 +22,6 @@ append_leaf-requires-clause-little c =
 pub returns : goal.returns
 returns c = λ taken place standing loads comes. (
   leaf-room taken place standing c.args.self.now.tree.nodes c.args.self.now.place loads.builds c.args.event.now c.requires.leaf c.in_ok-append_leaf.ensures.room,
-  loads-leaf taken place standing c.args.self.now _ c.in_ok-append_leaf.field-0 c.args.event.now c.requires.leaf comes.fits c.laws.ensures.ways_up c.laws.ensures.well_formed c.scope_laws.ensures
+  loads-leaf taken place standing c.args.self.now _ c.in_ok-append_leaf.field-0 c.args.event.now c.requires.leaf comes.fits c.laws.ensures.ways_up c.laws.ensures.well_formed c.laws.ensures.scopes
       c.in_ok-append_leaf.ensures.grew refl refl loads,
 )

@@ -17,7 +17,7 @@ begin-requires-clause-room c = (passes c.declare.new.scope c.args.name.now c.arg
 
 pub begin-requires-clause-scope_is : goal.begin-requires-clause-scope_is
 begin-requires-clause-scope_is c =
-    element-scope c.requires.0 c.requires.1.0 c.requires.1.1.0 c.args.self.now c.declare.new.scope c.args.name.now c.args.attrs.now c.in_ok-declare.ensures c.requires.1.1.1.0 c.scope_laws.ensures
+    element-scope c.requires.0 c.requires.1.0 c.requires.1.1.0 c.args.self.now c.declare.new.scope c.args.name.now c.args.attrs.now c.in_ok-declare.ensures c.requires.1.1.1.0 c.laws.ensures.scopes
 
 pub returns-in-Err : goal.returns-in-Err
 returns-in-Err c = λ taken place standing loads comes.
