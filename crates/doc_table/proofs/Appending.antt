@@ -1,5 +1,5 @@
 -- A tree's table with one node more at its end is a tree's table again, and is what growing means.
-use Rattle.std.proofs.Common.{◌≡◌, ◌≢◌, ℕ, ◌+◌, ◌<◌, ◌≤◌, suc, zero, Bool, true, false, List, [], ◌∷◌, ◌++◌, ◌⊎◌, length, set, Option, None, Some, is_some, refl, sym, ap, ap₂, ◌∙◌, subst, ⊎_elim, true≢false, arith, append-nil, sum_by, ltb-false, length-append}
+use Rattle.std.proofs.Common.{◌≡◌, ◌≢◌, ℕ, ◌+◌, ◌<◌, ◌≤◌, suc, Bool, true, false, List, [], ◌∷◌, ◌++◌, ◌⊎◌, length, set, Option, None, Some, is_some, refl, sym, ap, ap₂, ◌∙◌, subst, ⊎_elim, true≢false, arith, append-nil, sum_by, ltb-false}
 use Rattle.std.specs.Prelude.{if◌then◌else◌}
 use Rattle.std.specs.List.{flat_map}
 use Rattle.std.proofs.lemmas.List.Sums.{sum_by-append, sum_by-cons}
@@ -20,7 +20,7 @@ use Rattle.doc_table.proofs.Counts.{sum-set, sum-more, live-count, text-count}
 use Rattle.doc_table.proofs.Telling.{order-flat}
 use Rattle.doc_table.proofs.Places.{Hole, open_hole, above-owner}
 use Rattle.doc_table.proofs.Ways.{In-live, above-live, climb-none}
-use Rattle.doc_table.proofs.Growing.{KidGrown, link-live, AttributeGrown, entry-new, parent-kept, content-kept, live-kept, kids-parent, attributes-parent, links-kept, old-number, length-grown}
+use Rattle.doc_table.proofs.Growing.{KidGrown, AttributeGrown, entry-new, parent-kept, content-kept, live-kept, kids-parent, attributes-parent, links-kept, old-number, length-grown}
 use Rattle.doc_table.proofs.Grown.{grown_place, grown_whole, grown_way, walk-grown, way-kept}
 use Rattle.doc_table.proofs.Fitting.{fits-other, fits-parent, fits-new}
 

@@ -1,12 +1,12 @@
 -- Sums over the nodes of a table: over its numbers in document order they are the same.
-use Rattle.std.proofs.Common.{◌≡◌, ◌≢◌, ℕ, ◌+◌, ◌-◌, ◌<◌, ◌≤◌, suc, zero, Bool, true, false, cond, List, [], ◌∷◌, ◌++◌, length, set, get_or, Option, None, Some, is_some, refl, sym, ap, ap₂, ◌∙◌, subst, ⊎_elim, true≢false, arith, eqb, sum_by, eq-eqb, ne_eqb, eqb-true}
+use Rattle.std.proofs.Common.{◌≡◌, ◌≢◌, ℕ, ◌+◌, ◌-◌, ◌<◌, ◌≤◌, suc, zero, Bool, true, false, cond, List, [], ◌∷◌, ◌++◌, length, set, get_or, Option, None, Some, is_some, refl, sym, ap, ap₂, ◌∙◌, subst, ⊎_elim, arith, eqb, sum_by, eqb-true}
 use Rattle.std.proofs.lemmas.List.Sums.{sum_by-cons}
 use Rattle.std.proofs.lemmas.Bool.{cases_lt}
 use Rattle.doc_table.specs.Lists.{occurs}
-use Rattle.doc_table.specs.Table.{Table, Facts, entry_at, value_at, value_of, content_at, is_live}
+use Rattle.doc_table.specs.Table.{Table, Facts, entry_at, value_at, value_of, content_at}
 use Rattle.doc_table.specs.Walks.{order, text_bytes}
-use Rattle.doc_table.specs.inner.Forest.{Forest, flat, Whole, alive}
-use Rattle.doc_table.specs.inner.Sound.{Formed, table_sum, count_live, text_held, text_in}
+use Rattle.doc_table.specs.inner.Forest.{Forest, flat, Whole}
+use Rattle.doc_table.specs.inner.Sound.{table_sum, count_live, text_held, text_in}
 use Rattle.doc_table.proofs.ListLemmas.{In, occurs-head, eq_or, other-cases, occurs-same}
 use Rattle.doc_table.proofs.Telling.{order-flat}
 

@@ -7,7 +7,7 @@ use Rattle.doc_table.specs.declared.node.Node.{Node}
 use Rattle.doc_table.specs.declared.node.NodeContent.{NodeContent}
 use Rattle.doc_table.specs.declared.node.NodeContent.TheVariants as kept
 use Rattle.doc_table.specs.Lists.{mem}
-use Rattle.doc_table.specs.Table.{Table, Name, Contents, kind_of, is_live}
+use Rattle.doc_table.specs.Table.{Table, Name, kind_of, is_live}
 use Rattle.doc_table.specs.Walks.{ancestors}
 use Rattle.doc_table.specs.inner.Kept.{depth_at, place_at, place_in, IsPlace, NameIsBelow, NamesAreBelow}
 use Rattle.doc_table.specs.inner.KeptDecls.{content_declaring, kept_declaring_at}

@@ -14,3 +14,7 @@ pub mod Siblings
 pub mod SoundLemmas
 pub mod DeclareLemmas
 pub mod KeptDeclLemmas
+pub mod Forests
+pub mod ByNumber
+pub mod OneForest
+pub mod OneTable

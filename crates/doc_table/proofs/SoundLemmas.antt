@@ -8,8 +8,8 @@ use Rattle.doc_table.specs.declared.node.Node.{Node}
 use Rattle.doc_table.specs.declared.node.NodeContent.{NodeContent}
 use Rattle.doc_table.specs.declared.node.NodeContent.TheVariants as kept
 use Rattle.doc_table.specs.Lists.{mem, occurs}
-use Rattle.doc_table.specs.Table.{Table, Name, Content, entry_at, kids_of, attrs_of, kind_of, is_live, numbered, AllLive, value_in, no_name, root_alone, Contents}
-use Rattle.doc_table.specs.Walks.{order, ancestors, above, is_open}
+use Rattle.doc_table.specs.Table.{Table, Name, Content, entry_at, kids_of, attrs_of, kind_of, is_live, numbered, AllLive, value_in, no_name, root_alone}
+use Rattle.doc_table.specs.Walks.{ancestors, above, is_open}
 use Rattle.doc_table.specs.inner.Labels.{label_is_attribute, content_labelled, kept_labelled, LabelIsBelow}
 use Rattle.doc_table.specs.Growth.{FitsUnder, passed_limit, with_node, with_link, leaf, as_kid, as_attribute, Grew}
 use Rattle.doc_table.specs.Kinds.{holds_kids}

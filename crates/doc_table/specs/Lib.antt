@@ -7,5 +7,6 @@ pub mod Lines
 pub mod Growth
 pub mod Laws
 pub mod Scope
+pub mod InOrder
 pub mod Declaring
 pub mod inner

@@ -1,5 +1,5 @@
--- Lists of node numbers: membership, how often a number stands in a list, and the last one.
-use Rattle.std.specs.Prelude.{ℕ, ◌+◌, ◌≤◌, ◌==◌, Bool, false, ◌||◌, List, [], ◌∷◌, if◌then◌else◌}
+-- Lists of node numbers: membership, how often a number stands in a list, the last one, and all below a number.
+use Rattle.std.specs.Prelude.{ℕ, zero, suc, ◌+◌, ◌≤◌, ◌==◌, Bool, false, ◌||◌, List, [], ◌∷◌, ◌++◌, if◌then◌else◌}
 
 -- whether the number stands in the list
 abbrev pub mem : ℕ → List ℕ → Bool
@@ -19,3 +19,8 @@ Distinct ms = (n : ℕ) → occurs n ms ≤ 1
 abbrev pub last_or : ℕ → List ℕ → ℕ
 last_or n [] = n
 last_or n (m ∷ ms) = last_or m ms
+
+-- the numbers below a number, in their order
+abbrev pub upto : ℕ → List ℕ
+upto zero = []
+upto (suc n) = upto n ++ n ∷ []

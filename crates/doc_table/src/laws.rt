@@ -1,6 +1,8 @@
-//! What holds of every sound table, as calls that do nothing.
+//! What holds of every sound table, and of every well-formed one whose numbers are in document order, as calls that do
+//! nothing.
 
 ghost use Rattle.doc_names.specs.Numbering.{EachOnce};
+ghost use Rattle.doc_table.specs.InOrder.{LawsFromOrder, OneTable, OrderIsByNumber};
 ghost use Rattle.doc_table.specs.Laws.{WellFormed, Ordered, HasWaysUp, Walks};
 ghost use Rattle.doc_table.specs.Scope.{HasScopes};
 ghost use Rattle.doc_table.specs.inner.Parts.{IsSound, table_of};
@@ -29,3 +31,18 @@ impl Bare {
         let _ = &self.live;
     }
 }
+
+/// A well-formed table whose numbers are in document order has all laws of a tree's.
+pub fn laws_from_order()
+    ensures { LawsFromOrder }
+{}
+
+/// Where the numbers are in document order, a node stands before another exactly where its number is less.
+pub fn order_is_by_number()
+    ensures { OrderIsByNumber }
+{}
+
+/// Two well-formed tables whose numbers are in document order and whose lines are the same are the same.
+pub fn one_table()
+    ensures { OneTable }
+{}

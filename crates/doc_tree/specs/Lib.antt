@@ -8,6 +8,7 @@ pub use Rattle.doc_table.specs.Order
 pub use Rattle.doc_table.specs.Lines
 pub use Rattle.doc_table.specs.Growth
 pub use Rattle.doc_table.specs.Laws
+pub use Rattle.doc_table.specs.InOrder
 pub mod Scope
 pub mod NameTests
 pub use Rattle.doc_table.specs.Declaring

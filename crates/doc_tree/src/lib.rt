@@ -15,7 +15,7 @@ pub use declarations::{is_xml, is_xmlns, undeclared_namespace, xml_namespace};
 pub use doc_names::{NameId, NameTable, WordTable};
 pub use doc_table::{
     AppendError, Cell, Kind, MAX_DEPTH, MAX_LIVE_NODES, MAX_LIVE_TEXT_BYTES, MAX_NODE_NUMBERS,
-    NewNode, NodeId, NodeList,
+    NewNode, NodeId, NodeList, laws_from_order, one_table, order_is_by_number,
 };
 pub use sch_base::Text;
 pub use tree::Tree;
