@@ -1,12 +1,11 @@
 -- An element begins: from its node, what it declares and its attributes to the whole.
-use Rattle.std.proofs.Common.{◌≡◌, ◌≢◌, ℕ, ◌+◌, ◌≤◌, suc, Bool, true, false, List, [], ◌∷◌, ◌++◌, length, map, sum_by, None, Some, refl, sym, ap, ap₂, ◌∙◌, subst, ⊎_elim, arith, append_assoc, length-append}
+use Rattle.std.proofs.Common.{◌≡◌, ◌≢◌, ℕ, ◌+◌, Bool, true, false, List, [], ◌∷◌, ◌++◌, length, map, sum_by, Some, refl, sym, ap, ap₂, ◌∙◌, subst, ⊎_elim, arith, append_assoc, length-append}
 use Rattle.std.proofs.lemmas.Bool.{cases_eq}
 use Rattle.std.specs.List.{flat_map}
 use Rattle.pyx_core.specs.declared.event.Attr.{Attr}
 use Rattle.pyx_core.specs.Nesting.{is_name}
-use Rattle.doc_tree.specs.kind.Kind.TheVariants.{Element}
-use Rattle.doc_tree.specs.Table.{Table, Content, element, kind_at, decls_at, kind_of, decls_of, content_of, is_live}
-use Rattle.doc_tree.specs.Walks.{above, ancestors, order, text_bytes}
+use Rattle.doc_tree.specs.Table.{Table, element, kind_at, decls_at, decls_of, content_of, is_live}
+use Rattle.doc_tree.specs.Walks.{above, ancestors, order}
 use Rattle.doc_tree.specs.Lines.{Line, starts, declares}
 use Rattle.doc_tree.specs.Growth.{Grew}
 use Rattle.doc_tree.specs.Kinds.{holds_kids}
@@ -14,8 +13,7 @@ use Rattle.doc_tree.specs.Laws.{HasWaysUp, WellFormed}
 use Rattle.doc_tree.specs.Scope.{Decl, scope_at, HasScopes}
 use Rattle.name_scopes.specs.Declarations.{declarations, plain_attrs}
 use Rattle.name_scopes.specs.Scoping.{ContentInScope, NodeInScope, InScope}
-use Rattle.name_scopes.specs.DocFaults.{tag_nodes}
-use Rattle.name_scopes.specs.inner.Build.{Receives, Tops, Says, DeclaresAll, AttributesAll, Begins, element_name, scoped_line, start_lines, value_bytes}
+use Rattle.name_scopes.specs.inner.Build.{Receives, Tops, Says, DeclaresAll, AttributesAll, Begins, element_name, scoped_line, value_bytes}
 use Rattle.name_scopes.proofs.NumberLemmas.{mem-first}
 use Rattle.name_scopes.proofs.OpenElements.{tops-apart, tops-first}
 use Rattle.name_scopes.proofs.ScopeGrowth.{scope-new, others-scoped}

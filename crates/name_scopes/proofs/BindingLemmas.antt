@@ -1,6 +1,6 @@
 -- Declarations in scope: how they are found, and how they come and go.
-use Rattle.std.proofs.Common.{◌≡◌, ◌≢◌, ℕ, ◌+◌, ◌<◌, ◌≤◌, suc, zero, Bool, true, false, cond, eqb, List, [], ◌∷◌, ◌++◌, ◌⊎◌, length, map, get_or, set, drop, slice_get, Option, None, Some, option_map, refl, sym, ap, ap₂, ◌∙◌, subst, ⊎_elim, true≢false, arith, eqb-true, eq-eqb, ne_eqb, length-append, get_or-set_same, get_or-set_other}
-use Rattle.std.specs.Prelude.{option_and_then, if◌then◌else◌}
+use Rattle.std.proofs.Common.{◌≡◌, ◌≢◌, ℕ, ◌+◌, ◌<◌, ◌≤◌, suc, zero, Bool, true, false, cond, eqb, List, [], ◌∷◌, ◌++◌, length, map, get_or, set, drop, slice_get, Option, None, Some, option_map, refl, sym, ap, ap₂, ◌∙◌, subst, ⊎_elim, true≢false, arith, eqb-true, eq-eqb, length-append, get_or-set_same, get_or-set_other}
+use Rattle.std.specs.Prelude.{option_and_then}
 use Rattle.std.specs.Str.{bytes_eq}
 use Rattle.std.proofs.lemmas.Slice.Eq.{bytes_eq-Decides}
 use Rattle.std.proofs.lemmas.List.{get_or_past}

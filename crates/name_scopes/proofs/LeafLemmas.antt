@@ -1,16 +1,15 @@
 -- Texts, comments, instructions and ends taken by a tree under way.
-use Rattle.std.proofs.Common.{◌≡◌, ◌≢◌, ℕ, ◌+◌, ◌<◌, ◌≤◌, suc, Bool, true, false, ◌&&◌, List, [], ◌∷◌, ◌++◌, ◌⊎◌, length, map, drop, sum_by, None, Some, inl, inr, refl, sym, ap, ap₂, ◌∙◌, subst, ⊎_elim, true≢false, arith, append-nil, nat_lt, length-append}
-use Rattle.std.specs.Prelude.{if◌then◌else◌, nat_le, Result, Ok, Err}
-use Rattle.std.specs.List.{flat_map}
+use Rattle.std.proofs.Common.{◌≡◌, ◌≢◌, ℕ, ◌+◌, suc, Bool, true, false, List, [], ◌∷◌, ◌++◌, length, map, drop, sum_by, None, Some, refl, sym, ap, ◌∙◌, subst, ⊎_elim, true≢false, arith, nat_lt, length-append}
+use Rattle.std.specs.Prelude.{if◌then◌else◌, nat_le, Err}
 use Rattle.std.proofs.lemmas.Bool.{leb-false, leb-true, le-ltb, lt-ltb, cases_eq}
 use Rattle.std.proofs.Math.Seq.{drop-append_seam}
 use Rattle.pyx_core.specs.declared.event.Event.{Event}
 use Rattle.pyx_core.specs.declared.event.Event.TheVariants as event
 use Rattle.pyx_core.specs.declared.mode.Mode.TheVariants.{Document}
 use Rattle.pyx_core.specs.Before.{is_nil, outer}
-use Rattle.pyx_core.specs.Nesting.{Place, Fits, CharsFit, PiFits, CommentFits, after}
+use Rattle.pyx_core.specs.Nesting.{Place, Fits, after}
 use Rattle.doc_tree.specs.limits.TheConstants.{MAX_LIVE_NODES}
-use Rattle.doc_tree.specs.Table.{Table, Contents, Name, Content, element, text, comment, instruction, kind_at, kind_in, decls_at, decls_in, value_in, kind_of, kids_of, decls_of, parent_of, is_live}
+use Rattle.doc_tree.specs.Table.{Table, Contents, Name, kind_at, kind_in, decls_at, decls_in, value_in, kids_of, decls_of, parent_of}
 use Rattle.doc_tree.specs.Walks.{order}
 use Rattle.doc_tree.specs.Lines.{Line, ends, first_lines, last_lines}
 use Rattle.doc_tree.specs.Growth.{Grew, FitsUnder, ends_in_text, has_too_many, as_kid}
@@ -21,8 +20,7 @@ use Rattle.name_scopes.specs.declared.build.Loader.{Loader}
 use Rattle.name_scopes.specs.declared.fault.EventError.{EventError}
 use Rattle.name_scopes.specs.declared.fault.EventError.TheVariants.{Kind, Memory}
 use Rattle.name_scopes.specs.declared.fault.DocKind.TheVariants.{TooManyNodes}
-use Rattle.name_scopes.specs.QNames.{as_written, unprefixed}
-use Rattle.name_scopes.specs.Scoping.{ContentInScope, InScope}
+use Rattle.name_scopes.specs.Scoping.{ContentInScope}
 use Rattle.name_scopes.specs.ScopedTree.{written, said_by, unscoped}
 use Rattle.name_scopes.specs.DocFaults.{Standing, in_scope, outer_scopes, node_fault, event_fault, moved}
 use Rattle.name_scopes.specs.inner.Build.{IsLeaf, IsFull, TakesEvent, Loads, Tops, Says, Builds, AreOpen, event_text, leaf_of}

@@ -22,3 +22,4 @@ pub mod ItemScopes
 pub mod ItemTables
 pub mod ItemScoped
 pub mod RoundTripLemmas
+pub mod OneTree

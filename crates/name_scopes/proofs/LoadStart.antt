@@ -1,9 +1,8 @@
 -- A loader in front of all events.
-use Rattle.std.proofs.Common.{◌≡◌, ◌≢◌, ℕ, suc, zero, true, false, List, [], ◌∷◌, ◌++◌, refl, sym, ap, ◌∙◌, subst, Global, arith}
+use Rattle.std.proofs.Common.{◌≡◌, ℕ, suc, zero, List, [], refl, sym, subst, Global, arith}
 use Rattle.pyx_core.specs.Nesting.{start}
 use Rattle.doc_tree.specs.Table.{Contents, AllLive, root_alone}
 use Rattle.doc_tree.specs.Scope.{Decl}
-use Rattle.name_scopes.specs.declared.build.Loader.{Loader}
 use Rattle.name_scopes.specs.Scoping.{InScope}
 use Rattle.name_scopes.specs.DocFaults.{begin}
 use Rattle.name_scopes.specs.inner.Build.{Builds, Loads}

@@ -1,11 +1,10 @@
 -- The open elements of a tree under way: what stands on the way up, and how it stays as the tree grows.
-use Rattle.std.proofs.Common.{◌≡◌, ◌≢◌, ℕ, ◌+◌, ◌≤◌, suc, Bool, true, false, cond, List, [], ◌∷◌, ◌++◌, length, set, Option, None, Some, count_by, refl, sym, ap, ap₂, ◌∙◌, subst, ⊎_elim, true≢false, arith, append-nil, length-append, length-set}
-use Rattle.std.specs.List.{flat_map}
+use Rattle.std.proofs.Common.{◌≡◌, ◌≢◌, ℕ, ◌+◌, ◌≤◌, suc, Bool, true, false, cond, List, [], ◌∷◌, ◌++◌, length, set, Option, Some, count_by, refl, sym, ap, ap₂, ◌∙◌, subst, arith, length-append, length-set}
 use Rattle.std.proofs.lemmas.List.Sums.{sum_by-cons, sum_by-append}
 use Rattle.doc_tree.specs.kind.Kind.{Kind}
 use Rattle.doc_tree.specs.kind.Kind.TheVariants.{Root, Element}
 use Rattle.doc_tree.specs.Lists.{mem}
-use Rattle.doc_tree.specs.Table.{Table, Content, root, element, entry_at, kind_at, kind_in, decls_at, decls_in, kind_of, kids_of, parent_of, decls_of, content_of, is_live}
+use Rattle.doc_tree.specs.Table.{Table, Content, root, entry_at, kind_at, kind_in, decls_at, kind_of, kids_of, is_live}
 use Rattle.doc_tree.specs.Walks.{above, ancestors}
 use Rattle.doc_tree.specs.Growth.{Grew, as_kid, with_link}
 use Rattle.doc_tree.specs.Kinds.{holds_kids, is_element, is_text}

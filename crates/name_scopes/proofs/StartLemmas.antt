@@ -1,9 +1,8 @@
 -- An element begins: what it declares, then its attributes, one by one.
-use Rattle.std.proofs.Common.{◌≡◌, ◌≢◌, ℕ, ◌+◌, ◌<◌, ◌≤◌, suc, zero, Bool, true, false, ◌&&◌, ◌||◌, ◌⊎◌, List, [], ◌∷◌, ◌++◌, length, map, get_or, take, drop, slice_get, sum_by, Option, None, Some, inl, inr, refl, sym, ap, ap₂, ◌∙◌, subst, ⊎_elim, true≢false, arith, append_assoc, append-nil, length-append}
+use Rattle.std.proofs.Common.{◌≡◌, ◌≢◌, ℕ, ◌+◌, ◌<◌, ◌≤◌, suc, zero, Bool, true, false, ◌&&◌, ◌||◌, List, [], ◌∷◌, ◌++◌, length, map, get_or, take, drop, slice_get, sum_by, Option, None, Some, refl, sym, ap, ap₂, ◌∙◌, subst, ⊎_elim, true≢false, arith, append_assoc, append-nil, length-append}
 use Rattle.std.proofs.lemmas.Bool.{and_parts}
-use Rattle.std.specs.List.{flat_map, filter, list_all, list_any}
+use Rattle.std.specs.List.{flat_map, list_all, list_any}
 use Rattle.std.specs.Option.{option_to_list}
-use Rattle.std.specs.Str.{bytes_eq}
 use Rattle.std.proofs.lemmas.Slice.Eq.{bytes_eq-Decides}
 use Rattle.std.proofs.lemmas.List.{map-append, take-append-drop, append_cancel_left}
 use Rattle.std.proofs.lemmas.List.Concat.{flat_map-append}
@@ -13,8 +12,8 @@ use Rattle.pyx_core.specs.declared.event.Attr.{Attr}
 use Rattle.pyx_core.specs.Nesting.{is_attr}
 use Rattle.doc_tree.specs.kind.Kind.TheVariants.{Root, Element}
 use Rattle.doc_tree.specs.Lists.{mem}
-use Rattle.doc_tree.specs.Table.{Table, Name, Content, element, attribute, kind_at, name_at, decls_at, expanded, expanded_in, expanded_of, kind_of, kids_of, attrs_of, decls_of, content_of, is_live}
-use Rattle.doc_tree.specs.Walks.{above, ancestors, order, text_bytes}
+use Rattle.doc_tree.specs.Table.{Table, Content, attribute, kind_at, name_at, expanded, expanded_in, expanded_of, kind_of, kids_of, attrs_of, decls_of, is_live}
+use Rattle.doc_tree.specs.Walks.{ancestors, order, text_bytes}
 use Rattle.doc_tree.specs.Lines.{Line, declares}
 use Rattle.doc_tree.specs.Growth.{Grew, AttributeFits}
 use Rattle.doc_tree.specs.Kinds.{holds_kids}
@@ -22,10 +21,10 @@ use Rattle.doc_tree.specs.Laws.{HasWaysUp, WellFormed}
 use Rattle.doc_tree.specs.Scope.{Decl, scope_at, first_declared, HasScopes}
 use Rattle.doc_tree.specs.Declaring.{Declared, DeclaredLast}
 use Rattle.name_scopes.specs.Declarations.{declaration_of, declarations, is_plain, plain_attrs}
-use Rattle.name_scopes.specs.Scoping.{NodeInScope, InScope, AttributeInScope, declares_twice}
+use Rattle.name_scopes.specs.Scoping.{InScope, AttributeInScope, declares_twice}
 use Rattle.name_scopes.specs.DocFaults.{has_pair, same_expanded, lacks_prefix, expanded_attr}
 use Rattle.name_scopes.specs.inner.Build.{Receives, Says, DeclaresAll, AttributesAll, attribute_name, scoped_line, value_bytes}
-use Rattle.name_scopes.proofs.NumberLemmas.{is-old, kind-live, mem-first, mem-second, mem-push}
+use Rattle.name_scopes.proofs.NumberLemmas.{is-old, kind-live, mem-second, mem-push}
 use Rattle.name_scopes.proofs.OpenElements.{tops-apart}
 use Rattle.name_scopes.proofs.ScopeGrowth.{scope-kept, grown-scoped, declared-scoped}
 use Rattle.name_scopes.proofs.TellLemmas.{tells-declared, tells-leaf}

@@ -1,9 +1,9 @@
 -- Events taken by a tree under way, one by one.
-use Rattle.std.proofs.Common.{◌≡◌, ◌≢◌, ℕ, ◌+◌, ◌<◌, ◌≤◌, suc, Bool, true, false, ◌&&◌, List, [], ◌∷◌, ◌++◌, ◌⊎◌, length, map, drop, sum_by, Option, None, Some, inl, inr, refl, sym, ap, ap₂, ◌∙◌, subst, ⊎_elim, true≢false, arith, append_assoc, append-nil, nat_lt}
-use Rattle.std.specs.Prelude.{if◌then◌else◌, nat_le, Result, Ok, Err}
-use Rattle.std.specs.List.{flat_map, list_all}
+use Rattle.std.proofs.Common.{◌≡◌, ◌≢◌, ℕ, ◌+◌, ◌≤◌, suc, Bool, true, false, ◌&&◌, List, [], ◌∷◌, ◌++◌, length, map, sum_by, Option, None, Some, refl, sym, ap, ap₂, ◌∙◌, subst, true≢false, arith, append-nil, nat_lt}
+use Rattle.std.specs.Prelude.{if◌then◌else◌, Err}
+use Rattle.std.specs.List.{flat_map}
 use Rattle.std.specs.Option.{option_or}
-use Rattle.std.proofs.lemmas.Bool.{leb-false, lt-leb, le-ltb}
+use Rattle.std.proofs.lemmas.Bool.{le-ltb}
 use Rattle.std.proofs.Common.{ltb-false}
 use Rattle.std.proofs.lemmas.List.{map-append}
 use Rattle.std.proofs.lemmas.List.Concat.{flat_map-append}
@@ -12,14 +12,13 @@ use Rattle.pyx_core.specs.declared.event.Attr.{Attr}
 use Rattle.pyx_core.specs.declared.event.Event.{Event}
 use Rattle.pyx_core.specs.declared.event.Event.TheVariants as event
 use Rattle.pyx_core.specs.declared.mode.Mode.TheVariants.{Document}
-use Rattle.pyx_core.specs.Before.{is_nil, outer}
-use Rattle.pyx_core.specs.Nesting.{Place, Fits, StartFits, CharsFit, PiFits, CommentFits, HasRoom, after}
+use Rattle.pyx_core.specs.Before.{is_nil}
+use Rattle.pyx_core.specs.Nesting.{Place, StartFits, after}
 use Rattle.doc_tree.specs.limits.TheConstants.{MAX_DEPTH, MAX_LIVE_NODES}
-use Rattle.doc_tree.specs.Table.{Table, Name, Content, root, element, text, comment, instruction, kind_at, kind_in, decls_at, value_in, kind_of, kids_of, decls_of, parent_of, is_live}
+use Rattle.doc_tree.specs.Table.{Table}
 use Rattle.doc_tree.specs.Walks.{above, order, text_bytes}
-use Rattle.doc_tree.specs.Lines.{Line, starts, declares, ends, first_lines, last_lines}
-use Rattle.doc_tree.specs.Growth.{Grew, FitsUnder, ends_in_text, has_too_many, as_kid}
-use Rattle.doc_tree.specs.Kinds.{is_element, is_text}
+use Rattle.doc_tree.specs.Lines.{Line, starts, declares}
+use Rattle.doc_tree.specs.Growth.{ends_in_text}
 use Rattle.doc_tree.specs.Laws.{HasWaysUp, WellFormed}
 use Rattle.doc_tree.specs.Scope.{Decl, scope_at, HasScopes}
 use Rattle.name_scopes.specs.declared.build.Loader.{Loader}
@@ -27,15 +26,12 @@ use Rattle.name_scopes.specs.declared.fault.DocKind.{DocKind}
 use Rattle.name_scopes.specs.declared.fault.EventError.{EventError}
 use Rattle.name_scopes.specs.declared.fault.EventError.TheVariants.{Kind, Memory}
 use Rattle.name_scopes.specs.declared.fault.DocKind.TheVariants.{TooManyNodes, TooDeep}
-use Rattle.name_scopes.specs.QNames.{as_written, unprefixed}
 use Rattle.name_scopes.specs.Declarations.{declarations, plain_attrs}
-use Rattle.name_scopes.specs.Scoping.{ContentInScope, InScope}
 use Rattle.name_scopes.specs.ScopedTree.{written, attribute_line, said_by, unscoped}
-use Rattle.name_scopes.specs.DocFaults.{Standing, in_scope, outer_scopes, tag_fault, tag_nodes, limit_fault, node_fault, event_fault, moved}
-use Rattle.name_scopes.specs.inner.Build.{Receives, IsTooDeep, TakesEvent, Tops, Says, Builds, Loads, Comes, AreOpen, Begins, room_fault, element_name, scoped_line, start_lines, value_bytes, event_text, leaf_of}
-use Rattle.name_scopes.proofs.OpenElements.{open-live, open-apart, open-root, open-scope, open-depth, tops-apart, tops-other}
-use Rattle.name_scopes.proofs.ScopeGrowth.{grown-scoped}
-use Rattle.name_scopes.proofs.TellLemmas.{tells-receives, tells-leaf, tells-end, Ended, ends-in-one}
+use Rattle.name_scopes.specs.DocFaults.{Standing, in_scope, tag_fault, tag_nodes, event_fault, moved}
+use Rattle.name_scopes.specs.inner.Build.{Receives, IsTooDeep, TakesEvent, Says, Builds, Loads, AreOpen, Begins, room_fault, scoped_line, start_lines, event_text}
+use Rattle.name_scopes.proofs.OpenElements.{open-apart, open-root, open-scope, open-depth}
+use Rattle.name_scopes.proofs.TellLemmas.{tells-receives}
 
 -- lines with their namespaces left out
 

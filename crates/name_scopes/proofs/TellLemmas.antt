@@ -1,18 +1,18 @@
 -- What a tree under way tells, as it grows.
-use Rattle.std.proofs.Common.{◌≡◌, ◌≢◌, ℕ, ◌+◌, ◌≤◌, suc, Bool, true, false, List, [], ◌∷◌, ◌++◌, length, Option, None, Some, refl, sym, ap, ap₂, ◌∙◌, subst, arith, append_assoc}
+use Rattle.std.proofs.Common.{◌≡◌, ℕ, ◌+◌, ◌≤◌, Bool, true, false, List, [], ◌∷◌, ◌++◌, length, Some, refl, sym, ap, ap₂, ◌∙◌, subst, arith, append_assoc}
 use Rattle.std.specs.List.{flat_map}
 use Rattle.doc_tree.specs.kind.Kind.TheVariants.{Element}
-use Rattle.doc_tree.specs.Lists.{mem}
+use Rattle.doc_tree.specs.Lists.{upto}
 use Rattle.doc_tree.specs.Table.{Table, Name, Content, element, kind_at, value_in, kind_of, kids_of, attrs_of, parent_of, is_live}
 use Rattle.doc_tree.specs.Walks.{above, ancestors, order, text_bytes}
 use Rattle.doc_tree.specs.Lines.{Line, starts, declares, ends, closes, closing, first_lines, last_lines, lines_at}
 use Rattle.doc_tree.specs.Growth.{Grew, ends_in_text}
-use Rattle.doc_tree.specs.Kinds.{holds_kids, is_text}
-use Rattle.doc_tree.specs.Laws.{HasWaysUp, WellFormed}
+use Rattle.doc_tree.specs.Kinds.{is_text}
+use Rattle.doc_tree.specs.Laws.{HasWaysUp}
 use Rattle.doc_tree.specs.Scope.{Decl}
 use Rattle.doc_tree.specs.Declaring.{Declared, DeclaredLast}
 use Rattle.name_scopes.specs.QNames.{as_written}
-use Rattle.name_scopes.specs.ScopedTree.{written, upto}
+use Rattle.name_scopes.specs.ScopedTree.{written}
 use Rattle.name_scopes.specs.inner.Build.{Receives, IsInnermost, AreOpen, Tops, Says}
 use Rattle.name_scopes.proofs.NumberLemmas.{mem-first, mem-second, last-push}
 use Rattle.name_scopes.proofs.OpenElements.{open-live, open-holds, open-stays, open-round, grown-length, tops-declared}

@@ -1,5 +1,5 @@
 -- The events of a text hold no more text than it has bytes.
-use Rattle.std.proofs.Common.{◌≡◌, ℕ, ◌+◌, ◌<◌, ◌≤◌, ◌==◌, suc, Bool, true, false, cond, ◌||◌, List, [], ◌∷◌, ◌++◌, length, map, drop, sum_by, Option, None, Some, refl, sym, ap, ◌∙◌, subst, true≢false, arith, length-append, length-drop}
+use Rattle.std.proofs.Common.{◌≡◌, ℕ, ◌+◌, ◌≤◌, ◌==◌, suc, Bool, true, false, ◌||◌, List, [], ◌∷◌, ◌++◌, length, drop, sum_by, Option, None, Some, refl, ap, ◌∙◌, subst, true≢false, arith, length-append, length-drop}
 use Rattle.std.specs.Prelude.{if◌then◌else◌, Result, Ok, Err}
 use Rattle.std.specs.List.{list_any, list_all, after_first, position_or_len}
 use Rattle.std.specs.Option.{option_to_list}
@@ -19,8 +19,8 @@ use Rattle.pyx_core.specs.declared.mode.Mode.{Mode}
 use Rattle.pyx_core.specs.Lines.{is_line_end, onto_ended, ended_lines, unended}
 use Rattle.pyx_core.specs.LineTable.{is_qname, is_target, is_space, name_part, text_part, read_start, read_end, read_attribute, read_pi, read_chars, read_comment, read_marked, read_text, line_of}
 use Rattle.pyx_core.specs.Escapes.{undone, unescaped, unescaped_after}
-use Rattle.pyx_core.specs.Before.{is_outside, kept, attr_onto, with_attr, begin_text, text_onto, with_text, pending, is_text, is_chars, but_text, completed_by, closed, misplaced, located}
-use Rattle.pyx_core.specs.Reading.{Judged, judge, placed, unless, judged, and_then, sound, faulty, so_far, in_all, completed, events_of, events_unless, events_before_fault, ended, fault_of}
+use Rattle.pyx_core.specs.Before.{is_outside, kept, attr_onto, with_attr, begin_text, text_onto, with_text, pending, is_chars, but_text, closed, misplaced, located}
+use Rattle.pyx_core.specs.Reading.{placed, unless, judged, and_then, so_far, in_all, completed, events_of, events_unless, events_before_fault, fault_of}
 use Rattle.pyx_core.specs.Nesting.{bare}
 use Rattle.name_scopes.specs.inner.Build.{event_text, value_bytes}
 

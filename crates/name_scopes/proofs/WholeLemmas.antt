@@ -1,30 +1,28 @@
 -- All events of a document, one by one, and what the whole says.
-use Rattle.std.proofs.Common.{◌≡◌, ◌≢◌, ℕ, ◌+◌, ◌<◌, ◌≤◌, suc, zero, Bool, true, false, ◌&&◌, ◌==◌, List, [], ◌∷◌, ◌++◌, length, map, get_or, take, drop, sum_by, count_by, Option, None, Some, refl, sym, ap, ap₂, ◌∙◌, subst, arith, append-nil}
-use Rattle.std.specs.Prelude.{option_map, Result, Ok, Err, if◌then◌else◌}
+use Rattle.std.proofs.Common.{◌≡◌, ℕ, ◌+◌, ◌<◌, ◌≤◌, ◌&&◌, ◌==◌, List, [], ◌∷◌, ◌++◌, length, map, get_or, take, drop, sum_by, Option, None, Some, refl, sym, ap, ap₂, ◌∙◌, subst, arith, append-nil}
+use Rattle.std.specs.Prelude.{option_map, Ok, Err, if◌then◌else◌}
 use Rattle.std.specs.Option.{option_or}
 use Rattle.std.specs.List.{flat_map}
-use Rattle.std.proofs.lemmas.List.{drop_more, take_more, take_all, drop_all, map-append, take-append-drop}
+use Rattle.std.proofs.lemmas.List.{drop_more, take_more, take_all, drop_all, map-append}
 use Rattle.std.proofs.lemmas.List.Sums.{sum_by-append, sum_by-cons}
 use Rattle.pyx_core.specs.declared.event.Event.{Event}
 use Rattle.pyx_core.specs.declared.event.Located.{Located}
 use Rattle.pyx_core.specs.declared.fault.PyxFault.{PyxFault}
 use Rattle.pyx_core.specs.declared.mode.Mode.TheVariants.{Document}
-use Rattle.pyx_core.specs.Nesting.{Place, Nest, Fits, after, bare, place_after, start, EventsNest, IsEnd}
-use Rattle.pyx_core.specs.Reading.{completed, events_of, events_unless, events_before_fault, fault_of}
+use Rattle.pyx_core.specs.Nesting.{Place, Nest, after, bare, place_after, start, EventsNest, IsEnd}
+use Rattle.pyx_core.specs.Reading.{events_of, events_unless, events_before_fault, fault_of}
 use Rattle.doc_tree.specs.limits.TheConstants.{MAX_LIVE_TEXT_BYTES}
-use Rattle.doc_tree.specs.Table.{Table, Contents, kind_of, kids_of}
-use Rattle.doc_tree.specs.Walks.{above}
-use Rattle.doc_tree.specs.Lines.{Line, lines, closing, closes, last_lines, lines_at}
-use Rattle.doc_tree.specs.Kinds.{is_document, is_element, is_text}
+use Rattle.doc_tree.specs.Table.{Table, Contents}
+use Rattle.doc_tree.specs.Lines.{Line, closing, closes, last_lines, lines_at}
 use Rattle.doc_tree.specs.Laws.{HasWaysUp, WellFormed}
 use Rattle.doc_tree.specs.Scope.{Decl}
 use Rattle.name_scopes.specs.declared.build.Loader.{Loader}
 use Rattle.name_scopes.specs.declared.fault.DocFault.{DocFault}
 use Rattle.name_scopes.specs.declared.fault.LoadError.{LoadError}
 use Rattle.name_scopes.specs.declared.fault.LoadError.TheVariants.{Fault, Memory}
-use Rattle.name_scopes.specs.ScopedTree.{Scoped, said_by, unscoped}
+use Rattle.name_scopes.specs.ScopedTree.{Scoped, unscoped}
 use Rattle.name_scopes.specs.DocFaults.{Standing, Refuses, begin, doc_fault, event_fault, fault_at, first_fault, line_fault, moved}
-use Rattle.name_scopes.specs.inner.Build.{AreOpen, Builds, Comes, IsReady, Loads, Says, event_text}
+use Rattle.name_scopes.specs.inner.Build.{AreOpen, Builds, Comes, IsReady, Loads, event_text}
 use Rattle.name_scopes.specs.inner.Load.{IsBuilt, TakesFound}
 use Rattle.name_scopes.proofs.OpenElements.{open-root}
 

@@ -1,9 +1,10 @@
 -- The tree of the events of a document (XPath 1.0, section 5, Namespaces in XML 1.0).
-use Rattle.std.specs.Prelude.{◌≡◌, ℕ, zero, suc, true, List, [], ◌∷◌, ◌++◌, map, length}
+use Rattle.std.specs.Prelude.{◌≡◌, ℕ, true, List, [], ◌∷◌, ◌++◌, map, length}
 use Rattle.std.specs.List.{flat_map}
 use Rattle.pyx_core.specs.declared.event.Attr.{Attr}
 use Rattle.pyx_core.specs.declared.event.Event.{Event}
 use Rattle.pyx_core.specs.declared.event.Event.TheVariants as event
+use Rattle.doc_tree.specs.Lists.{upto}
 use Rattle.doc_tree.specs.Table.{Table, Name, AllLive}
 use Rattle.doc_tree.specs.Walks.{order}
 use Rattle.doc_tree.specs.Lines.{Line, starts, declares, has_attribute, ends, has_text, has_comment, has_instruction, lines}
@@ -39,11 +40,6 @@ unscoped (has_text characters) = has_text characters
 unscoped (has_comment characters) = has_comment characters
 unscoped (has_instruction name body) = has_instruction (as_written name) body
 
--- the numbers below a number, in their order
-abbrev pub upto : ℕ → List ℕ
-upto zero = []
-upto (suc n) = upto n ++ n ∷ []
-
 -- the tree says what the events say, in their order; its names are in the namespaces of the nearest declarations; its
 -- numbers are in document order, and no others were made; and it is the tree of a document
 pub record Scoped (events : List Event) (T : Table) : Type 0 where
@@ -53,3 +49,7 @@ pub record Scoped (events : List Event) (T : Table) : Type 0 where
   pub all_live : AllLive T
   pub well_formed : WellFormed T
   pub document : is_document T ≡ true
+
+-- the events say all of their tree, its numbers too
+abbrev pub OneTree : Type 0
+OneTree = (events : List Event) (T U : Table) → Scoped events T → Scoped events U → T ≡ U

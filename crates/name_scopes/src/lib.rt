@@ -13,4 +13,4 @@ mod tag;
 pub use doc_write::write_tree;
 pub use fault::{DocFault, DocKind, LoadError};
 pub use load::load_tree;
-pub use round_trip::{namespaces_follow, text_comes_back, tree_comes_back};
+pub use round_trip::{namespaces_follow, one_tree, text_comes_back, tree_comes_back};

@@ -1,8 +1,9 @@
 //! Laws of the definitions, for the proofs of callers.
 
 ghost use Rattle.name_scopes.specs.RoundTrip.{NamespacesFollow, TextComesBack, TreeComesBack};
+ghost use Rattle.name_scopes.specs.ScopedTree.{OneTree};
 
-use doc_tree::Tree;
+use doc_tree::{Tree, laws_from_order, one_table};
 use pyx_core::written_is_read_back;
 use sch_base::qnames_split;
 
@@ -29,4 +30,12 @@ pub fn namespaces_follow(one: &Tree, other: &Tree)
 {
     one.laws();
     other.laws();
+}
+
+/// The events of a document have one tree alone, with its numbers.
+pub fn one_tree()
+    ensures { OneTree }
+{
+    laws_from_order();
+    one_table();
 }

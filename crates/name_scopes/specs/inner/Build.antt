@@ -1,5 +1,5 @@
 -- A tree under way: what it says so far, which elements are open, and where the next node comes.
-use Rattle.std.specs.Prelude.{◌≡◌, ◌≢◌, ℕ, ◌+◌, ◌<◌, ◌≤◌, nat_lt, Bool, true, false, List, [], ◌∷◌, ◌++◌, length, map, Option, None, Some, Result, Ok, Err, count_by, sum_by, unwrap_or, if◌then◌else◌}
+use Rattle.std.specs.Prelude.{◌≡◌, ◌≢◌, ℕ, ◌+◌, ◌≤◌, nat_lt, Bool, true, false, List, [], ◌∷◌, ◌++◌, length, map, Option, None, Some, Result, Ok, Err, count_by, sum_by, unwrap_or, if◌then◌else◌}
 use Rattle.std.specs.List.{flat_map}
 use Rattle.pyx_core.specs.declared.event.Attr.{Attr}
 use Rattle.pyx_core.specs.declared.event.Event.{Event}
@@ -7,6 +7,7 @@ use Rattle.pyx_core.specs.declared.event.Event.TheVariants as event
 use Rattle.pyx_core.specs.declared.mode.Mode.TheVariants.{Document}
 use Rattle.pyx_core.specs.Nesting.{Place, Fits, after}
 use Rattle.doc_tree.specs.limits.TheConstants.{MAX_DEPTH, MAX_LIVE_NODES, MAX_LIVE_TEXT_BYTES}
+use Rattle.doc_tree.specs.Lists.{upto}
 use Rattle.doc_tree.specs.Table.{Table, Name, Content, root, element, text, comment, instruction, AllLive, content_of, kids_of, attrs_of, kind_of, parent_of, decls_of}
 use Rattle.doc_tree.specs.Walks.{above, ancestors, is_open, order, text_bytes}
 use Rattle.doc_tree.specs.Lines.{Line, starts, declares, has_attribute, lines, closing}
@@ -21,7 +22,7 @@ use Rattle.name_scopes.specs.declared.fault.EventError.TheVariants.{Kind, Memory
 use Rattle.name_scopes.specs.QNames.{as_written, name_in_namespace, prefix_part, unprefixed}
 use Rattle.name_scopes.specs.Declarations.{declarations, plain_attrs}
 use Rattle.name_scopes.specs.Scoping.{InScope, NodeInScope, attribute_namespace}
-use Rattle.name_scopes.specs.ScopedTree.{written, said_by, unscoped, upto}
+use Rattle.name_scopes.specs.ScopedTree.{written, said_by, unscoped}
 use Rattle.name_scopes.specs.DocFaults.{Standing, tag_nodes, in_scope, event_fault, moved}
 
 -- the bytes of text that an event brings at most: its values, text or data

@@ -1,6 +1,6 @@
 -- How declarations in scope are kept: in the order in which they came, each with the number of its prefix and the place
 -- of the one that it shadows.
-use Rattle.std.specs.Prelude.{◌≡◌, ℕ, ◌<◌, ◌==◌, List, [], ◌∷◌, ◌++◌, length, map, Option, None, Some, if◌then◌else◌, slice_index_or}
+use Rattle.std.specs.Prelude.{◌≡◌, ℕ, ◌<◌, ◌==◌, List, [], ◌∷◌, ◌++◌, length, Option, None, Some, if◌then◌else◌, slice_index_or}
 use Rattle.name_scopes.specs.declared.scope.Binding.{Binding}
 use Rattle.doc_tree.specs.Scope.{Decl}
 

@@ -1,13 +1,12 @@
 -- One attribute after the other.
-use Rattle.std.proofs.Common.{◌≡◌, true, length, sym, ◌∙◌, arith}
+use Rattle.std.proofs.Common.{length, sym, ◌∙◌, arith}
 use Rattle.std.proofs.lemmas.Bool.{lt-leb}
-use Rattle.pyx_core.specs.declared.event.Attr.{Attr}
 use Rattle.doc_tree.specs.limits.TheConstants.{MAX_LIVE_NODES}
 use Rattle.doc_tree.specs.Walks.{order}
 use Rattle.name_scopes.specs.Declarations.{is_plain}
 use Rattle.name_scopes.specs.DocFaults.{lacks_prefix}
 use Rattle.name_scopes.proofs.TagLemmas.{kept-fails}
-use Rattle.name_scopes.proofs.StartLemmas.{Attributing, attributing-none, attributing-more, attributing-same, fits-next, kept-room, bytes-room}
+use Rattle.name_scopes.proofs.StartLemmas.{attributing-none, attributing-more, attributing-same, fits-next, kept-room, bytes-room}
 use Rattle.name_scopes.proofs.build.append_attributes.Goals as goal
 use Rattle.name_scopes.proofs.build.append_attributes.Goals.{then-is_plain+in_ok-append_attribute, else-is_plain}
 

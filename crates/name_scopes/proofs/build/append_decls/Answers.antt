@@ -1,14 +1,10 @@
 -- One declaration after the other.
-use Rattle.std.proofs.Common.{◌≡◌, ◌+◌, ◌++◌, [], ◌∷◌, ℕ, List, None, Some, sym, ap, ap₂, ◌∙◌, take, subst, append-nil}
-use Rattle.std.proofs.lemmas.List.{take_all}
+use Rattle.std.proofs.Common.{◌≡◌, ◌+◌, ◌++◌, [], ◌∷◌, ℕ, List, ap, ◌∙◌, take, subst, append-nil}
 use Rattle.std.specs.Option.{option_to_list}
-use Rattle.pyx_core.specs.declared.event.Attr.{Attr}
-use Rattle.doc_tree.specs.Table.{Table}
 use Rattle.doc_tree.specs.Scope.{Decl, first_declared}
 use Rattle.doc_tree.specs.Declaring.{Declared}
-use Rattle.name_scopes.specs.Declarations.{declaration_of, declarations}
-use Rattle.name_scopes.specs.inner.Build.{DeclaresAll}
-use Rattle.name_scopes.proofs.StartLemmas.{Declaring, declaring-none, declaring-more, declared-next, next-undeclared}
+use Rattle.name_scopes.specs.Declarations.{declarations}
+use Rattle.name_scopes.proofs.StartLemmas.{declaring-none, declaring-more, declared-next, next-undeclared}
 use Rattle.name_scopes.proofs.build.append_decls.Goals as goal
 use Rattle.name_scopes.proofs.build.append_decls.Goals.{in-Some+in_ok-append_decl, in_default}
 

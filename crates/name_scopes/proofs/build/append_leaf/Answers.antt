@@ -1,11 +1,10 @@
 -- Each event that is no tag has its node.
-use Rattle.std.proofs.Common.{◌≡◌, ℕ, List, [], Some, slice_get, sym, ap, ap₂, ◌∙◌, subst}
+use Rattle.std.proofs.Common.{◌≡◌, ℕ, ap, ap₂, ◌∙◌, subst}
 use Rattle.std.specs.Prelude.{Result, Ok, Err, IfOk}
 use Rattle.doc_tree.specs.new_node.AppendError.{AppendError}
-use Rattle.doc_tree.specs.Table.{Table, Name, Content, text, comment, instruction, numbered}
+use Rattle.doc_tree.specs.Table.{Table, Content, text, comment, instruction, numbered}
 use Rattle.doc_tree.specs.Growth.{Grew}
 use Rattle.name_scopes.specs.QNames.{unprefixed}
-use Rattle.name_scopes.specs.inner.Build.{leaf_of}
 use Rattle.name_scopes.proofs.NumberLemmas.{numbered-is}
 use Rattle.name_scopes.proofs.build.append_leaf.Goals as goal
 use Rattle.name_scopes.proofs.build.append_leaf.Goals.{in-Chars, in-Pi+in_ok-id-in-Pi, in-Comment}

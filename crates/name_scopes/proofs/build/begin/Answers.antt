@@ -1,8 +1,6 @@
 -- The element, what it declares, and its attributes.
-use Rattle.std.proofs.Common.{◌≡◌, true}
-use Rattle.doc_tree.specs.Table.{is_live}
 use Rattle.name_scopes.proofs.NumberLemmas.{holder-live}
-use Rattle.name_scopes.proofs.TagFacts.{TagIsGood, tag-good, declares-once}
+use Rattle.name_scopes.proofs.TagFacts.{tag-good, declares-once}
 use Rattle.name_scopes.proofs.BeginLemmas.{begun, begun-receives, begun-scope, begun-scoped}
 use Rattle.name_scopes.proofs.build.begin.Goals as goal
 

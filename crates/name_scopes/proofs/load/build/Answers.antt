@@ -1,5 +1,5 @@
 -- One event after the other.
-use Rattle.std.proofs.Common.{◌≡◌, ◌+◌, ◌++◌, ◌∷◌, [], ℕ, List, take, drop, subst, sym}
+use Rattle.std.proofs.Common.{◌+◌, ◌∷◌, ℕ, List, take, drop, subst, sym}
 use Rattle.pyx_core.specs.declared.event.Located.{Located}
 use Rattle.pyx_core.specs.Nesting.{bare}
 use Rattle.name_scopes.proofs.WholeLemmas.{Going, going-first, going-ready, going-comes, going-on, going-refused, going-all, front-at, back-at}

@@ -1,8 +1,6 @@
 -- The events of the text, its fault, and the tree of the whole.
-use Rattle.std.proofs.Common.{◌≡◌, ◌≤◌, sym, ◌∙◌, arith, sum_by}
+use Rattle.std.proofs.Common.{sym, ◌∙◌, arith}
 use Rattle.pyx_core.specs.declared.mode.Mode.TheVariants.{Document}
-use Rattle.pyx_core.specs.Nesting.{bare}
-use Rattle.name_scopes.specs.inner.Build.{event_text}
 use Rattle.name_scopes.proofs.TextBound.{front-text}
 use Rattle.name_scopes.proofs.WholeLemmas.{loaded}
 use Rattle.name_scopes.proofs.load.load_tree.Goals as goal

@@ -1,5 +1,5 @@
 -- An expanded name that is new takes the next number.
-use Rattle.std.proofs.Common.{◌≡◌, ◌+◌, ℕ, true, false, List, [], ◌∷◌, ◌++◌, map, take, length, length-append, refl, sym, ap, ◌∙◌, subst, arith}
+use Rattle.std.proofs.Common.{◌≡◌, ◌+◌, ℕ, true, List, [], ◌∷◌, ◌++◌, map, take, length, length-append, sym, ap, ◌∙◌, subst, arith}
 use Rattle.pyx_core.specs.declared.event.Attr.{Attr}
 use Rattle.doc_tree.specs.Numbering.{Numbered}
 use Rattle.doc_tree.specs.Table.{Name}

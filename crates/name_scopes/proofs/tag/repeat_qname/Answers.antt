@@ -1,5 +1,5 @@
 -- A name that is new takes the next number.
-use Rattle.std.proofs.Common.{◌≡◌, ◌+◌, ℕ, true, List, map, take, length, refl, sym, ap, ◌∙◌, subst, arith}
+use Rattle.std.proofs.Common.{◌≡◌, ◌+◌, ℕ, true, List, map, take, length, sym, ap, ◌∙◌, subst, arith}
 use Rattle.std.proofs.lemmas.List.{length-take-le}
 use Rattle.pyx_core.specs.declared.event.Attr.{Attr}
 use Rattle.doc_tree.specs.Numbering.{Numbered}

@@ -1,6 +1,6 @@
 -- The innermost element ends.
-use Rattle.std.proofs.Common.{◌≡◌, sym, ◌∙◌, refl}
-use Rattle.name_scopes.proofs.LeafLemmas.{loads-end, end-parent}
+use Rattle.std.proofs.Common.{sym, ◌∙◌, refl}
+use Rattle.name_scopes.proofs.LeafLemmas.{loads-end}
 use Rattle.name_scopes.proofs.build.Loader.end.Goals as goal
 
 pub returns : goal.returns

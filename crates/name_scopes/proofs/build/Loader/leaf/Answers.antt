@@ -1,8 +1,5 @@
 -- A node more, under the innermost element.
-use Rattle.std.proofs.Common.{◌≡◌, ◌+◌, ℕ, refl, arith}
-use Rattle.doc_tree.specs.Table.{value_in}
-use Rattle.doc_tree.specs.Walks.{text_bytes}
-use Rattle.name_scopes.specs.inner.Build.{Loads, Comes, TakesEvent, event_text, leaf_of}
+use Rattle.std.proofs.Common.{refl, arith}
 use Rattle.name_scopes.proofs.StepLemmas.{builds-receives}
 use Rattle.name_scopes.proofs.LeafLemmas.{leaf-fits, leaf-bytes, leaf-room, loads-leaf}
 use Rattle.name_scopes.proofs.build.Loader.leaf.Goals as goal

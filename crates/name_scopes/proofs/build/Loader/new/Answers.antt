@@ -1,5 +1,4 @@
 -- The root alone, in front of all events.
-use Rattle.std.proofs.Common.{◌≡◌}
 use Rattle.name_scopes.proofs.LoadStart.{loads-none}
 use Rattle.name_scopes.proofs.build.Loader.new.Goals as goal
 

@@ -1,10 +1,6 @@
 -- A start tag is tested, and then its element begins.
-use Rattle.std.proofs.Common.{◌≡◌, ◌+◌, ◌++◌, None, Some, refl, sym, ap, ◌∙◌, length}
-use Rattle.std.specs.Prelude.{Err}
-use Rattle.std.specs.Option.{option_or}
+use Rattle.std.proofs.Common.{refl, sym, ◌∙◌, length}
 use Rattle.doc_tree.specs.Walks.{order}
-use Rattle.name_scopes.specs.DocFaults.{tag_fault, tag_nodes}
-use Rattle.name_scopes.specs.inner.Build.{room_fault, TakesEvent}
 use Rattle.name_scopes.proofs.StepLemmas.{Passes, passes, loads-start, check-faulty, element-scope, check-passes, start-refused}
 use Rattle.name_scopes.proofs.build.Loader.start.Goals as goal
 

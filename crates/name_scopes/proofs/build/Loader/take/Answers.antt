@@ -1,6 +1,5 @@
 -- Each event leads the tree on.
-use Rattle.std.proofs.Common.{refl, sym}
-use Rattle.name_scopes.specs.inner.Build.{Comes}
+use Rattle.std.proofs.Common.{refl}
 use Rattle.name_scopes.proofs.build.Loader.take.Goals as goal
 
 pub returns-in-End : goal.returns-in-End

@@ -1,7 +1,6 @@
 -- What is kept stays sound with one declaration more.
-use Rattle.std.proofs.Common.{◌≡◌, ◌<◌, arith, ◌++◌, ◌∷◌, [], List, length, map, sym, ap, ◌∙◌, subst}
+use Rattle.std.proofs.Common.{◌≡◌, ◌<◌, arith, length}
 use Rattle.name_scopes.specs.declared.scope.Binding.{Binding}
-use Rattle.name_scopes.specs.inner.Scope.{Bound, bound, newest_first}
 use Rattle.name_scopes.proofs.BindingLemmas.{grown, bound-grown, bound-more, declared-view}
 use Rattle.name_scopes.proofs.scope.Scope.declare.Goals as goal
 

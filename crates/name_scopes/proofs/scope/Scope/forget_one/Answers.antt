@@ -1,5 +1,5 @@
 -- What is kept stays sound without its newest declaration.
-use Rattle.std.proofs.Common.{◌≡◌, ◌++◌, ◌∷◌, [], List, sym, ap, ◌∙◌, subst, drop}
+use Rattle.std.proofs.Common.{◌≡◌, ◌++◌, ◌∷◌, [], List, ap, ◌∙◌, subst, drop}
 use Rattle.std.specs.Option.{option_to_list}
 use Rattle.name_scopes.specs.declared.scope.Binding.{Binding}
 use Rattle.name_scopes.specs.inner.Scope.{Bound}

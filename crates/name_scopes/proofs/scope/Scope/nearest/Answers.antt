@@ -1,7 +1,7 @@
 -- A prefix that is a word has the namespace at the place kept for it; another is not declared.
-use Rattle.std.proofs.Common.{◌≡◌, None, Some, Option, map, sym, ap, ◌∙◌}
+use Rattle.std.proofs.Common.{None, Some, sym, ap, ◌∙◌}
 use Rattle.doc_tree.specs.Scope.{first_declared}
-use Rattle.name_scopes.specs.inner.Scope.{bound, newest_first}
+use Rattle.name_scopes.specs.inner.Scope.{newest_first}
 use Rattle.name_scopes.proofs.BindingLemmas.{never-declared, kept-declared}
 use Rattle.name_scopes.proofs.scope.Scope.nearest.Goals as goal
 
