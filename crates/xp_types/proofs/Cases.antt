@@ -1,16 +1,17 @@
 -- Typing gives a tree exactly where the expression has it by cases.
-use Rattle.std.proofs.Common.{◌≡◌, ℕ, Bool, true, false, Result, Ok, Err, refl, sym, ap, ◌∙◌, subst}
+use Rattle.std.proofs.Common.{◌≡◌, ℕ, Bool, true, false, Ok, refl, ap, ◌∙◌, subst}
 use Rattle.xp_tree.specs.declared.terms.Level.TheVariants as levels
 use Rattle.xp_tree.specs.Tree.{Tree, PathStart, Steps, Operands, Trees, chain, negated, path, filtered, variable, literal, number, call, root, here, from, no_steps, step, no_operands, operand, no_trees, tree, offset_of}
-use Rattle.xp_typed_tree.specs.declared.value_type.ValueType.TheVariants as types
-use Rattle.xp_typed_tree.specs.TypedTree.{TypedTree, TypedPlace, TypedSteps, Comparands, Combinands, TypedTrees, disjunction, conjunction, comparison, arithmetic, negation, union, location, selection, text, application, at_root, at_context, at_nodes, no_more_steps, typed_step, no_comparands, comparand, no_combinands, combinand, no_typed, typed}
-use Rattle.xp_typed_tree.specs.WellTyped.{type_of, wants_nodes, IsWanted}
+use Rattle.xp_typed_tree.specs.TypedTree.{TypedTree, TypedPlace, TypedSteps, Comparands, Combinands, TypedTrees}
+use Rattle.xp_typed_tree.specs.WellTyped.{wants_nodes, IsWanted}
 use Rattle.xp_types.specs.Scope.{Scope, variable_of}
-use Rattle.xp_types.specs.Checked.{Checked, after}
-use Rattle.xp_types.specs.Typing.{typing, wanted, node_set_at, all_typed, operands_typed, comparands_typed, combinands_typed, steps_typed, place_typed, called, number_of_trees, axis_of, resolved, arith_of, comparison_of}
+use Rattle.xp_types.specs.inner.Checked.{after}
+use Rattle.xp_types.specs.Terms.{number_of_trees}
+use Rattle.xp_types.specs.inner.Typing.{typing, wanted, node_set_at, all_typed, operands_typed, comparands_typed, combinands_typed, steps_typed, place_typed, called, axis_of, resolved, arith_of}
 use Rattle.xp_types.specs.HasType.{HasType, StartHasType, StepsHaveTypes, OperandsHaveTypes, ComparandsHaveTypes, CombinandsHaveTypes, AllHaveTypes}
 use Rattle.xp_types.proofs.Giving.{after-value}
-use Rattle.xp_types.proofs.Sound.{Went, went, same, Wanted, wanted-sound}
+use Rattle.xp_types.proofs.TermCases.{variable-has, variable-so, number-has, number-so, called-has, called-so, axis-has, axis-so, test-has, test-so, arith-has, arith-so}
+use Rattle.xp_types.proofs.Sound.{went, same, wanted-sound}
 
 wanted-is : (nodes : Bool) (offset : ℕ) (t : TypedTree) → IsWanted nodes t → wanted nodes offset t ≡ Ok t
 wanted-is true offset t k = ap (λ v. node_set_at v offset t) k
@@ -59,13 +60,13 @@ mutual
       let k = went (typing S base) _ a.value a.had in
       let w = wanted-sound true (offset_of base) k.value a.value k.next in
       (a.value, b.value, subst (HasType S base) w.is (has-type S base k.value k.had), w.kind, all-have S false predicates b.value b.had, same _ u b.next)
-  has-type S (variable offset name) u h = h
+  has-type S (variable offset name) u h = variable-has (variable_of S.variables name) offset u h
   has-type S (literal offset value) u h = same _ u h
-  has-type S (number offset digits) u h = h
+  has-type S (number offset digits) u h = number-has digits offset u h
   has-type S (call offset name args) u h =
       let a = went (called S name offset (number_of_trees args)) _ u h in
       let b = went (all_typed S (wants_nodes a.value) args) _ u a.next in
-      (a.value, b.value, a.had, all-have S (wants_nodes a.value) args b.value b.had, same _ u b.next)
+      (a.value, b.value, called-has S name offset (number_of_trees args) a.value a.had, all-have S (wants_nodes a.value) args b.value b.had, same _ u b.next)
 
   start-has : (S : Scope) (p : PathStart) (t : TypedPlace) → place_typed S p ≡ Ok t → StartHasType S p t
   start-has S root t h = same _ t h
@@ -83,7 +84,7 @@ mutual
       let b = went (resolved S node_test test_offset) _ ts a.next in
       let k = went (all_typed S false predicates) _ ts b.next in
       let l = went (steps_typed S rest) _ ts k.next in
-      (a.value, b.value, k.value, l.value, a.had, b.had, all-have S false predicates k.value k.had, steps-have S rest l.value l.had, same _ ts l.next)
+      (a.value, b.value, k.value, l.value, axis-has axis offset a.value a.had, test-has S node_test test_offset b.value b.had, all-have S false predicates k.value k.had, steps-have S rest l.value l.had, same _ ts l.next)
 
   operands-have : (S : Scope) (nodes : Bool) (os : Operands) (ts : TypedTrees) → operands_typed S nodes os ≡ Ok ts → OperandsHaveTypes S nodes os ts
   operands-have S nodes no_operands ts h = same _ ts h
@@ -107,9 +108,9 @@ mutual
       let k = went (arith_of o at) _ cs h in
       let a = went (typing S e) _ cs k.next in
       let b = went (combinands_typed S rest) _ cs a.next in
-      (k.value, a.value, b.value, k.had, has-type S e a.value a.had, combinands-have S rest b.value b.had, same _ cs b.next)
+      (k.value, a.value, b.value, arith-has o at k.value k.had, has-type S e a.value a.had, combinands-have S rest b.value b.had, same _ cs b.next)
 
-  all-have : (S : Scope) (nodes : Bool) (es : Trees) (ts : TypedTrees) → all_typed S nodes es ≡ Ok ts → AllHaveTypes S nodes es ts
+  pub all-have : (S : Scope) (nodes : Bool) (es : Trees) (ts : TypedTrees) → all_typed S nodes es ≡ Ok ts → AllHaveTypes S nodes es ts
   all-have S nodes no_trees ts h = same _ ts h
   all-have S nodes (tree e es) ts h =
       let a = went (after (typing S e) (wanted nodes (offset_of e))) _ ts h in
@@ -142,11 +143,11 @@ mutual
   typed-so S (filtered offset base predicates) u h =
       after-value (after (typing S base) (wanted true (offset_of base))) _ h.0 (after-value (typing S base) (wanted true (offset_of base)) h.0 (typed-so S base h.0 h.2) ∙ wanted-is true (offset_of base) h.0 h.3)
       ∙ after-value (all_typed S false predicates) _ h.1 (all-so S false predicates h.1 h.4) ∙ ap Ok h.5
-  typed-so S (variable offset name) u h = h
+  typed-so S (variable offset name) u h = variable-so (variable_of S.variables name) offset u h
   typed-so S (literal offset value) u h = ap Ok h
-  typed-so S (number offset digits) u h = h
+  typed-so S (number offset digits) u h = number-so digits offset u h
   typed-so S (call offset name args) u h =
-      after-value (called S name offset (number_of_trees args)) _ h.0 h.2 ∙ after-value (all_typed S (wants_nodes h.0) args) _ h.1 (all-so S (wants_nodes h.0) args h.1 h.3) ∙ ap Ok h.4
+      after-value (called S name offset (number_of_trees args)) _ h.0 (called-so S name offset (number_of_trees args) h.0 h.2) ∙ after-value (all_typed S (wants_nodes h.0) args) _ h.1 (all-so S (wants_nodes h.0) args h.1 h.3) ∙ ap Ok h.4
 
   start-so : (S : Scope) (p : PathStart) (t : TypedPlace) → StartHasType S p t → place_typed S p ≡ Ok t
   start-so S root t h = ap Ok h
@@ -157,7 +158,7 @@ mutual
   steps-so : (S : Scope) (ss : Steps) (ts : TypedSteps) → StepsHaveTypes S ss ts → steps_typed S ss ≡ Ok ts
   steps-so S no_steps ts h = ap Ok h
   steps-so S (step offset axis node_test test_offset predicates rest) ts h =
-      after-value (axis_of axis offset) _ h.0 h.4 ∙ after-value (resolved S node_test test_offset) _ h.1 h.5 ∙ after-value (all_typed S false predicates) _ h.2 (all-so S false predicates h.2 h.6)
+      after-value (axis_of axis offset) _ h.0 (axis-so axis offset h.0 h.4) ∙ after-value (resolved S node_test test_offset) _ h.1 (test-so S node_test test_offset h.1 h.5) ∙ after-value (all_typed S false predicates) _ h.2 (all-so S false predicates h.2 h.6)
       ∙ after-value (steps_typed S rest) _ h.3 (steps-so S rest h.3 h.7) ∙ ap Ok h.8
 
   operands-so : (S : Scope) (nodes : Bool) (os : Operands) (ts : TypedTrees) → OperandsHaveTypes S nodes os ts → operands_typed S nodes os ≡ Ok ts
@@ -173,9 +174,9 @@ mutual
   combinands-so : (S : Scope) (os : Operands) (cs : Combinands) → CombinandsHaveTypes S os cs → combinands_typed S os ≡ Ok cs
   combinands-so S no_operands cs h = ap Ok h
   combinands-so S (operand o at e rest) cs h =
-      after-value (arith_of o at) _ h.0 h.3 ∙ after-value (typing S e) _ h.1 (typed-so S e h.1 h.4) ∙ after-value (combinands_typed S rest) _ h.2 (combinands-so S rest h.2 h.5) ∙ ap Ok h.6
+      after-value (arith_of o at) _ h.0 (arith-so o at h.0 h.3) ∙ after-value (typing S e) _ h.1 (typed-so S e h.1 h.4) ∙ after-value (combinands_typed S rest) _ h.2 (combinands-so S rest h.2 h.5) ∙ ap Ok h.6
 
-  all-so : (S : Scope) (nodes : Bool) (es : Trees) (ts : TypedTrees) → AllHaveTypes S nodes es ts → all_typed S nodes es ≡ Ok ts
+  pub all-so : (S : Scope) (nodes : Bool) (es : Trees) (ts : TypedTrees) → AllHaveTypes S nodes es ts → all_typed S nodes es ≡ Ok ts
   all-so S nodes no_trees ts h = ap Ok h
   all-so S nodes (tree e es) ts h =
       after-value (after (typing S e) (wanted nodes (offset_of e))) _ h.0 (after-value (typing S e) (wanted nodes (offset_of e)) h.0 (typed-so S e h.0 h.2) ∙ wanted-is nodes (offset_of e) h.0 h.3)

@@ -3,7 +3,7 @@ use Rattle.std.proofs.Common.{◌≡◌, Result, Ok, Err, sym, ap, ◌∙◌, su
 use Rattle.xp_types.specs.declared.faults.TypeFault.{TypeFault}
 use Rattle.xp_types.specs.declared.faults.CheckError.{CheckError}
 use Rattle.xp_types.specs.declared.faults.CheckError.TheVariants as errors
-use Rattle.xp_types.specs.Checked.{Checked, after, ChecksAs}
+use Rattle.xp_types.specs.inner.Checked.{Checked, after, ChecksAs}
 
 module _ {A B : Type 0} (m : Checked A) (f : A → Checked B) where
   pub after-value : (a : A) → m ≡ Ok a → after m f ≡ f a

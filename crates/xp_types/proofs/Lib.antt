@@ -5,3 +5,11 @@ mod TypingViews
 mod Sound
 mod Cases
 mod PatternLooping
+mod FirstLemmas
+mod CallFaults
+mod TermFaults
+mod FaultCases
+mod PatternCases
+mod TermCases
+mod OneAnswer
+mod Refused

@@ -26,8 +26,9 @@ use Rattle.std.specs.declared.alloc.Global.{Global}
 use Rattle.xp_types.specs.declared.faults.CheckError.{CheckError}
 use Rattle.xp_types.specs.Scope.{Scope}
 use Rattle.xp_types.specs.inner.ChainParts.{first_in, rest_in}
-use Rattle.xp_types.specs.Checked.{Checked, after, ChecksAs}
-use Rattle.xp_types.specs.Typing.{typing, wanted, compared_with, comparison_of, arith_of, axis_of, resolved, all_typed, operands_typed, comparands_typed, combinands_typed, steps_typed, chain_typed, comparison_typed, arithmetic_typed}
+use Rattle.xp_types.specs.inner.Checked.{Checked, after, ChecksAs}
+use Rattle.xp_types.specs.Terms.{compared_with, comparison_of}
+use Rattle.xp_types.specs.inner.Typing.{typing, wanted, arith_of, axis_of, resolved, all_typed, operands_typed, comparands_typed, combinands_typed, steps_typed, chain_typed, comparison_typed, arithmetic_typed}
 use Rattle.xp_types.proofs.Giving.{stops, gives-same, after-value}
 
 -- the expressions done, before those that come

@@ -15,8 +15,9 @@ use Rattle.xp_typed_tree.specs.TypedTree.{TypedTrees, TypedPatternStepTree, Type
 use Rattle.xp_typed_tree.specs.TypedView.{typed_seen, pattern_step_seen, path_seen, paths_seen}
 use Rattle.xp_types.specs.declared.faults.CheckError.{CheckError}
 use Rattle.xp_types.specs.Scope.{Scope}
-use Rattle.xp_types.specs.Checked.{Checked, after, ChecksAs}
-use Rattle.xp_types.specs.Typing.{resolved, all_typed, pattern_axis, pattern_start, pattern_steps_typed, pattern_typing}
+use Rattle.xp_types.specs.inner.Checked.{Checked, after, ChecksAs}
+use Rattle.xp_types.specs.Terms.{pattern_axis}
+use Rattle.xp_types.specs.inner.Typing.{resolved, all_typed, pattern_start, pattern_steps_typed, pattern_typing}
 use Rattle.xp_types.proofs.Giving.{stops, gives-same, after-value}
 use Rattle.xp_types.proofs.Looping.{drop-at, drop-end, unjoined, advance}
 

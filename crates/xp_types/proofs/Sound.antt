@@ -18,8 +18,9 @@ use Rattle.xp_typed_tree.specs.WellTyped.{type_of, takes, wants_nodes, may_call,
 use Rattle.xp_types.specs.declared.env.Variable.{Variable}
 use Rattle.xp_types.specs.Scope.{Scope, variable_of}
 use Rattle.xp_types.specs.FunctionNames.{function_named, is_left_out}
-use Rattle.xp_types.specs.Checked.{Checked, after}
-use Rattle.xp_types.specs.Typing.{typing, wanted, compared_with, node_set_at, all_typed, operands_typed, comparands_typed, combinands_typed, steps_typed, place_typed, called, function_called, variable_typed, number_of_trees, axis_of, resolved, arith_of, has_point, pattern_axis, pattern_start, pattern_steps_typed, pattern_typing}
+use Rattle.xp_types.specs.inner.Checked.{Checked, after}
+use Rattle.xp_types.specs.Terms.{compared_with, number_of_trees, has_point, pattern_axis}
+use Rattle.xp_types.specs.inner.Typing.{typing, wanted, node_set_at, all_typed, operands_typed, comparands_typed, combinands_typed, steps_typed, place_typed, called, function_called, variable_typed, axis_of, resolved, arith_of, pattern_start, pattern_steps_typed, pattern_typing}
 
 -- a chain of checks gave a value: its parts did
 pub record Went {A B : Type 0} (m : Checked A) (f : A → Checked B) (b : B) : Type 0 where

@@ -16,8 +16,9 @@ use Rattle.xp_typed_tree.specs.TypedTree.{TypedTree, TypedTrees, typed, disjunct
 use Rattle.xp_typed_tree.specs.WellTyped.{wants_nodes}
 use Rattle.xp_types.specs.Scope.{Scope, variable_of}
 use Rattle.xp_types.specs.inner.ChainParts.{first_in, rest_in}
-use Rattle.xp_types.specs.Checked.{Checked, after}
-use Rattle.xp_types.specs.Typing.{typing, wanted, all_typed, operands_typed, comparison_typed, arithmetic_typed, chain_typed, steps_typed, place_typed, called, number_typed, variable_typed, number_of_trees}
+use Rattle.xp_types.specs.inner.Checked.{Checked, after}
+use Rattle.xp_types.specs.Terms.{number_of_trees}
+use Rattle.xp_types.specs.inner.Typing.{typing, wanted, all_typed, operands_typed, comparison_typed, arithmetic_typed, chain_typed, steps_typed, place_typed, called, number_typed, variable_typed}
 
 -- operands that may be anything
 regrouped : (m : Checked TypedTree) (rest : Checked TypedTrees) (offset : ℕ) (build : TypedTrees → TypedTree) →

@@ -1,16 +1,19 @@
 -- The typed tree of an expression by cases, in no order: XPath 1.0, sections 2 to 4. An operand of `|`, the base of
 -- predicates or of a path, and some arguments are node-sets.
-use Rattle.std.specs.Prelude.{◌≡◌, ℕ, Bool, true, false, Ok, ◌↔◌}
+use Rattle.std.specs.Prelude.{◌≡◌, ◌≤◌, pos, Bool, true, false, Some}
 use Rattle.doc_tree.specs.declared.axes.Axis.{Axis}
 use Rattle.doc_tree.specs.declared.axes.NodeTest.{NodeTest}
 use Rattle.xp_tree.specs.declared.terms.Level.TheVariants as levels
 use Rattle.xp_tree.specs.Tree.{Tree, PathStart, Steps, Operands, Trees, chain, negated, path, filtered, variable, literal, number, call, root, here, from, no_steps, step, no_operands, operand, no_trees, tree}
+use Rattle.xp_tree.specs.declared.numbers.TheConstants.{MAX_WHOLE}
+use Rattle.xp_tree.specs.Decimals.{decimal_value}
 use Rattle.xp_tree.specs.declared.operators.ArithOp.{ArithOp}
 use Rattle.xp_typed_tree.specs.declared.function.Function.{Function}
-use Rattle.xp_typed_tree.specs.TypedTree.{TypedTree, TypedPlace, TypedSteps, Comparands, Combinands, TypedTrees, disjunction, conjunction, arithmetic, negation, union, location, selection, text, application, at_root, at_context, at_nodes, no_more_steps, typed_step, no_comparands, comparand, no_combinands, combinand, no_typed, typed}
+use Rattle.xp_typed_tree.specs.TypedTree.{TypedTree, TypedPlace, TypedSteps, Comparands, Combinands, TypedTrees, disjunction, conjunction, arithmetic, negation, union, location, selection, slot, text, whole, application, at_root, at_context, at_nodes, no_more_steps, typed_step, no_comparands, comparand, no_combinands, combinand, no_typed, typed}
 use Rattle.xp_typed_tree.specs.WellTyped.{wants_nodes, IsWanted}
+use Rattle.xp_types.specs.declared.env.Variable.{Variable}
 use Rattle.xp_types.specs.Scope.{Scope, variable_of}
-use Rattle.xp_types.specs.Typing.{typing, called, number_typed, variable_typed, number_of_trees, axis_of, resolved, arith_of, comparison_of, compared_with}
+use Rattle.xp_types.specs.Terms.{has_point, comparison_of, arithmetic_of, axis_named, test_resolved, MayBeCalled, compared_with, number_of_trees}
 
 abbrev mutual
   pub HasType : Scope → Tree → TypedTree → Type 0
@@ -25,11 +28,11 @@ abbrev mutual
   HasType S (negated offset count e) u = (t : TypedTree) × HasType S e t × (negation count t ≡ u)
   HasType S (path offset start steps) u = (p : TypedPlace) × (ts : TypedSteps) × StartHasType S start p × StepsHaveTypes S steps ts × (location p ts ≡ u)
   HasType S (filtered offset base predicates) u = (t : TypedTree) × (ts : TypedTrees) × HasType S base t × IsWanted true t × AllHaveTypes S false predicates ts × (selection t ts ≡ u)
-  HasType S (variable offset name) u = variable_typed (variable_of S.variables name) offset ≡ Ok u
+  HasType S (variable offset name) u = (v : Variable) × (variable_of S.variables name ≡ Some v) × (slot v.slot v.ty ≡ u)
   HasType S (literal offset value) u = text value ≡ u
-  HasType S (number offset digits) u = number_typed digits offset ≡ Ok u
+  HasType S (number offset digits) u = (has_point digits ≡ false) × (decimal_value digits ≤ MAX_WHOLE) × (whole (pos (decimal_value digits)) ≡ u)
   HasType S (call offset name args) u =
-      (f : Function) × (ts : TypedTrees) × (called S name offset (number_of_trees args) ≡ Ok f) × AllHaveTypes S (wants_nodes f) args ts × (application f ts ≡ u)
+      (f : Function) × (ts : TypedTrees) × MayBeCalled S name (number_of_trees args) f × AllHaveTypes S (wants_nodes f) args ts × (application f ts ≡ u)
 
   pub StartHasType : Scope → PathStart → TypedPlace → Type 0
   StartHasType S root p = at_root ≡ p
@@ -39,7 +42,7 @@ abbrev mutual
   pub StepsHaveTypes : Scope → Steps → TypedSteps → Type 0
   StepsHaveTypes S no_steps ss = no_more_steps ≡ ss
   StepsHaveTypes S (step offset axis node_test test_offset predicates rest) ss =
-      (a : Axis) × (n : NodeTest) × (ps : TypedTrees) × (ts : TypedSteps) × (axis_of axis offset ≡ Ok a) × (resolved S node_test test_offset ≡ Ok n) × AllHaveTypes S false predicates ps × StepsHaveTypes S rest ts
+      (a : Axis) × (n : NodeTest) × (ps : TypedTrees) × (ts : TypedSteps) × (axis_named axis ≡ Some a) × (test_resolved S node_test ≡ Some n) × AllHaveTypes S false predicates ps × StepsHaveTypes S rest ts
       × (typed_step a n ps ts ≡ ss)
 
   pub OperandsHaveTypes : Scope → Bool → Operands → TypedTrees → Type 0
@@ -53,12 +56,8 @@ abbrev mutual
   pub CombinandsHaveTypes : Scope → Operands → Combinands → Type 0
   CombinandsHaveTypes S no_operands us = no_combinands ≡ us
   CombinandsHaveTypes S (operand operator offset e rest) us =
-      (o : ArithOp) × (t : TypedTree) × (cs : Combinands) × (arith_of operator offset ≡ Ok o) × HasType S e t × CombinandsHaveTypes S rest cs × (combinand o t cs ≡ us)
+      (o : ArithOp) × (t : TypedTree) × (cs : Combinands) × (arithmetic_of operator ≡ Some o) × HasType S e t × CombinandsHaveTypes S rest cs × (combinand o t cs ≡ us)
 
   pub AllHaveTypes : Scope → Bool → Trees → TypedTrees → Type 0
   AllHaveTypes S nodes no_trees us = no_typed ≡ us
   AllHaveTypes S nodes (tree e es) us = (t : TypedTree) × (ts : TypedTrees) × HasType S e t × IsWanted nodes t × AllHaveTypes S nodes es ts × (typed t ts ≡ us)
-
--- typing gives a tree exactly where the expression has it
-abbrev pub TypingGivesTypes : Type 0
-TypingGivesTypes = (S : Scope) (e : Tree) (t : TypedTree) → (typing S e ≡ Ok t) ↔ HasType S e t

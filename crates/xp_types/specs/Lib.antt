@@ -1,7 +1,11 @@
 pub mod Scope
 pub mod FunctionNames
 pub mod FaultNames
-pub mod Checked
-pub mod Typing
+pub mod Terms
 pub mod HasType
 pub mod inner
+pub mod Places
+pub mod TypeFaults
+pub mod PatternTypes
+pub mod PatternFaults
+pub mod Laws

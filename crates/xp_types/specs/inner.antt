@@ -1,2 +1,4 @@
 pub mod ChainParts
 pub mod ScopeTables
+pub mod Typing
+pub mod Checked

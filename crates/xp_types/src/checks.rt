@@ -1,10 +1,13 @@
 //! Checking the types of expressions and patterns.
 
-ghost use Rattle.std.specs.Prelude.{◌≡◌, true, false, Ok, IfOk, IfErr};
+ghost use Rattle.std.specs.Prelude.{◌≡◌, true, false, IfOk, IfErr};
 ghost use Rattle.xp_tree.specs.PatternTree.{pattern_of};
 ghost use Rattle.xp_tree.specs.View.{tree_of};
-ghost use Rattle.xp_types.specs.Checked.{FaultIs};
-ghost use Rattle.xp_types.specs.Typing.{typing, pattern_typing};
+ghost use Rattle.xp_types.specs.Places.{UnlessMemory};
+ghost use Rattle.xp_types.specs.HasType.{HasType};
+ghost use Rattle.xp_types.specs.TypeFaults.{IsFirstTypeFault};
+ghost use Rattle.xp_types.specs.PatternTypes.{PatternHasType};
+ghost use Rattle.xp_types.specs.PatternFaults.{IsFirstPatternTypeFault};
 
 use crate::env::Env;
 use crate::faults::CheckError;
@@ -21,8 +24,8 @@ use xp_typed_tree::{Typed, TypedPattern};
 /// expression's size.
 pub fn check(alloc: Global, expr: Expr, env: &Env) -> Result<Typed, CheckError>
     requires { env.now.in_pattern ≡ false }
-    ensures typed { IfOk result (λ typed. typing env.now (tree_of expr) ≡ Ok typed) }
-    ensures fault { IfErr result (FaultIs (typing env.now (tree_of expr))) }
+    ensures typed { IfOk result (λ typed. HasType env.now (tree_of expr) typed) }
+    ensures refused { IfErr result (UnlessMemory (IsFirstTypeFault env.now (tree_of expr))) }
 {
     let tree = type_expr(alloc, &expr, env)?;
     Ok(Typed::new(tree))
@@ -31,8 +34,8 @@ pub fn check(alloc: Global, expr: Expr, env: &Env) -> Result<Typed, CheckError>
 /// Checks the types of a match pattern, as `check` does those of an expression; `id`, `key` and `current` are refused.
 pub fn check_pattern(alloc: Global, pattern: Pattern, env: &Env) -> Result<TypedPattern, CheckError>
     requires { env.now.in_pattern ≡ true }
-    ensures typed { IfOk result (λ typed. pattern_typing env.now (pattern_of pattern) ≡ Ok typed) }
-    ensures fault { IfErr result (FaultIs (pattern_typing env.now (pattern_of pattern))) }
+    ensures typed { IfOk result (λ typed. PatternHasType env.now (pattern_of pattern) typed) }
+    ensures refused { IfErr result (UnlessMemory (IsFirstPatternTypeFault env.now (pattern_of pattern))) }
 {
     let paths = type_paths(alloc, &pattern.paths, env)?;
     Ok(TypedPattern::new(paths))

@@ -14,4 +14,4 @@ mod typing;
 pub use checks::{check, check_pattern};
 pub use env::Env;
 pub use faults::{CheckError, TypeFault, TypeKind};
-pub use laws::typing_gives_types;
+pub use laws::{expressions_are_typed_or_refused, patterns_are_typed_or_refused};

@@ -5,8 +5,9 @@
 ghost use Rattle.std.specs.Prelude.{◌≡◌, map};
 ghost use Rattle.xp_tree.specs.PatternTree.{pattern_step_of, path_pattern_of};
 ghost use Rattle.xp_typed_tree.specs.TypedView.{pattern_step_seen, paths_seen};
-ghost use Rattle.xp_types.specs.Checked.{ChecksAs};
-ghost use Rattle.xp_types.specs.Typing.{pattern_start, pattern_axis, pattern_steps_typed, pattern_typing};
+ghost use Rattle.xp_types.specs.inner.Checked.{ChecksAs};
+ghost use Rattle.xp_types.specs.Terms.{pattern_axis};
+ghost use Rattle.xp_types.specs.inner.Typing.{pattern_start, pattern_steps_typed, pattern_typing};
 
 use crate::env::Env;
 use crate::faults::CheckError;

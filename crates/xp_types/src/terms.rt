@@ -8,8 +8,9 @@ ghost use Rattle.xp_tree.specs.declared.numbers.TheConstants.{MAX_WHOLE};
 ghost use Rattle.xp_typed_tree.specs.TypedView.{typed_tree_of};
 ghost use Rattle.xp_types.specs.declared.faults.TypeKind.TheVariants as kinds;
 ghost use Rattle.xp_types.specs.Scope.{namespace_of, variable_of};
-ghost use Rattle.xp_types.specs.Checked.{ChecksAs, Tells};
-ghost use Rattle.xp_types.specs.Typing.{number_typed, wanted, comparison_of, arith_of, axis_of, known, resolved, variable_typed, called};
+ghost use Rattle.xp_types.specs.inner.Checked.{ChecksAs, Tells};
+ghost use Rattle.xp_types.specs.Terms.{comparison_of};
+ghost use Rattle.xp_types.specs.inner.Typing.{number_typed, wanted, arith_of, axis_of, known, resolved, variable_typed, called};
 ghost use Rattle.xp_tree.specs.declared.terms.StepTest.TheVariants as written;
 
 use crate::env::Env;

@@ -7,8 +7,9 @@ ghost use Rattle.xp_tree.specs.View.{tree_of, start_of, trees_seen, steps_seen};
 ghost use Rattle.xp_tree.specs.Tree.{offset_of};
 ghost use Rattle.xp_typed_tree.specs.TypedView.{typed_tree_of, place_of, typed_seen, compared_list_seen, typed_steps_seen};
 ghost use Rattle.xp_types.specs.inner.ChainParts.{first_in, rest_in};
-ghost use Rattle.xp_types.specs.Checked.{ChecksAs, after};
-ghost use Rattle.xp_types.specs.Typing.{typing, wanted, all_typed, chain_typed, compared_with, comparison_typed, arithmetic_typed, place_typed, steps_typed};
+ghost use Rattle.xp_types.specs.inner.Checked.{ChecksAs, after};
+ghost use Rattle.xp_types.specs.Terms.{compared_with};
+ghost use Rattle.xp_types.specs.inner.Typing.{typing, wanted, all_typed, chain_typed, comparison_typed, arithmetic_typed, place_typed, steps_typed};
 
 use crate::env::Env;
 use crate::faults::CheckError;

@@ -1,7 +1,6 @@
--- The types of expressions and of match patterns, or the first fault: XPath 1.0, sections 2 to 4, and XSLT 1.0,
--- section 5.2. Parts are checked in the order in which they begin in the text.
-use Rattle.std.specs.Prelude.{ℕ, pos, Bool, true, false, List, [], ◌∷◌, Option, None, Some, Ok, if◌then◌else◌, nat_le, ◌==◌, suc, codes}
-use Rattle.std.specs.List.{list_any}
+-- The checks that the code makes, as one value: a typed tree, or the first fault. Each part is checked where nothing before it is
+-- at fault. That this is what an expression has by cases is proved; no public clause names it.
+use Rattle.std.specs.Prelude.{ℕ, pos, Bool, true, false, List, [], ◌∷◌, Option, None, Some, Ok, if◌then◌else◌, nat_le, codes}
 use Rattle.doc_tree.specs.declared.axes.Axis.{Axis}
 use Rattle.doc_tree.specs.declared.axes.Axis.TheVariants as axes
 use Rattle.doc_tree.specs.declared.axes.NodeTest.{NodeTest}
@@ -21,21 +20,17 @@ use Rattle.xp_tree.specs.declared.numbers.TheConstants.{MAX_WHOLE}
 use Rattle.xp_tree.specs.Decimals.{decimal_value}
 use Rattle.xp_typed_tree.specs.declared.value_type.ValueType.{ValueType}
 use Rattle.xp_typed_tree.specs.declared.value_type.ValueType.TheVariants as types
-use Rattle.xp_tree.specs.declared.operators.Comparison.{Comparison}
-use Rattle.xp_tree.specs.declared.operators.Comparison.TheVariants as comparisons
 use Rattle.xp_tree.specs.declared.operators.ArithOp.{ArithOp}
 use Rattle.xp_tree.specs.declared.operators.ArithOp.TheVariants as ariths
 use Rattle.xp_typed_tree.specs.declared.function.Function.{Function}
-use Rattle.xp_typed_tree.specs.TypedTree.{TypedTree, TypedPlace, TypedSteps, Comparands, Combinands, TypedTrees, TypedPatternStepTree, TypedPathTree, disjunction, conjunction, comparison, arithmetic, negation, union, location, selection, slot, text, whole, application, at_root, at_context, at_nodes, no_more_steps, typed_step, no_comparands, comparand, no_combinands, combinand, no_typed, typed}
+use Rattle.xp_typed_tree.specs.TypedTree.{TypedTree, TypedPlace, TypedSteps, Comparands, Combinands, TypedTrees, TypedPatternStepTree, TypedPathTree, disjunction, conjunction, arithmetic, negation, union, location, selection, slot, text, whole, application, at_root, at_context, at_nodes, no_more_steps, typed_step, no_comparands, comparand, no_combinands, combinand, no_typed, typed}
 use Rattle.xp_typed_tree.specs.WellTyped.{type_of, takes, wants_nodes, may_call}
 use Rattle.xp_types.specs.declared.env.Variable.{Variable}
 use Rattle.xp_types.specs.declared.faults.TypeKind.TheVariants as kinds
 use Rattle.xp_types.specs.Scope.{Scope, namespace_of, variable_of}
+use Rattle.xp_types.specs.Terms.{has_point, has_colon, comparison_of, compared_with, number_of_trees, pattern_axis}
 use Rattle.xp_types.specs.FunctionNames.{function_named, is_left_out}
-use Rattle.xp_types.specs.Checked.{Checked, after, fault}
-
-abbrev pub has_point : List ℕ → Bool
-has_point digits = list_any (λ c. c == 46) digits
+use Rattle.xp_types.specs.inner.Checked.{Checked, after, fault}
 
 -- a whole number that isn't too large
 abbrev pub number_typed : List ℕ → ℕ → Checked TypedTree
@@ -51,14 +46,6 @@ node_set_at _ offset t = fault kinds.NodeSetWanted offset
 abbrev pub wanted : Bool → ℕ → TypedTree → Checked TypedTree
 wanted true offset t = node_set_at (type_of t) offset t
 wanted false offset t = Ok t
-
-abbrev pub comparison_of : Operator → Comparison
-comparison_of operators.NotEqual = comparisons.Ne
-comparison_of operators.Less = comparisons.Lt
-comparison_of operators.AtMost = comparisons.Le
-comparison_of operators.Greater = comparisons.Gt
-comparison_of operators.AtLeast = comparisons.Ge
-comparison_of _ = comparisons.Eq
 
 -- division is refused
 abbrev pub arith_of : Operator → ℕ → Checked ArithOp
@@ -114,16 +101,7 @@ function_called S name offset count None = if is_left_out name then fault (kinds
 -- a name with a prefix is refused
 abbrev pub called : Scope → List ℕ → ℕ → ℕ → Checked Function
 called S name offset count =
-    if list_any (λ c. c == 58) name then fault (kinds.Refused name) offset else function_called S name offset count (function_named name)
-
--- an operand that is compared with later ones; a chain of one operand is that operand
-abbrev pub compared_with : TypedTree → Comparands → TypedTree
-compared_with t no_comparands = t
-compared_with t (comparand operator u cs) = comparison t (comparand operator u cs)
-
-abbrev pub number_of_trees : Trees → ℕ
-number_of_trees no_trees = 0
-number_of_trees (tree e es) = suc (number_of_trees es)
+    if has_colon name then fault (kinds.Refused name) offset else function_called S name offset count (function_named name)
 
 abbrev mutual
   -- the typed tree of an expression, or its first fault
@@ -186,10 +164,6 @@ comparison_typed S first rest = after (typing S first) (λ t. after (comparands_
 
 abbrev pub arithmetic_typed : Scope → Tree → Operands → Checked TypedTree
 arithmetic_typed S first rest = after (typing S first) (λ t. after (combinands_typed S rest) (λ cs. Ok (arithmetic t cs)))
-
-abbrev pub pattern_axis : Bool → Axis
-pattern_axis true = axes.Attribute
-pattern_axis false = axes.Child
 
 -- `id` and `key` are refused: XSLT 1.0, section 5.2
 abbrev pub pattern_start : PatternStart → ℕ → Checked Bool

@@ -1,4 +1,4 @@
--- What a check gives: a value, or the first fault.
+-- What a check of the code gives: a value, or the first fault.
 use Rattle.std.specs.Prelude.{◌≡◌, ℕ, Result, Ok, Err}
 use Rattle.xp_types.specs.declared.faults.TypeKind.{TypeKind}
 use Rattle.xp_types.specs.declared.faults.TypeFault.{TypeFault}
@@ -29,8 +29,3 @@ pub record ChecksAs {A B : Type 0} (meant : Checked A) (seen : B → A) (result 
 abbrev pub Tells : TypeKind → ℕ → CheckError → Type 0
 Tells kind offset (errors.Fault fault) = fault ≡ record { kind = kind; offset = offset }
 Tells kind offset errors.Memory = Unit {0}
-
--- what an error says of a check: its first fault
-abbrev pub FaultIs : {A : Type 0} → Checked A → CheckError → Type 0
-FaultIs meant (errors.Fault fault) = meant ≡ Err fault
-FaultIs meant errors.Memory = Unit {0}
