@@ -1,4 +1,5 @@
 pub mod TypedTree
 pub mod TypedView
 pub mod WellTyped
+pub mod Slots
 pub mod inner
