@@ -1,0 +1,19 @@
+//! Laws of meaning: what is true of every meaning of an expression.
+#![tactic(auto)]
+
+ghost use Rattle.xp_meaning_laws.specs.Types.{ValuesHaveTypes};
+ghost use Rattle.xp_meaning.specs.Laws.{ValuesAreProper};
+
+use doc_tree::Tree;
+use xp_meaning::values_are_proper;
+
+/// A value has the type of its expression, where the expression is well typed and the slots that it names are set with
+/// values of the types that it takes them for, or with faults. Its nodes are nodes of the tree, in document order and each once.
+///
+/// So the types that `result_type` gives to functions are those of what the functions give: a wrong one has no proof here.
+pub fn values_have_types(tree: &Tree)
+    ensures typed { ValuesHaveTypes tree.now.nodes }
+    ensures proper { ValuesAreProper tree.now.nodes }
+{
+    values_are_proper(tree);
+}
