@@ -2,6 +2,7 @@
 #![tactic(auto)]
 
 ghost use Rattle.xp_meaning_laws.specs.Types.{ValuesHaveTypes};
+ghost use Rattle.xp_meaning_laws.specs.Agreeing.{MeaningNeedsSlotsAlone};
 ghost use Rattle.xp_meaning.specs.Laws.{ValuesAreProper};
 
 use doc_tree::Tree;
@@ -17,3 +18,8 @@ pub fn values_have_types(tree: &Tree)
 {
     values_are_proper(tree);
 }
+
+/// What an expression gives, reads and costs depends on the slots that it names, and on no other let.
+pub fn meaning_needs_slots_alone()
+    ensures { MeaningNeedsSlotsAlone }
+{}
