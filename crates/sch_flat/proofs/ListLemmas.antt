@@ -1,0 +1,35 @@
+-- Attributes and ids, one after another.
+use Rattle.std.proofs.Common.{◌≡◌, ℕ, ◌+◌, ◌<◌, List, [], ◌∷◌, ◌++◌, Option, None, Some, map, take, length, slice_index_or, refl, sym, ap, ◌∙◌, append_assoc}
+use Rattle.std.specs.Prelude.{codes}
+use Rattle.sch_base.proofs.Lists.{take-next}
+use Rattle.pyx_core.specs.declared.event.Attr.{Attr}
+use Rattle.sch_flat.specs.declared.given.Given.{Given}
+use Rattle.sch_flat.specs.FlatDocument.{only_given, spaced}
+use Rattle.sch_flat.specs.inner.Given.{seen}
+
+only_given-append : (xs ys : List Given) → only_given (map seen (xs ++ ys)) ≡ only_given (map seen xs) ++ only_given (map seen ys)
+only_given-append [] ys = refl
+only_given-append (x ∷ xs) ys = by (seen x) (only_given-append xs ys)
+  where
+    by : (p : List ℕ × Option (List ℕ)) → only_given (map seen (xs ++ ys)) ≡ only_given (map seen xs) ++ only_given (map seen ys) →
+        only_given (p ∷ map seen (xs ++ ys)) ≡ only_given (p ∷ map seen xs) ++ only_given (map seen ys)
+    by (name, None) h = h
+    by (name, Some value) h = ap (λ l. record { name = name; value = value } ∷ l) h
+
+-- one attribute more
+pub only_given_next : (xs : List Given) (i : ℕ) (x : Given) → x ≡ slice_index_or xs i x → i < length xs →
+    only_given (map seen (take (i + 1) xs)) ≡ only_given (map seen (take i xs)) ++ only_given (seen x ∷ [])
+only_given_next xs i x is less =
+    ap (λ l. only_given (map seen l)) (take-next xs i x is less) ∙ only_given-append (take i xs) (x ∷ [])
+
+spaced-append : (id x : List ℕ) (ids : List (List ℕ)) → spaced (id ∷ (ids ++ x ∷ [])) ≡ spaced (id ∷ ids) ++ (codes " " ++ x)
+spaced-append id x [] = refl
+spaced-append id x (next ∷ ids) =
+    ap (λ l. id ++ (codes " " ++ l)) (spaced-append next x ids)
+    ∙ sym (append_assoc id (codes " " ++ spaced (next ∷ ids)) (codes " " ++ x))
+
+-- one id more
+pub spaced_next : (first : List ℕ) (ids : List (List ℕ)) (i : ℕ) (x : List ℕ) → x ≡ slice_index_or ids i x → i < length ids →
+    spaced (first ∷ take (i + 1) ids) ≡ spaced (first ∷ take i ids) ++ (codes " " ++ x)
+spaced_next first ids i x is less =
+    ap (λ l. spaced (first ∷ l)) (take-next ids i x is less) ∙ spaced-append first x (take i ids)

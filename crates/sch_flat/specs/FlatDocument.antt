@@ -1,0 +1,124 @@
+-- The document of a schema without abstract parts, as the events of its text: the elements of Schematron (ISO/IEC
+-- 19757-3:2016, section 5.4 and annex A) in one fixed order, with attributes in one fixed order and only where given, and
+-- with no text but that of messages and titles.
+use Rattle.std.specs.Prelude.{ℕ, Bool, List, [], ◌∷◌, ◌++◌, Option, None, Some, codes, if◌then◌else◌}
+use Rattle.std.specs.List.{flat_map}
+use Rattle.pyx_core.specs.declared.event.Attr.{Attr}
+use Rattle.pyx_core.specs.declared.event.Event.{Event}
+use Rattle.pyx_core.specs.declared.event.Event.TheVariants as event
+use Rattle.sch_model.specs.declared.flat.FlatPattern.{FlatPattern}
+use Rattle.sch_model.specs.declared.flat.FlatRule.{FlatRule}
+use Rattle.sch_model.specs.declared.flat.FlatSchema.{FlatSchema}
+use Rattle.sch_model.specs.declared.parts.Active.{Active}
+use Rattle.sch_model.specs.declared.parts.Assertion.{Assertion}
+use Rattle.sch_model.specs.declared.parts.Diagnostic.{Diagnostic}
+use Rattle.sch_model.specs.declared.parts.LetDecl.{LetDecl}
+use Rattle.sch_model.specs.declared.parts.Ns.{Ns}
+use Rattle.sch_model.specs.declared.parts.Part.{Part}
+use Rattle.sch_model.specs.declared.parts.Part.TheVariants.{Chars, ValueOf, Name}
+use Rattle.sch_model.specs.declared.parts.Phase.{Phase}
+
+-- attributes with these names, in this order, and only where a value is given
+abbrev pub only_given : List (List ℕ × Option (List ℕ)) → List Attr
+only_given [] = []
+only_given ((name, None) ∷ attributes) = only_given attributes
+only_given ((name, Some value) ∷ attributes) = record { name = name; value = value } ∷ only_given attributes
+
+-- an element of this name, with its attributes and what it holds
+abbrev pub element : List ℕ → List (List ℕ × Option (List ℕ)) → List Event → List Event
+element name attributes held = event.Start name (only_given attributes) ∷ (held ++ event.End name ∷ [])
+
+-- characters, where there are some
+abbrev pub characters : List ℕ → List Event
+characters [] = []
+characters (byte ∷ text) = event.Chars (byte ∷ text) ∷ []
+
+abbrev pub ns_events : Ns → List Event
+ns_events ns = element (codes "sch:ns") ((codes "prefix", Some ns.prefix) ∷ (codes "uri", Some ns.uri) ∷ []) []
+
+abbrev pub let_events : LetDecl → List Event
+let_events decl = element (codes "sch:let") ((codes "name", Some decl.name) ∷ (codes "value", Some decl.value) ∷ []) []
+
+abbrev pub active_events : Active → List Event
+active_events active = element (codes "sch:active") ((codes "pattern", Some active.pattern) ∷ []) []
+
+abbrev pub phase_events : Phase → List Event
+phase_events phase = element (codes "sch:phase") ((codes "id", Some phase.id) ∷ [])
+    (flat_map let_events phase.lets ++ flat_map active_events phase.active)
+
+-- a part of a message
+abbrev pub part_events : Part → List Event
+part_events (Chars text) = characters text
+part_events (ValueOf node select) = element (codes "sch:value-of") ((codes "select", Some select) ∷ []) []
+part_events (Name node path) = element (codes "sch:name") ((codes "path", path) ∷ []) []
+
+-- ids with a single space between each two
+abbrev pub spaced : List (List ℕ) → List ℕ
+spaced [] = []
+spaced (id ∷ []) = id
+spaced (id ∷ next ∷ ids) = id ++ (codes " " ++ spaced (next ∷ ids))
+
+-- a list of ids, absent without ids
+abbrev pub id_list : List (List ℕ) → Option (List ℕ)
+id_list [] = None
+id_list (id ∷ ids) = Some (spaced (id ∷ ids))
+
+abbrev pub assertion_name : Bool → List ℕ
+assertion_name report = if report then codes "sch:report" else codes "sch:assert"
+
+abbrev pub assertion_attributes : Assertion → List (List ℕ × Option (List ℕ))
+assertion_attributes assertion =
+    (codes "id", assertion.id)
+    ∷ (codes "test", Some assertion.test)
+    ∷ (codes "role", assertion.role)
+    ∷ (codes "flag", assertion.flag)
+    ∷ (codes "diagnostics", id_list assertion.diagnostics) ∷ []
+
+abbrev pub assertion_events : Assertion → List Event
+assertion_events assertion =
+    element (assertion_name assertion.report) (assertion_attributes assertion) (flat_map part_events assertion.message)
+
+abbrev pub rule_events : FlatRule → List Event
+rule_events rule = element (codes "sch:rule")
+    ((codes "id", rule.id)
+    ∷ (codes "context", Some rule.context)
+    ∷ (codes "role", rule.role)
+    ∷ (codes "flag", rule.flag) ∷ [])
+    (flat_map let_events rule.lets ++ flat_map assertion_events rule.assertions)
+
+abbrev pub pattern_events : FlatPattern → List Event
+pattern_events pattern = element (codes "sch:pattern") ((codes "id", pattern.id) ∷ [])
+    (flat_map let_events pattern.lets ++ flat_map rule_events pattern.rules)
+
+abbrev pub diagnostic_events : Diagnostic → List Event
+diagnostic_events diagnostic = element (codes "sch:diagnostic") ((codes "id", Some diagnostic.id) ∷ [])
+    (flat_map part_events diagnostic.message)
+
+-- all diagnostics, in an element where there is one
+abbrev pub diagnostics_events : List Diagnostic → List Event
+diagnostics_events [] = []
+diagnostics_events (diagnostic ∷ diagnostics) =
+    element (codes "sch:diagnostics") [] (flat_map diagnostic_events (diagnostic ∷ diagnostics))
+
+-- the title, where there is one
+abbrev pub title_events : Option (List ℕ) → List Event
+title_events None = []
+title_events (Some title) = element (codes "sch:title") [] (characters title)
+
+-- what the document element holds
+abbrev pub held_events : FlatSchema → List Event
+held_events schema = title_events schema.head.title
+    ++ (flat_map ns_events schema.ns
+    ++ (flat_map let_events schema.lets
+    ++ (flat_map phase_events schema.phases
+    ++ (flat_map pattern_events schema.patterns
+    ++ diagnostics_events schema.diagnostics))))
+
+-- the document of a schema
+abbrev pub flat_events : FlatSchema → List Event
+flat_events schema = element (codes "sch:schema")
+    ((codes "xmlns:sch", Some (codes "http://purl.oclc.org/dsdl/schematron"))
+    ∷ (codes "queryBinding", Some (codes "xslt"))
+    ∷ (codes "schemaVersion", schema.head.schema_version)
+    ∷ (codes "defaultPhase", schema.head.default_phase) ∷ [])
+    (held_events schema)

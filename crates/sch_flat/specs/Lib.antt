@@ -1,0 +1,2 @@
+pub mod FlatDocument
+pub mod inner
