@@ -1,3 +1,4 @@
 pub mod Slots
 pub mod Types
 pub mod Agreeing
+pub mod KnownReads

@@ -3,6 +3,7 @@
 
 ghost use Rattle.xp_meaning_laws.specs.Types.{ValuesHaveTypes};
 ghost use Rattle.xp_meaning_laws.specs.Agreeing.{MeaningNeedsSlotsAlone};
+ghost use Rattle.xp_meaning_laws.specs.KnownReads.{LetsReadAreNamed, CellsReadAreLive};
 ghost use Rattle.xp_meaning.specs.Laws.{ValuesAreProper};
 
 use doc_tree::Tree;
@@ -23,3 +24,15 @@ pub fn values_have_types(tree: &Tree)
 pub fn meaning_needs_slots_alone()
     ensures { MeaningNeedsSlotsAlone }
 {}
+
+/// The lets that are read are those in slots that the expression names.
+pub fn lets_read_are_named()
+    ensures { LetsReadAreNamed }
+{}
+
+/// The cells that are read are of live nodes, where the context's nodes and those of the lets' values live.
+pub fn cells_read_are_live(tree: &Tree)
+    ensures { CellsReadAreLive tree.now.nodes }
+{
+    tree.laws();
+}
