@@ -6,3 +6,4 @@ mod Choosing
 mod Ways
 mod Survivors
 mod Selected
+pub mod Agreeing

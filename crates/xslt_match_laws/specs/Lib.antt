@@ -1,4 +1,5 @@
 pub mod Reading
 pub mod Fitting
 pub mod Laws
+pub mod Agreeing
 pub mod inner

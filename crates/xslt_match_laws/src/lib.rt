@@ -1,7 +1,9 @@
-//! The law of match patterns: what they match is what they select, read as expressions (XSLT 1.0, section 5.2).
+//! Laws of match patterns: what they match is what they select, read as expressions (XSLT 1.0, section 5.2), and what of the
+//! lets and of the tree matching depends on.
 #![tactic(auto)]
 
 ghost use Rattle.xslt_match_laws.specs.Laws.{MatchesAreSelected};
+ghost use Rattle.xslt_match_laws.specs.Agreeing.{MatchingNeedsSlotsAlone};
 
 use doc_tree::Tree;
 
@@ -13,3 +15,8 @@ pub fn matches_are_selected(tree: &Tree)
 {
     tree.laws();
 }
+
+/// What matching gives, reads and costs depends on the slots that the pattern names, and on no other let.
+pub fn matching_needs_slots_alone()
+    ensures { MatchingNeedsSlotsAlone }
+{}
