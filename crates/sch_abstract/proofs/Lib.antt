@@ -1,0 +1,4 @@
+pub mod WalkLemmas
+pub mod OntoLemmas
+pub mod IdLemmas
+pub mod CountLemmas

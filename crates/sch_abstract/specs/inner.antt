@@ -1,0 +1,4 @@
+pub mod Capped
+pub mod Ended
+pub mod KnownIds
+pub mod Onto
