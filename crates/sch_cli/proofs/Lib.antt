@@ -6,3 +6,4 @@ pub mod FirstSchemaRead
 pub mod EndLemmas
 pub mod OutcomeLemmas
 pub mod RunLemmas
+pub mod PlanLemmas

@@ -2,6 +2,7 @@ pub mod Commands
 pub mod Documents
 pub mod FirstSchema
 pub mod Found
+pub mod OneOutput
 pub mod Outcomes
 pub mod Output
 pub mod Refusals

@@ -3,6 +3,7 @@
 
 mod command;
 mod judged;
+mod laws;
 mod outcomes;
 mod program;
 mod refusal;
@@ -12,6 +13,7 @@ mod stop;
 mod validation;
 mod words;
 
+pub use laws::one_plan;
 pub use program::run;
 pub use status::Status;
 pub use words::Words;
