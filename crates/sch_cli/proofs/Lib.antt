@@ -7,3 +7,4 @@ pub mod EndLemmas
 pub mod OutcomeLemmas
 pub mod RunLemmas
 pub mod PlanLemmas
+pub mod OneOutput

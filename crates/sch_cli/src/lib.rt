@@ -13,7 +13,7 @@ mod stop;
 mod validation;
 mod words;
 
-pub use laws::one_plan;
+pub use laws::{one_output, one_plan};
 pub use program::run;
 pub use status::Status;
 pub use words::Words;

@@ -1,0 +1,6 @@
+-- Each stage has one value or one cause to stop.
+use Rattle.sch_cli.proofs.OneOutput.{one-output}
+use Rattle.sch_cli.proofs.laws.one_output.Goals as goal
+
+pub returns : goal.returns
+returns c = λ words files output other this that. one-output c.one_tree.ensures c.one_plan.ensures files words output other this that
