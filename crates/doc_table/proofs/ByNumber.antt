@@ -1,7 +1,7 @@
 -- Where the numbers are in document order, after a number stand just the greater ones.
-use Rattle.std.proofs.Common.{◌≡◌, ◌≢◌, ℕ, ◌<◌, ◌≤◌, suc, zero, Bool, true, false, cond, ◌||◌, List, [], ◌∷◌, ◌++◌, length, refl, sym, ap, ap₂, ◌∙◌, ⊎_elim, true≢false, arith, eqb, ltb, ltb-true, ltb-false, eq-eqb, ne_eqb}
+use Rattle.std.proofs.Common.{◌≡◌, ◌≢◌, ℕ, ◌<◌, ◌≤◌, suc, zero, Bool, true, false, cond, ◌||◌, List, [], ◌∷◌, ◌++◌, length, refl, sym, ap, ap₂, ◌∙◌, ⊎_elim, true≢false, arith, eqb, ltb, eq-eqb, ne_eqb}
 use Rattle.std.proofs.Math.Bool.{or-true, or-false}
-use Rattle.std.proofs.lemmas.Bool.{cases_lt}
+use Rattle.std.proofs.lemmas.Bool.{cases_lt, le-ltb, lt-ltb}
 use Rattle.doc_table.specs.Lists.{mem, upto}
 use Rattle.doc_table.specs.Table.{Table, is_live}
 use Rattle.doc_table.specs.Order.{after, is_before}
@@ -34,20 +34,6 @@ mem-both b (x ∷ xs) ys = by (eqb b x) (mem-both b xs ys)
     by true more = refl
     by false more = more
 
-less-is : (a b : ℕ) → a < b → ltb a b ≡ true
-less-is a b h = by (ltb a b) refl
-  where
-    by : (t : Bool) → ltb a b ≡ t → t ≡ true
-    by true e = refl
-    by false e = absurd (omega (arith, h, ltb-false a b e))
-
-less-not : (a b : ℕ) → b ≤ a → ltb a b ≡ false
-less-not a b h = by (ltb a b) refl
-  where
-    by : (t : Bool) → ltb a b ≡ t → t ≡ false
-    by true e = absurd (omega (arith, h, ltb-true a b e))
-    by false e = refl
-
 after-upto : (a b n : ℕ) → b < n → mem b (after a (upto n)) ≡ ltb a b
 after-upto a b zero h = absurd (omega arith)
 after-upto a b (suc n) h = ⊎_elim
@@ -58,14 +44,14 @@ after-upto a b (suc n) h = ⊎_elim
     ⊎_elim
     (λ (e : b ≡ n).
     let here : mem b (n ∷ []) ≡ true = ap (λ t. t || false) (eq-eqb b n e) in
-    split ∙ (ap (λ t. mem b (after a (upto n)) || t) here ∙ (or-true (mem b (after a (upto n))) ∙ sym (less-is a b (omega (arith, less, e))))))
+    split ∙ (ap (λ t. mem b (after a (upto n)) || t) here ∙ (or-true (mem b (after a (upto n))) ∙ sym (lt-ltb a b (omega (arith, less, e))))))
     (λ (ne : b ≢ n).
     let none : mem b (n ∷ []) ≡ false = ap (λ t. t || false) (ne_eqb b n ne) in
     split ∙ (ap₂ (λ s t. s || t) (after-upto a b n (omega (arith, h, ne))) none ∙ or-false (ltb a b)))
     (eq_or b n))
     (λ (past : n ≤ a).
     let gone : after a (n ∷ []) ≡ [] = by (eqb a n) in
-    ap (mem b) (after-back a (upto n) (n ∷ []) (none-mem a (upto n) (upto-past a n past)) ∙ gone) ∙ sym (less-not a b (omega (arith, h, past))))
+    ap (mem b) (after-back a (upto n) (n ∷ []) (none-mem a (upto n) (upto-past a n past)) ∙ gone) ∙ sym (le-ltb a b (omega (arith, h, past))))
     (cases_lt a n)
   where
     by : (t : Bool) → cond {A = List ℕ} t [] [] ≡ []

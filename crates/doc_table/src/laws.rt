@@ -10,25 +10,19 @@ ghost use Rattle.doc_table.specs.inner.Parts.{IsSound, table_of};
 use crate::bare::Bare;
 
 impl Bare {
-    /// The table is well formed, its document order lists the live nodes once, and its names are numbered once.
+    /// The table is well formed, its document order lists the live nodes once, its ways up, walks and scopes hang
+    /// together, and its names are numbered once.
     pub fn laws(&self)
         requires { IsSound self.now }
         ensures well_formed { WellFormed (table_of self.now) }
         ensures ordered { Ordered (table_of self.now) }
         ensures ways_up { HasWaysUp (table_of self.now) }
         ensures walks { Walks (table_of self.now) }
+        ensures scopes { HasScopes (table_of self.now) }
         ensures names_once { EachOnce self.now.names }
     {
         let _ = &self.live;
         self.names.laws();
-    }
-
-    /// The ways up to the root, and the scopes along them.
-    pub fn scope_laws(&self)
-        requires { IsSound self.now }
-        ensures { HasScopes (table_of self.now) }
-    {
-        let _ = &self.live;
     }
 }
 

@@ -21,6 +21,5 @@ impl Tree {
         ensures names_once { EachOnce self.now.names }
     {
         self.bare.laws();
-        self.bare.scope_laws();
     }
 }

@@ -1,4 +1,5 @@
 -- The laws follow from what a sound table is.
+use Rattle.doc_table.proofs.DeclareLemmas.{has-scopes}
 use Rattle.doc_table.proofs.TreeLaws.{well-formed, ordered, ways-up, walks}
 use Rattle.doc_table.specs.inner.Parts.{table_of}
 use Rattle.doc_table.proofs.bare.Bare.laws.Goals as goal
@@ -14,3 +15,6 @@ returns-clause-ways_up c = ways-up (table_of c.args.self.now) c.requires.formed
 
 pub returns-clause-walks : goal.returns-clause-walks
 returns-clause-walks c = walks (table_of c.args.self.now) c.requires.formed
+
+pub returns-clause-scopes : goal.returns-clause-scopes
+returns-clause-scopes c = has-scopes (table_of c.args.self.now) c.requires.formed
