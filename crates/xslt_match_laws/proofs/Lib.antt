@@ -7,3 +7,4 @@ mod Ways
 mod Survivors
 mod Selected
 pub mod Agreeing
+pub mod Knowing

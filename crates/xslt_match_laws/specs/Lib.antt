@@ -2,4 +2,5 @@ pub mod Reading
 pub mod Fitting
 pub mod Laws
 pub mod Agreeing
+pub mod KnownReads
 pub mod inner

@@ -4,6 +4,7 @@
 
 ghost use Rattle.xslt_match_laws.specs.Laws.{MatchesAreSelected};
 ghost use Rattle.xslt_match_laws.specs.Agreeing.{MatchingNeedsSlotsAlone};
+ghost use Rattle.xslt_match_laws.specs.KnownReads.{MatchingReadsNamedLets, MatchingReadsLiveCells};
 
 use doc_tree::Tree;
 
@@ -20,3 +21,15 @@ pub fn matches_are_selected(tree: &Tree)
 pub fn matching_needs_slots_alone()
     ensures { MatchingNeedsSlotsAlone }
 {}
+
+/// The lets that are read are those in slots that the pattern names.
+pub fn matching_reads_named_lets()
+    ensures { MatchingReadsNamedLets }
+{}
+
+/// The cells that are read are of live nodes, where the node and those of the lets' values live.
+pub fn matching_reads_live_cells(tree: &Tree)
+    ensures { MatchingReadsLiveCells tree.now.nodes }
+{
+    tree.laws();
+}
