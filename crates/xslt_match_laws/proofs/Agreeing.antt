@@ -1,20 +1,19 @@
 -- Matching under two tables of lets that agree on the slots named.
-use Rattle.std.proofs.Common.{◌≡◌, ℕ, Bool, ◌||◌, List, [], ◌∷◌, ◌++◌, refl, ap}
+use Rattle.std.proofs.Common.{◌≡◌, ℕ, ◌||◌, List, [], ◌∷◌, ◌++◌, refl, ap}
 use Rattle.std.specs.Prelude.{filter, if◌then◌else◌}
 use Rattle.std.specs.List.{list_any}
 use Rattle.doc_tree.specs.Table.{Table, parent_of}
 use Rattle.xp_typed_tree.specs.declared.value_type.ValueType.{ValueType}
 use Rattle.xp_typed_tree.specs.TypedTree.{TypedPatternStepTree, TypedPathTree}
 use Rattle.xp_typed_tree.specs.Slots.{slots_in_all, slots_in_pattern_steps, slots_in_paths}
-use Rattle.xp_outcome.specs.Evaluation.{Evaluation, done, bind, visit, gather}
+use Rattle.xp_outcome.specs.Evaluation.{done, bind, visit, gather}
 use Rattle.xp_outcome.specs.Slots.{in_slot}
-use Rattle.xp_values.specs.declared.values.EvalFault.{EvalFault}
 use Rattle.xp_meaning.specs.Paths.{placed}
 use Rattle.xp_meaning.specs.Evaluation.{Lets, all_true}
 use Rattle.xp_meaning_laws.specs.Agreeing.{SlotsAgree}
 use Rattle.xp_meaning_laws.proofs.EachLemmas.{each-front, each-back}
 use Rattle.xp_meaning_laws.proofs.Agreeing.{sames}
-use Rattle.xslt_match.specs.Matching.{is_left, survives, survivors, standing, leads, starts, chains, path_matches, some_path, matching}
+use Rattle.xslt_match.specs.Matching.{is_left, survives, standing, leads, starts, chains, some_path}
 use Rattle.xslt_match.specs.Positional.{some_positional}
 use Rattle.xslt_match_laws.specs.Agreeing.{MatchingNeedsSlotsAlone}
 

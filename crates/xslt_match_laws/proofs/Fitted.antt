@@ -1,34 +1,37 @@
--- Well typed predicates have comparisons with two sides.
-use Rattle.std.proofs.Common.{Bool, true, false, List, [], ◌∷◌}
-use Rattle.xp_typed_tree.specs.TypedTree.{TypedTree, TypedTrees, TypedPatternStepTree, TypedPathTree, disjunction, conjunction, comparison, arithmetic, negation, union, location, selection, slot, text, whole, application, no_typed, typed}
-use Rattle.xp_typed_tree.specs.WellTyped.{WellTyped, AllTyped, PatternStepsTyped, PathsTyped}
+-- What holds of a pattern holds of each of its predicates.
+use Rattle.std.proofs.Common.{ℕ, true, false, List, [], ◌∷◌, ◌++◌}
+use Rattle.xp_typed_tree.specs.declared.value_type.ValueType.{ValueType}
+use Rattle.xp_typed_tree.specs.TypedTree.{TypedTrees, TypedPatternStepTree, TypedPathTree, no_typed, typed}
+use Rattle.xp_typed_tree.specs.WellTyped.{AllTyped, PatternStepsTyped, PathsTyped}
+use Rattle.xp_typed_tree.specs.Slots.{slots_in, slots_in_all, slots_in_pattern_steps, slots_in_paths}
+use Rattle.xp_outcome.specs.Slots.{in_slot}
 use Rattle.xp_meaning.specs.Evaluation.{Lets}
-use Rattle.xslt_match_laws.specs.Fitting.{Fits, AllFit, StepsFit, PathsFit}
-use Rattle.xslt_match_laws.specs.inner.Fitted.{Fitted, AllFitted, StepsFitted, PathsFitted}
+use Rattle.xp_meaning_laws.specs.Slots.{IsSetAs, SlotsFit}
+use Rattle.xp_meaning_laws.proofs.EachLemmas.{each-front, each-back}
+use Rattle.xslt_match_laws.specs.inner.Fitted.{AllFitted, StepsFitted, PathsFitted}
 
 module _ (L : Lets) where
-  fitted : (t : TypedTree) → WellTyped true t → Fits L t → Fitted L t
-  fitted (disjunction ts) sound fits = tt
-  fitted (conjunction ts) sound fits = tt
-  fitted (comparison first rest) sound fits = sound.0
-  fitted (arithmetic first rest) sound fits = tt
-  fitted (negation signs operand) sound fits = tt
-  fitted (union ts) sound fits = tt
-  fitted (location place steps) sound fits = tt
-  fitted (selection base predicates) sound fits = tt
-  fitted (slot place type) sound fits = fits
-  fitted (text value) sound fits = tt
-  fitted (whole value) sound fits = tt
-  fitted (application f args) sound fits = tt
+  front : (xs ys : List (ℕ × ValueType)) → SlotsFit L (xs ++ ys) → SlotsFit L xs
+  front xs ys h = each-front (λ s. IsSetAs s.1 (in_slot L s.0)) xs ys h
 
-  all_fitted : (ts : TypedTrees) → AllTyped true false ts → AllFit L ts → AllFitted L ts
+  back : (xs ys : List (ℕ × ValueType)) → SlotsFit L (xs ++ ys) → SlotsFit L ys
+  back xs ys h = each-back (λ s. IsSetAs s.1 (in_slot L s.0)) xs ys h
+
+  all_fitted : (ts : TypedTrees) → AllTyped true false ts → SlotsFit L (slots_in_all ts) → AllFitted L ts
   all_fitted no_typed sound fits = tt
-  all_fitted (typed t ts) sound fits = (fitted t sound.0 fits.0, all_fitted ts sound.2 fits.1)
+  all_fitted (typed t ts) sound fits =
+      ((sound.0, front (slots_in t) (slots_in_all ts) fits), all_fitted ts sound.2 (back (slots_in t) (slots_in_all ts) fits))
 
-  steps_fitted : (ss : List TypedPatternStepTree) → PatternStepsTyped ss → StepsFit L ss → StepsFitted L ss
+  steps_fitted : (ss : List TypedPatternStepTree) → PatternStepsTyped ss → SlotsFit L (slots_in_pattern_steps ss) → StepsFitted L ss
   steps_fitted [] sound fits = tt
-  steps_fitted (s ∷ ss) sound fits = (all_fitted s.predicates sound.1 fits.0, steps_fitted ss sound.2 fits.1)
+  steps_fitted (s ∷ ss) sound fits =
+      let own : List (ℕ × ValueType) = slots_in_all s.predicates in
+      let rest : List (ℕ × ValueType) = slots_in_pattern_steps ss in
+      (all_fitted s.predicates sound.1 (front own rest fits), steps_fitted ss sound.2 (back own rest fits))
 
-  pub paths_fitted : (ps : List TypedPathTree) → PathsTyped ps → PathsFit L ps → PathsFitted L ps
+  pub paths_fitted : (ps : List TypedPathTree) → PathsTyped ps → SlotsFit L (slots_in_paths ps) → PathsFitted L ps
   paths_fitted [] sound fits = tt
-  paths_fitted (p ∷ ps) sound fits = (steps_fitted p.steps sound.0 fits.0, paths_fitted ps sound.1 fits.1)
+  paths_fitted (p ∷ ps) sound fits =
+      let own : List (ℕ × ValueType) = slots_in_pattern_steps p.steps in
+      let rest : List (ℕ × ValueType) = slots_in_paths ps in
+      (steps_fitted p.steps sound.0 (front own rest fits), paths_fitted ps sound.1 (back own rest fits))

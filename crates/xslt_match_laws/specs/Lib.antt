@@ -1,5 +1,4 @@
 pub mod Reading
-pub mod Fitting
 pub mod Laws
 pub mod Agreeing
 pub mod KnownReads

@@ -9,8 +9,8 @@ ghost use Rattle.xslt_match_laws.specs.KnownReads.{MatchingReadsNamedLets, Match
 use doc_tree::Tree;
 
 /// A node matches a pattern exactly where it is in the node-set that the pattern, read as an expression, gives for the
-/// node or an ancestor as context. This holds where the lets have the types that the pattern's variables say, unless one
-/// of these evaluations or a test has a fault (XSLT 1.0, section 5.2).
+/// node or an ancestor as context. This holds where the slots that the pattern names are set with values of the types that
+/// it takes them for, or with faults, unless one of these evaluations or a test has a fault (XSLT 1.0, section 5.2).
 pub fn matches_are_selected(tree: &Tree)
     ensures { MatchesAreSelected tree.now.nodes }
 {

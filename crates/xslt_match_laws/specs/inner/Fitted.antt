@@ -1,24 +1,13 @@
--- What the proof of the law carries along: predicates that fit the lets, of which comparisons have two sides.
-use Rattle.std.specs.Prelude.{List, [], ◌∷◌}
-use Rattle.xp_typed_tree.specs.TypedTree.{TypedTree, TypedTrees, TypedPatternStepTree, TypedPathTree, disjunction, conjunction, comparison, arithmetic, negation, union, location, selection, slot, text, whole, application, no_typed, typed}
-use Rattle.xp_typed_tree.specs.WellTyped.{Compares}
-use Rattle.xp_outcome.specs.Slots.{in_slot}
+-- What the proof of the law carries along: predicates that are well typed and whose slots fit.
+use Rattle.std.specs.Prelude.{true, List, [], ◌∷◌}
+use Rattle.xp_typed_tree.specs.TypedTree.{TypedTree, TypedTrees, TypedPatternStepTree, TypedPathTree, no_typed, typed}
+use Rattle.xp_typed_tree.specs.WellTyped.{WellTyped}
+use Rattle.xp_typed_tree.specs.Slots.{slots_in}
 use Rattle.xp_meaning.specs.Evaluation.{Lets}
-use Rattle.xslt_match_laws.specs.Fitting.{SlotFits}
+use Rattle.xp_meaning_laws.specs.Slots.{SlotsFit}
 
 abbrev pub Fitted : Lets → TypedTree → Type 0
-Fitted L (disjunction ts) = Unit {0}
-Fitted L (conjunction ts) = Unit {0}
-Fitted L (comparison first rest) = Compares rest
-Fitted L (arithmetic first rest) = Unit {0}
-Fitted L (negation signs operand) = Unit {0}
-Fitted L (union ts) = Unit {0}
-Fitted L (location place steps) = Unit {0}
-Fitted L (selection base predicates) = Unit {0}
-Fitted L (slot place type) = SlotFits (in_slot L place) type
-Fitted L (text value) = Unit {0}
-Fitted L (whole value) = Unit {0}
-Fitted L (application f args) = Unit {0}
+Fitted L t = WellTyped true t × SlotsFit L (slots_in t)
 
 abbrev pub AllFitted : Lets → TypedTrees → Type 0
 AllFitted L no_typed = Unit {0}
