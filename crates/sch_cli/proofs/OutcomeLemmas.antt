@@ -1,5 +1,5 @@
 -- What the loops over rules, asserts and nodes find, and what an outcome is made of.
-use Rattle.std.proofs.Common.{◌≡◌, ◌≢◌, ◌∙◌, inl, inr, ℕ, ◌+◌, ◌<◌, ◌≤◌, ◌==◌, zero, suc, Bool, true, false, ◌||◌, ◌&&◌, List, [], ◌∷◌, ◌++◌, length, drop, slice_index_or, Some, refl, sym, ap, subst, arith, if◌then◌else◌, below_more, append_assoc}
+use Rattle.std.proofs.Common.{◌≡◌, ◌≢◌, ◌∙◌, inl, inr, ℕ, ◌+◌, ◌<◌, ◌≤◌, ◌==◌, zero, suc, Bool, true, false, ◌||◌, List, [], ◌∷◌, ◌++◌, length, drop, slice_index_or, Some, refl, sym, ap, subst, arith, if◌then◌else◌, below_more, append_assoc}
 use Rattle.std.proofs.Math.Bool.{or_assoc}
 use Rattle.std.proofs.lemmas.Bool.{cases_eq, cases_lt, eqb-true, eq-eqb}
 use Rattle.std.proofs.lemmas.List.{at_drop_more, at_drop_all, drop_more, get_or_default}
@@ -12,9 +12,8 @@ use Rattle.svrl_out.specs.declared.findings.Finding.{Finding}
 use Rattle.svrl_out.specs.declared.findings.Outcome.{Outcome}
 use Rattle.svrl_out.specs.declared.findings.Outcome.TheVariants.{Fired}
 use Rattle.svrl_out.specs.Findings.{OutcomeTable, outcome_at, Puts}
-use Rattle.svrl_out.specs.Locations.{HasLocation, is_element_node}
 use Rattle.svrl_out.specs.Report.{no_rule, AreAssertsOf, IsOutcomeOf}
-use Rattle.sch_cli.specs.Outcomes.{is_named, is_element_named, matches, holds, findings_from, first_fired, outcome_of}
+use Rattle.sch_cli.specs.Outcomes.{is_element_named, matches, holds, findings_from, first_fired, outcome_of}
 
 -- Lists of nodes
 
@@ -158,29 +157,20 @@ findings-are_asserts T n asserts place (assert ∷ rest) is =
     finding-is_assert asserts (holds T n assert.test) (record { assertion = place; message = assert.message }) (findings_from T n (place + 1) rest)
     at.0 (findings-are_asserts T n asserts (place + 1) rest at.2)
 
--- a node that matches is an element, and so has a location
-matched-has_location : (T : Table) (context : List ℕ) (n : ℕ) → matches T context n ≡ true → HasLocation T n
-matched-has_location T context n is = inr (first_of (is_element_node T n) (is_named T context n) is)
-  where
-    first_of : (b c : Bool) → (b && c) ≡ true → b ≡ true
-    first_of true c is = refl
-    first_of false c is = absurd (cc)
-
-either-is_outcome : (plan : List Rule) (T : Table) (n : ℕ) (b : Bool) (first second : Outcome) → (b ≡ true → IsOutcomeOf plan T n (Some first)) → IsOutcomeOf plan T n (Some second) →
-    IsOutcomeOf plan T n (Some (if b then first else second))
-either-is_outcome plan T n true first second is other = is refl
-either-is_outcome plan T n false first second is other = other
+either-is_outcome : (plan : List Rule) (b : Bool) (first second : Outcome) → IsOutcomeOf plan (Some first) → IsOutcomeOf plan (Some second) → IsOutcomeOf plan (Some (if b then first else second))
+either-is_outcome plan true first second is other = is
+either-is_outcome plan false first second is other = other
 
 first-is_outcome : (plan : List Rule) (T : Table) (n place : ℕ) (rules : List Rule) → drop place plan ≡ rules →
-    IsOutcomeOf plan T n (Some (first_fired T n place rules))
+    IsOutcomeOf plan (Some (first_fired T n place rules))
 first-is_outcome plan T n place [] is = tt
 first-is_outcome plan T n place (rule ∷ rules) is =
     let at = left plan place rule rules no_rule is in
     let fired : AreAssertsOf (slice_index_or plan place no_rule).asserts (findings_from T n 0 rule.asserts) =
     subst (λ (r : Rule). AreAssertsOf r.asserts (findings_from T n 0 rule.asserts)) (sym at.1) (findings-are_asserts T n rule.asserts 0 rule.asserts refl) in
-    either-is_outcome plan T n (matches T rule.context n) (Fired place (findings_from T n 0 rule.asserts)) (first_fired T n (place + 1) rules)
-    (λ matched. (at.0, fired, matched-has_location T rule.context n matched)) (first-is_outcome plan T n (place + 1) rules at.2)
+    either-is_outcome plan (matches T rule.context n) (Fired place (findings_from T n 0 rule.asserts)) (first_fired T n (place + 1) rules)
+    (at.0, fired) (first-is_outcome plan T n (place + 1) rules at.2)
 
--- a node's outcome names a rule of the plan, and its findings asserts of that rule, where the node has a location
-pub outcome-is_outcome : (plan : List Rule) (T : Table) (n : ℕ) → IsOutcomeOf plan T n (Some (outcome_of plan T n))
+-- a node's outcome names a rule of the plan, and its findings asserts of that rule
+pub outcome-is_outcome : (plan : List Rule) (T : Table) (n : ℕ) → IsOutcomeOf plan (Some (outcome_of plan T n))
 outcome-is_outcome plan T n = first-is_outcome plan T n 0 plan refl

@@ -1,10 +1,10 @@
 -- What a rule says of a node (ISO/IEC 19757-3, clause 6): the first rule of the pattern whose context the node matches
 -- fires alone, and each of its asserts that is false there gives a finding.
-use Rattle.std.specs.Prelude.{ℕ, ◌+◌, ◌==◌, Bool, false, ◌&&◌, List, [], ◌∷◌, ◌++◌, Option, None, Some, if◌then◌else◌}
+use Rattle.std.specs.Prelude.{ℕ, ◌+◌, ◌==◌, Bool, false, ◌&&◌, List, [], ◌∷◌, ◌++◌, if◌then◌else◌}
 use Rattle.std.specs.List.{list_any}
-use Rattle.std.specs.Str.{bytes_eq}
-use Rattle.doc_tree.specs.Table.{Table, Name, name_of, kids_of, attrs_of}
-use Rattle.svrl_out.specs.Locations.{is_element_node}
+use Rattle.doc_tree.specs.Table.{Table, kind_of, kids_of, attrs_of}
+use Rattle.doc_tree.specs.Kinds.{is_element}
+use Rattle.doc_tree.specs.NameTests.{has_name}
 use Rattle.svrl_out.specs.declared.plan.Assert.{Assert}
 use Rattle.svrl_out.specs.declared.plan.Rule.{Rule}
 use Rattle.svrl_out.specs.declared.findings.Finding.{Finding}
@@ -12,15 +12,11 @@ use Rattle.svrl_out.specs.declared.findings.Outcome.{Outcome}
 use Rattle.svrl_out.specs.declared.findings.Outcome.TheVariants.{NoRule, Fired}
 
 -- a name test without a prefix passes the name in no namespace (XPath 1.0, section 2.3)
-abbrev pub passes_name : List ℕ → Option Name → Bool
-passes_name test None = false
-passes_name test (Some name) = bytes_eq name.local test && bytes_eq name.uri []
-
 abbrev pub is_named : Table → List ℕ → ℕ → Bool
-is_named T test n = passes_name test (name_of T n)
+is_named T test n = has_name T n [] test
 
 abbrev pub is_element_named : Table → List ℕ → ℕ → Bool
-is_element_named T test n = is_element_node T n && is_named T test n
+is_element_named T test n = is_element (kind_of T n) && is_named T test n
 
 -- a match pattern that is a name matches the elements of that name (XSLT 1.0, section 5.2)
 abbrev pub matches : Table → List ℕ → ℕ → Bool

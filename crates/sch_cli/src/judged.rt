@@ -27,7 +27,6 @@ pub(crate) fn judge(alloc: Global, plan: &Plan, tree: &Tree) -> Result<Judged, A
         found: Findings::new(alloc, 1)?,
         finds: false,
     };
-    tree.laws();
     for n in nodes.as_slice() {
         let outcome = outcome_of(alloc, plan, tree, *n)?;
         judged.finds = judged.finds || has_finding(&outcome);

@@ -1,12 +1,12 @@
 //! What the rules say of a node: the first that it matches fires alone, with the asserts that are false there.
 
-ghost use Rattle.std.specs.Prelude.{◌≡◌, ◌<◌, ◌≤◌, ◌^◌, ◌∷◌, true, IfOk, length};
+ghost use Rattle.std.specs.Prelude.{◌≡◌, ◌<◌, ◌≤◌, ◌^◌, ◌∷◌, IfOk, length};
 ghost use Rattle.std.specs.List.{list_any};
-ghost use Rattle.doc_tree.specs.Table.{is_live, attrs_of, kids_of};
+ghost use Rattle.doc_tree.specs.Table.{attrs_of, kids_of};
 ghost use Rattle.sch_cli.specs.Outcomes.{is_named, is_element_named, holds, findings_from, outcome_of};
 ghost use Rattle.sch_cli.specs.FirstSchema.{AreCounted};
 
-use doc_tree::{Kind, NodeId, Tree};
+use doc_tree::{NodeId, Tree};
 use sch_base::Text;
 use std::alloc::{AllocError, Global};
 use svrl_out::{AssertList, Finding, FindingList, Outcome, Plan};
@@ -21,8 +21,7 @@ pub(crate) fn outcome_of(
     tree: &Tree,
     n: NodeId,
 ) -> Result<Outcome, AllocError>
-    requires live { is_live tree.now.nodes n ≡ true }
-    requires counted { AreCounted plan.now }
+    requires { AreCounted plan.now }
     ensures { IfOk result (λ outcome. outcome ≡ outcome_of plan.now tree.now.nodes n) }
 {
     for (place, rule) in plan.as_slice().iter().enumerate() {
@@ -44,8 +43,7 @@ fn findings_of(
     n: NodeId,
     asserts: &AssertList,
 ) -> Result<FindingList, AllocError>
-    requires live { is_live tree.now.nodes n ≡ true }
-    requires counted { length asserts.now < 2 ^ 32 }
+    requires { length asserts.now < 2 ^ 32 }
     ensures { IfOk result (λ findings. findings ≡ findings_from tree.now.nodes n 0 asserts.now) }
 {
     let mut findings = FindingList::new(alloc);
@@ -75,7 +73,7 @@ fn has_attribute(tree: &Tree, n: NodeId, name: &str) -> bool
     ensures { result ≡ list_any (is_named tree.now.nodes name.now) (attrs_of tree.now.nodes n) }
 {
     for attribute in tree.attrs(n) {
-        if is_named(tree, *attribute, name) {
+        if tree.has_name(*attribute, "", name) {
             return true;
         }
     }
@@ -85,7 +83,6 @@ fn has_attribute(tree: &Tree, n: NodeId, name: &str) -> bool
 fn has_child(tree: &Tree, n: NodeId, name: &str) -> bool
     ensures { result ≡ list_any (is_element_named tree.now.nodes name.now) (kids_of tree.now.nodes n) }
 {
-    tree.laws();
     for kid in tree.kids(n) {
         if is_element_named(tree, *kid, name) {
             return true;
@@ -96,18 +93,7 @@ fn has_child(tree: &Tree, n: NodeId, name: &str) -> bool
 
 /// Whether the node is an element of that name, in no namespace.
 fn is_element_named(tree: &Tree, n: NodeId, name: &str) -> bool
-    requires { is_live tree.now.nodes n ≡ true }
     ensures { result ≡ is_element_named tree.now.nodes name.now n }
 {
-    tree.kind(n) == Kind::Element && is_named(tree, n, name)
-}
-
-/// Whether the node has that name, in no namespace.
-fn is_named(tree: &Tree, n: NodeId, name: &str) -> bool
-    ensures { result ≡ is_named tree.now.nodes name.now n }
-{
-    match tree.name(n) {
-        Some(id) => tree.local_of(id) == name && tree.uri_of(id).is_empty(),
-        None => false,
-    }
+    tree.is_element(n) && tree.has_name(n, "", name)
 }

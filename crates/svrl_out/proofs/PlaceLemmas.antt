@@ -1,11 +1,16 @@
 -- Places among siblings: how a walk over the kids counts them.
-use Rattle.std.proofs.Common.{◌≡◌, ℕ, zero, suc, ◌+◌, ◌<◌, ◌≤◌, ◌==◌, Bool, true, false, ◌||◌, List, [], ◌∷◌, ◌++◌, length, take, drop, add-one, slice_index_or, if◌then◌else◌, ◌≢◌, ◌⊎◌, ⊎_elim, inl, inr, length-append, slice_set, get_or-set_same, get_or-set_other, refl, ap, sym, ◌∙◌, subst, arith}
+use Rattle.std.proofs.Common.{◌≡◌, ℕ, zero, suc, ◌+◌, ◌<◌, ◌≤◌, ◌==◌, Bool, true, false, ◌||◌, List, [], ◌∷◌, ◌++◌, length, take, drop, add-one, slice_index_or, Option, Some, if◌then◌else◌, ◌≢◌, ◌⊎◌, ⊎_elim, inl, inr, slice_set, get_or-set_same, get_or-set_other, refl, ap, sym, ◌∙◌, subst, arith}
 use Rattle.std.proofs.Math.Seq.{take-suc, drop-cons}
 use Rattle.std.proofs.Math.ListN.{take-append-drop}
 use Rattle.std.proofs.lemmas.Bool.{eqb-true, eq-eqb, false_from_ne_true}
 use Rattle.doc_tree.specs.Lists.{mem, occurs, Distinct}
-use Rattle.svrl_out.specs.Locations.{place_among}
-use Rattle.svrl_out.specs.inner.Places.{count_of}
+use Rattle.doc_tree.specs.Table.{Table, kind_of}
+use Rattle.doc_tree.specs.kind.Kind.{Kind}
+use Rattle.doc_tree.specs.kind.Kind.TheVariants.{Root, Element, Attribute, Text, Comment, Pi}
+use Rattle.doc_tree.specs.Kinds.{is_kind}
+use Rattle.svrl_out.specs.declared.places.Counts.{Counts}
+use Rattle.svrl_out.specs.Locations.{has_kind, place_among}
+use Rattle.svrl_out.specs.inner.Places.{count_of, count_for, ArePlaced}
 
 -- a number is itself
 same : (n : ℕ) → (n == n) ≡ true
@@ -65,10 +70,9 @@ place_among-at passes (x ∷ front) k back apart is = by_eq (k == x) refl (λ (l
     by_eq false e later apart = rw (swapped x k e) (omega (arith, later apart))
 
 -- the places when the kids in front were counted
-pub record Counted (passes : ℕ → Bool) (before kids front places : List ℕ) (count : ℕ) : Type 0 where
-  pub counted : count ≡ count_of passes front
-  pub few : count ≤ length front
-  pub placed : (kid : ℕ) → mem kid front ≡ true → passes kid ≡ true → slice_index_or places kid 0 ≡ place_among passes kid kids
+pub record Counted (T : Table) (before kids front places : List ℕ) (counts : Counts) : Type 0 where
+  pub counted : (kind : Kind) → count_for counts kind ≡ count_of (has_kind T kind) front
+  pub placed : ArePlaced T kids places front
   pub others : (n : ℕ) → mem n front ≡ false → slice_index_or places n 0 ≡ slice_index_or before n 0
 
 pub mem-append : (n : ℕ) (xs ys : List ℕ) → mem n (xs ++ ys) ≡ mem n xs || mem n ys
@@ -99,28 +103,42 @@ not_mem-last n k front is = by (mem n front) (n == k) refl refl (sym (mem-append
 apart : (n k : ℕ) (front : List ℕ) → mem n front ≡ true → mem k front ≡ false → n ≢ k
 apart n k front is no_k e = let t : mem k front ≡ true = rw (← e) is in absurd (cc)
 
--- a kid that does not pass changes nothing
-pub counted-skip : (passes : ℕ → Bool) (before kids front back places : List ℕ) (k count : ℕ) → kids ≡ front ++ k ∷ back → passes k ≡ false →
-    Counted passes before kids front places count → Counted passes before kids (front ++ k ∷ []) places count
-counted-skip passes before kids front back places k count split is so = record {
-  counted = so.counted ∙ sym (count_of-append passes front (k ∷ []) ∙ rw is (omega arith));
-  few = omega (arith, so.few, length-append front (k ∷ []));
-  placed = λ kid there passed. ⊎_elim (λ (e : mem kid front ≡ true). so.placed kid e passed) (λ (e : kid ≡ k). let bad : passes k ≡ true = rw (← e) passed in absurd (cc)) (mem-last kid k front there);
-  others = λ n away. so.others n (not_mem-last n k front away).0;
-}
+-- no more pass than there are
+count_of-few : (passes : ℕ → Bool) (ms : List ℕ) → count_of passes ms ≤ length ms
+count_of-few passes [] = omega arith
+count_of-few passes (m ∷ ms) = by (passes m) (count_of-few passes ms)
+  where
+    by : (b : Bool) → count_of passes ms ≤ length ms → (if b then 1 else 0) + count_of passes ms ≤ suc (length ms)
+    by true fewer = omega arith
+    by false fewer = omega arith
 
--- a kid that passes gets the next place
-pub counted-place : (passes : ℕ → Bool) (before kids front back places : List ℕ) (k count : ℕ) → kids ≡ front ++ k ∷ back → Distinct kids → k < length places → passes k ≡ true →
-    Counted passes before kids front places count → Counted passes before kids (front ++ k ∷ []) (slice_set places k (count + 1)) (count + 1)
-counted-place passes before kids front back places k count split once room is so =
+-- no more kids were counted than there are
+pub counted-few : (T : Table) (before kids front places : List ℕ) (counts : Counts) (kind : Kind) → Counted T before kids front places counts → count_for counts kind ≤ length front
+counted-few T before kids front places counts kind so = omega (arith, so.counted kind, count_of-few (has_kind T kind) front)
+
+-- a kind is itself
+same_kind : (kind : Kind) → is_kind kind (Some kind) ≡ true
+same_kind Root = refl
+same_kind Element = refl
+same_kind Attribute = refl
+same_kind Text = refl
+same_kind Comment = refl
+same_kind Pi = refl
+
+-- the next kid gets the next place among those of its kind
+pub counted-next : (T : Table) (before kids front back places : List ℕ) (k : ℕ) (kind : Kind) (counts more : Counts) → kids ≡ front ++ k ∷ back → Distinct kids → k < length places → kind_of T k ≡ Some kind →
+    ((other : Kind) → count_for more other ≡ (if is_kind other (Some kind) then 1 else 0) + count_for counts other) →
+    Counted T before kids front places counts → Counted T before kids (front ++ k ∷ []) (slice_set places k (count_for counts kind + 1)) more
+counted-next T before kids front back places k kind counts more split once room is next so =
     let no_k : mem k front ≡ false = not_in_front front k back (rw split at once) in
-    let at : place_among passes k kids ≡ count + 1 = rw split (place_among-at passes front k back no_k is ∙ ap (λ (n : ℕ). n + 1) (sym so.counted)) in
+    let passes : has_kind T kind k ≡ true = ap (is_kind kind) is ∙ same_kind kind in
+    let at : place_among (has_kind T kind) k kids ≡ count_for counts kind + 1 = rw split (place_among-at (has_kind T kind) front k back no_k passes ∙ ap (λ (n : ℕ). n + 1) (sym (so.counted kind))) in
     record {
-      counted = ap (λ (n : ℕ). n + 1) so.counted ∙ sym (count_of-append passes front (k ∷ []) ∙ rw is refl);
-      few = omega (arith, so.few, length-append front (k ∷ []));
-      placed = λ kid there passed. ⊎_elim
-          (λ (e : mem kid front ≡ true). let ne : kid ≢ k = apart kid k front e no_k in rw get_or-set_other (so.placed kid e passed))
-          (λ (e : kid ≡ k). rw (e, get_or-set_same) (sym at))
+      counted = λ other. (let one : count_of (has_kind T other) (k ∷ []) ≡ (if is_kind other (Some kind) then 1 else 0) + 0 = ap (λ (o : Option Kind). (if is_kind other o then 1 else 0) + 0) is in
+          omega (arith, next other, so.counted other, count_of-append (has_kind T other) front (k ∷ []), one));
+      placed = λ kid own there of. ⊎_elim
+          (λ (e : mem kid front ≡ true). let ne : kid ≢ k = apart kid k front e no_k in rw get_or-set_other (so.placed kid own e of))
+          (λ (e : kid ≡ k). let same : Some own ≡ Some kind = sym of ∙ (ap (kind_of T) e ∙ is) in let own_is : own ≡ kind = cc in rw (own_is, e, get_or-set_same) (sym at))
           (mem-last kid k front there);
       others = λ n away. let parts = not_mem-last n k front away in let ne : n ≢ k = parts.1 in rw get_or-set_other (so.others n parts.0);
     }

@@ -15,7 +15,7 @@ use Rattle.svrl_out.specs.declared.findings.Outcome.{Outcome}
 use Rattle.svrl_out.specs.declared.findings.Outcome.TheVariants.{NoRule, Fired}
 use Rattle.svrl_out.specs.declared.report.OutError.{OutError}
 use Rattle.svrl_out.specs.declared.report.OutError.TheVariants.{Failed, Memory}
-use Rattle.svrl_out.specs.Locations.{HasLocation, location_of}
+use Rattle.svrl_out.specs.Locations.{location_of}
 
 -- the lines one after another
 abbrev pub joined : List (List ℕ) → List ℕ
@@ -78,16 +78,16 @@ abbrev pub AreAssertsOf : List Assert → List Finding → Type 0
 AreAssertsOf asserts [] = Unit {0}
 AreAssertsOf asserts (finding ∷ findings) = (finding.assertion < length asserts) × AreAssertsOf asserts findings
 
--- an outcome of a node is there, what it names is in the plan, and a node that fired a rule has a location
-abbrev pub IsOutcomeOf : List Rule → Table → ℕ → Option Outcome → Type 0
-IsOutcomeOf plan T n None = ⊥
-IsOutcomeOf plan T n (Some NoRule) = Unit {0}
-IsOutcomeOf plan T n (Some (Fired rule findings)) =
-    (rule < length plan) × AreAssertsOf (slice_index_or plan rule no_rule).asserts findings × HasLocation T n
+-- an outcome is there, and what it names is in the plan
+abbrev pub IsOutcomeOf : List Rule → Option Outcome → Type 0
+IsOutcomeOf plan None = ⊥
+IsOutcomeOf plan (Some NoRule) = Unit {0}
+IsOutcomeOf plan (Some (Fired rule findings)) =
+    (rule < length plan) × AreAssertsOf (slice_index_or plan rule no_rule).asserts findings
 
 -- each live node has an outcome of the plan
 abbrev pub IsReportable : List Rule → Table → (ℕ → Option Outcome) → Type 0
-IsReportable plan T outcome = (n : ℕ) → mem n (order T) ≡ true → IsOutcomeOf plan T n (outcome n)
+IsReportable plan T outcome = (n : ℕ) → mem n (order T) ≡ true → IsOutcomeOf plan (outcome n)
 
 -- a report adds one to the sink's faults where a write failed, and none else
 abbrev pub faults_of_report : Result (Unit {0}) OutError → ℕ → ℕ

@@ -4,6 +4,7 @@
 mod findings;
 mod lines;
 mod locations;
+mod places;
 mod plan;
 mod report;
 

@@ -1,23 +1,22 @@
 //! Locations: for each node the XPath expression that finds it.
 
-ghost use Rattle.std.specs.Prelude.{◌≡◌, ℕ, ◌<◌, ◌++◌, Bool, true, false, Some, IfOk, OnOk, length, string_bytes, slice_index_or};
-ghost use Rattle.doc_tree.specs.Lists.{mem, Distinct};
-ghost use Rattle.doc_tree.specs.Table.{is_live};
-ghost use Rattle.doc_tree.specs.Walks.{above, order};
-ghost use Rattle.svrl_out.specs.Locations.{HasLocation, is_element_node, location_of, steps_of, place_among};
-ghost use Rattle.svrl_out.specs.inner.Places.{HoldsKids, HoldsPlaces, AreBelow, AreLive};
+ghost use Rattle.std.specs.Prelude.{◌≡◌, ◌++◌, true, IfOk, OnOk, string_bytes};
+ghost use Rattle.doc_tree.specs.Table.{is_live, name_of};
+ghost use Rattle.doc_tree.specs.Walks.{above};
+ghost use Rattle.svrl_out.specs.Locations.{location_of, steps_of, step_of, kid_step, attribute_step, named_step, quotes_of};
+ghost use Rattle.svrl_out.specs.inner.Places.{HoldsPlaces};
 
+use crate::places::places_of;
 use doc_tree::{Kind, NodeId, Tree};
 use sch_base::Text;
 use std::alloc::{AllocError, Global};
 use std::fmt::Write;
 
-/// The expression that finds the node, which is the root or an element, from the root (ISO/IEC 19757-3, annex on SVRL).
+/// The expression that finds the node from the root (ISO/IEC 19757-3, annex on SVRL).
 ///
 /// The time grows with the number of nodes.
 pub fn location(alloc: Global, tree: &Tree, n: NodeId) -> Result<Text, AllocError>
     requires live { is_live tree.now.nodes n ≡ true }
-    requires has_one { HasLocation tree.now.nodes n }
     ensures { IfOk result (λ location. location ≡ location_of tree.now.nodes n) }
 {
     let nodes = tree.nodes_in_order(alloc)?;
@@ -25,7 +24,7 @@ pub fn location(alloc: Global, tree: &Tree, n: NodeId) -> Result<Text, AllocErro
     location_by(alloc, tree, places.as_slice(), n)
 }
 
-/// The same, with the places of all elements at hand; the time grows with the node's depth.
+/// The same, with the places of all kids at hand; the time grows with the node's depth.
 pub(crate) fn location_by(
     alloc: Global,
     tree: &Tree,
@@ -51,99 +50,71 @@ fn push_steps(text: &mut String, tree: &Tree, places: &[usize], n: NodeId) -> Re
     ensures { OnOk result (string_bytes text.new ≡ string_bytes text.old ++ steps_of tree.now.nodes (above tree.now.nodes n)) }
 {
     tree.laws();
-    let Some(parent) = tree.parent(n) else {
-        return Ok(());
-    };
-    push_steps(text, tree, places, parent)?;
-    if is_element(tree, n) {
-        let place = places[n.index()];
-        write!(text, "/*[{place}]")?;
+    if let Some(parent) = tree.parent(n) {
+        push_steps(text, tree, places, parent)?;
+    }
+    push_step(text, tree, places, n)
+}
+
+/// Puts the step from the node's parent to the node at the end of the text.
+fn push_step(text: &mut String, tree: &Tree, places: &[usize], n: NodeId) -> Result<(), AllocError>
+    requires live { is_live tree.now.nodes n ≡ true }
+    requires places { HoldsPlaces tree.now.nodes places.now }
+    ensures { OnOk result (string_bytes text.new ≡ string_bytes text.old ++ step_of tree.now.nodes n) }
+{
+    tree.laws();
+    let place = places[n.index()];
+    match tree.kind(n) {
+        Kind::Root => Ok(()),
+        Kind::Element => push_kid_step(text, "*", place),
+        Kind::Attribute => push_attribute_step(text, tree, n),
+        Kind::Text => push_kid_step(text, "text()", place),
+        Kind::Comment => push_kid_step(text, "comment()", place),
+        Kind::Pi => push_kid_step(text, "processing-instruction()", place),
+    }
+}
+
+/// Puts the step to a kid, by the test of its kind and its place, at the end of the text.
+fn push_kid_step(text: &mut String, test: &str, place: usize) -> Result<(), AllocError>
+    ensures { OnOk result (string_bytes text.new ≡ string_bytes text.old ++ kid_step test.now place) }
+{
+    write!(text, "/{test}[{place}]")?;
+    Ok(())
+}
+
+/// Puts the step to an attribute at the end of the text.
+fn push_attribute_step(text: &mut String, tree: &Tree, n: NodeId) -> Result<(), AllocError>
+    ensures { OnOk result (string_bytes text.new ≡ string_bytes text.old ++ attribute_step (name_of tree.now.nodes n)) }
+{
+    match tree.name(n) {
+        Some(name) => push_named_step(text, tree.local_of(name), tree.uri_of(name)),
+        None => Ok(()),
+    }
+}
+
+/// Puts the step to an attribute of that local name and namespace, empty for none, at the end of the text.
+fn push_named_step(text: &mut String, local: &str, uri: &str) -> Result<(), AllocError>
+    ensures { OnOk result (string_bytes text.new ≡ string_bytes text.old ++ named_step local.now uri.now) }
+{
+    if uri.is_empty() {
+        write!(text, "/@{local}")?;
+    } else {
+        let quotes = quotes_of(uri);
+        write!(
+            text,
+            "/@*[local-name()='{local}' and namespace-uri()={quotes}{uri}{quotes}]"
+        )?;
     }
     Ok(())
 }
 
-/// The places of all elements among their element siblings, counted from 1, by node number.
-///
-/// The time grows with the number of nodes.
-pub(crate) fn places_of(
-    alloc: Global,
-    tree: &Tree,
-    nodes: &[NodeId],
-) -> Result<Vec<usize>, AllocError>
-    requires { nodes.now ≡ order tree.now.nodes }
-    ensures { IfOk result (λ places. HoldsPlaces tree.now.nodes places.items) }
+/// The quotes that a namespace stands in; none holds both kinds, since no attribute's value does that declares it.
+fn quotes_of(uri: &str) -> &'static str
+    ensures { result.now ≡ quotes_of uri.now }
 {
-    let mut places = vec![in alloc; 0; numbers_in(tree, nodes)]?;
-    fill_all(places.as_mut_slice(), tree, nodes);
-    Ok(places)
-}
-
-/// A number above those of all nodes of the tree.
-fn numbers_in(tree: &Tree, nodes: &[NodeId]) -> usize
-    requires { nodes.now ≡ order tree.now.nodes }
-    ensures { (n : ℕ) → is_live tree.now.nodes n ≡ true → n < result }
-{
-    tree.laws();
-    numbers_of(nodes)
-}
-
-/// Writes the places of all elements of the tree.
-fn fill_all(places: &mut [usize], tree: &Tree, nodes: &[NodeId])
-    requires order { nodes.now ≡ order tree.now.nodes }
-    requires room { (n : ℕ) → is_live tree.now.nodes n ≡ true → n < length places.old }
-    ensures { HoldsPlaces tree.now.nodes places.new }
-{
-    tree.laws();
-    fill_places(places, tree, nodes);
-}
-
-/// Writes the places of all kids of the nodes.
-fn fill_places(places: &mut [usize], tree: &Tree, nodes: &[NodeId])
-    requires order { nodes.now ≡ order tree.now.nodes }
-    requires room { AreBelow nodes.now (length places.old) }
-    ensures { (n : ℕ) → mem n nodes.now ≡ true → HoldsKids tree.now.nodes places.new n }
-{
-    tree.laws();
-    for n in nodes {
-        count_elements(places, tree, tree.kids(*n));
+    if uri.as_bytes().contains(&b'\'') {
+        "\""
+    } else {
+        "'"
     }
-}
-
-/// A number above those of all the nodes.
-fn numbers_of(nodes: &[NodeId]) -> usize
-    ensures { AreBelow nodes.now result }
-{
-    let mut numbers = 0;
-    for n in nodes {
-        if n.index() >= numbers {
-            numbers = n.index() + 1;
-        }
-    }
-    numbers
-}
-
-/// Writes the place of each element among the kids at its number.
-fn count_elements(places: &mut [usize], tree: &Tree, kids: &[NodeId])
-    requires room { AreBelow kids.now (length places.old) }
-    requires live { AreLive tree.now.nodes kids.now }
-    requires once { Distinct kids.now }
-    ensures placed { (kid : ℕ) → mem kid kids.now ≡ true → is_element_node tree.now.nodes kid ≡ true →
-        slice_index_or places.new kid 0 ≡ place_among (is_element_node tree.now.nodes) kid kids.now }
-    ensures others { (n : ℕ) → mem n kids.now ≡ false → slice_index_or places.new n 0 ≡ slice_index_or places.old n 0 }
-{
-    let mut count = 0;
-    for kid in kids {
-        if is_element(tree, *kid) {
-            count += 1;
-            places[kid.index()] = count;
-        }
-    }
-}
-
-/// Whether the node is an element.
-fn is_element(tree: &Tree, n: NodeId) -> bool
-    requires { is_live tree.now.nodes n ≡ true }
-    ensures { result ≡ is_element_node tree.now.nodes n }
-{
-    matches!(tree.kind(n), Kind::Element)
 }

@@ -13,7 +13,8 @@ ghost use Rattle.svrl_out.specs.inner.Printer.{IsReady, IsReportableAt, printed_
 
 use crate::findings::{Finding, FindingList, Findings, Outcome};
 use crate::lines::{Line, write_lines};
-use crate::locations::{location_by, places_of};
+use crate::locations::location_by;
+use crate::places::places_of;
 use crate::plan::{AssertList, Plan, Rule};
 use doc_tree::{NodeId, Tree};
 use pyx_write::write_end;
@@ -50,8 +51,7 @@ impl From<Failed> for OutError {
 
 /// Writes the report: each node in document order, with the rule that it fired and its findings.
 ///
-/// A node that fired a rule is the root or an element, since others have no location so far. After an error a front of
-/// the report was written. The time grows with the number of nodes, and for a node with
+/// After an error a front of the report was written. The time grows with the number of nodes, and for a node with
 /// findings with its depth and theirs.
 pub fn write_report<O: Sink>(
     alloc: Global,

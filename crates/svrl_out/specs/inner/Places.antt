@@ -1,18 +1,35 @@
--- The places of all elements, kept by node number while a report is written.
-use Rattle.std.specs.Prelude.{◌≡◌, ℕ, ◌+◌, ◌<◌, Bool, true, length, List, [], ◌∷◌, slice_index_or, if◌then◌else◌}
+-- The places of all kids among the siblings of their kind, kept by node number while a report is written.
+use Rattle.std.specs.Prelude.{◌≡◌, ℕ, ◌+◌, ◌<◌, Bool, true, length, List, [], ◌∷◌, Some, slice_index_or, if◌then◌else◌}
 use Rattle.doc_tree.specs.Lists.{mem}
-use Rattle.doc_tree.specs.Table.{Table, kids_of, is_live}
-use Rattle.svrl_out.specs.Locations.{is_element_node, place_among}
+use Rattle.doc_tree.specs.kind.Kind.{Kind}
+use Rattle.doc_tree.specs.kind.Kind.TheVariants.{Root, Element, Attribute, Text, Comment, Pi}
+use Rattle.doc_tree.specs.Kinds.{can_be_kid}
+use Rattle.doc_tree.specs.Table.{Table, kids_of, kind_of, is_live}
+use Rattle.svrl_out.specs.declared.places.Counts.{Counts}
+use Rattle.svrl_out.specs.Locations.{has_kind, place_among}
 
 -- how many of the nodes pass
 abbrev pub count_of : (ℕ → Bool) → List ℕ → ℕ
 count_of passes [] = 0
 count_of passes (m ∷ ms) = (if passes m then 1 else 0) + count_of passes ms
 
+-- how many kids of the kind were counted; the root and attributes are no kids
+abbrev pub count_for : Counts → Kind → ℕ
+count_for counts Root = 0
+count_for counts Element = counts.elements
+count_for counts Attribute = 0
+count_for counts Text = counts.texts
+count_for counts Comment = counts.comments
+count_for counts Pi = counts.instructions
+
+-- the table holds the place of each of the kids that is in the list
+abbrev pub ArePlaced : Table → List ℕ → List ℕ → List ℕ → Type 0
+ArePlaced T kids places some = (kid : ℕ) (kind : Kind) → mem kid some ≡ true → kind_of T kid ≡ Some kind →
+    slice_index_or places kid 0 ≡ place_among (has_kind T kind) kid kids
+
 -- the table holds the places of a node's kids
 abbrev pub HoldsKids : Table → List ℕ → ℕ → Type 0
-HoldsKids T places parent = (kid : ℕ) → mem kid (kids_of T parent) ≡ true → is_element_node T kid ≡ true →
-    slice_index_or places kid 0 ≡ place_among (is_element_node T) kid (kids_of T parent)
+HoldsKids T places parent = ArePlaced T (kids_of T parent) places (kids_of T parent)
 
 -- the numbers of the nodes are below a number
 abbrev pub AreBelow : List ℕ → ℕ → Type 0
@@ -22,7 +39,11 @@ AreBelow nodes count = (n : ℕ) → mem n nodes ≡ true → n < count
 abbrev pub AreLive : Table → List ℕ → Type 0
 AreLive T nodes = (n : ℕ) → mem n nodes ≡ true → is_live T n ≡ true
 
--- the table holds the places of all elements
+-- the nodes are of kinds that kids may have
+abbrev pub CanBeKids : Table → List ℕ → Type 0
+CanBeKids T nodes = (n : ℕ) → mem n nodes ≡ true → can_be_kid (kind_of T n) ≡ true
+
+-- the table holds the places of all kids
 pub record HoldsPlaces (T : Table) (places : List ℕ) : Type 0 where
   pub room : (n : ℕ) → is_live T n ≡ true → n < length places
   pub kids : (n : ℕ) → is_live T n ≡ true → HoldsKids T places n

@@ -6,7 +6,7 @@ use Rattle.svrl_out.specs.Findings.{outcome_at}
 use Rattle.svrl_out.specs.inner.Places.{HoldsPlaces}
 use Rattle.svrl_out.specs.Report.{node_lines, IsOutcomeOf}
 
--- the places of all elements are at hand, and the outcomes are of one pattern
+-- the places of all kids are at hand, and the outcomes are of one pattern
 pub record IsReady (p : Printer) : Type 0 where
   pub places : HoldsPlaces p.tree.now.nodes p.places.now
   pub patterns : p.found.now.patterns ≡ 1
@@ -14,7 +14,7 @@ pub record IsReady (p : Printer) : Type 0 where
 -- the node lives, and its outcome names what is in the plan
 pub record IsReportableAt (p : Printer) (n : ℕ) : Type 0 where
   pub live : is_live p.tree.now.nodes n ≡ true
-  pub outcome : IsOutcomeOf p.plan.now p.tree.now.nodes n (outcome_at p.found.now 0 n)
+  pub outcome : IsOutcomeOf p.plan.now (outcome_at p.found.now 0 n)
 
 -- the lines of a node
 abbrev pub printed_lines : Printer → ℕ → List ℕ

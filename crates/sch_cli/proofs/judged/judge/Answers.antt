@@ -6,16 +6,9 @@ use Rattle.svrl_out.specs.declared.findings.Outcome.{Outcome}
 use Rattle.svrl_out.specs.Findings.{outcome_at, Puts}
 use Rattle.sch_cli.specs.Outcomes.{outcome_of}
 use Rattle.sch_cli.specs.Found.{has_finding}
-use Rattle.sch_cli.proofs.OutcomeLemmas.{mem-item, mem_from_places, found-on, found-all, outcomes-on}
+use Rattle.sch_cli.proofs.OutcomeLemmas.{mem_from_places, found-on, found-all, outcomes-on}
 use Rattle.sch_cli.proofs.judged.judge.Goals as goal
 use Rattle.sch_cli.proofs.judged.judge.Goals.{then-judged, else-judged}
-
-pub outcome_of-requires-clause-live : goal.outcome_of-requires-clause-live
-outcome_of-requires-clause-live c =
-    let listed : c.as_slice-n-items.result.now ≡ order c.args.tree.now.nodes = cc (c.as_slice-n-items.ensures, c.in_ok-nodes.ensures) in
-    c.laws.ensures.ordered.live_in_order c.n-item.result
-    ∙ ap (λ (ns : List ℕ). mem c.n-item.result ns) (sym listed)
-    ∙ mem-item c.as_slice-n-items.result.now c.loop-n.n-index c.n-item.result c.n-item.result c.loop-n-test.true (sym c.n-item.is)
 
 pub loop-n-preserved : goal.loop-n-preserved
 loop-n-preserved c =

@@ -7,5 +7,5 @@ use Rattle.sch_cli.proofs.outcomes.has_attribute.Goals as goal
 pub loop-attribute-preserved : goal.loop-attribute-preserved
 loop-attribute-preserved c =
     any-on (is_named c.args.tree.now.nodes c.args.name.now) c.attrs-attribute-items.result.now c.loop-attribute.attribute-index
-    c.attribute-item.result c.attribute-item.result c.loop-attribute-test.true (sym c.attribute-item.is) (sym c.if-is_named.ensures)
+    c.attribute-item.result c.attribute-item.result c.loop-attribute-test.true (sym c.attribute-item.is) (sym c.if-has_name.ensures)
     ∙ c.loop-attribute.invariant

@@ -1,26 +1,24 @@
 -- The steps of the way up, then the node's own.
-use Rattle.std.proofs.Common.{append-nil, sym, ◌∙◌, ap, length, arith, string_bytes}
-use Rattle.svrl_out.proofs.LocationLemmas.{no_step, written_step, written_none}
+use Rattle.std.proofs.Common.{◌≡◌, ◌∙◌, ◌++◌, length, sym, ap, arith, append-nil, string_bytes}
+use Rattle.doc_tree.specs.Walks.{ancestors}
+use Rattle.svrl_out.specs.Locations.{step_of, steps_of}
+use Rattle.svrl_out.proofs.LocationLemmas.{step-behind, steps-above, no_steps-above}
 use Rattle.svrl_out.proofs.locations.+push_steps.Goals as goal
+use Rattle.svrl_out.proofs.locations.+push_steps.Goals.{in-Some+in_ok-push_steps, in_default}
 
-pub returns-in_default : goal.returns-in_default
-returns-in_default t c =
-    let laws = c.laws.ensures in
-    let none = sym c.parent.ensures ∙ c.in_default.is in
-    let step = no_step c.args.tree.now.nodes laws.well_formed laws.ways_up c.args.n c.requires.live none in
-    rw (laws.ways_up.no_ancestors c.args.n none, step) (sym (append-nil _))
+pub returns : goal.returns
+returns t c =
+    let T = c.args.tree.now.nodes in
+    let n = c.args.n in
+    let ways = c.laws.ensures.ways_up in
+    let before : string_bytes c.match-parent.text ≡ string_bytes c.args.text.now ++ steps_of T (ancestors T n) = elim c.match-parent.branch [
+      | in-Some+in_ok-push_steps w ↦ ap string_bytes w.text-is ∙ (w.in_ok-push_steps.ensures ∙ ap (λ steps. string_bytes c.args.text.now ++ steps) (steps-above T ways n w.in-Some.parent (sym w.in-Some.ensures)))
+      | in_default w ↦ ap string_bytes w.text-is ∙ sym (ap (λ steps. string_bytes c.args.text.now ++ steps) (no_steps-above T ways n (sym c.parent.ensures ∙ w.in_default.is)) ∙ append-nil (string_bytes c.args.text.now))
+    ] in
+    step-behind c.push_step.result _ _ _ (steps_of T (ancestors T n)) (step_of T n) before c.push_step.ensures
 
 pub push_steps-requires : goal.push_steps-requires
 push_steps-requires t c =
     let up = sym c.in-Some.ensures in
     let way = ap length (c.laws.ensures.ways_up.ancestors_at c.args.n c.in-Some.parent up) in
     (omega (arith, way), (c.laws.ensures.ways_up.parent_live c.args.n c.in-Some.parent up, c.requires.places))
-
-pub bounds-places-index : goal.bounds-places-index
-bounds-places-index t c = rw c.index.ensures.value (c.requires.places.room c.args.n c.requires.live)
-
-pub returns-in_ok-write : goal.returns-in_ok-write
-returns-in_ok-write t c = written_step c.args.tree.now.nodes c.args.places.now c.laws.ensures.well_formed c.laws.ensures.ways_up c.requires.places c.args.n c.in-Some.parent c.index.result c.index.ensures.value (sym c.in-Some.ensures) (sym c.if-is_element.ensures) (string_bytes c.args.text.now) (string_bytes c.push_steps.new.text) (string_bytes c.write.new.self) c.in_ok-write.ensures.bytes c.in_ok-push_steps.ensures
-
-pub returns-else-is_element : goal.returns-else-is_element
-returns-else-is_element t c = written_none c.args.tree.now.nodes c.laws.ensures.ways_up c.args.n c.in-Some.parent (sym c.in-Some.ensures) (sym c.if-is_element.ensures) (string_bytes c.args.text.now) (string_bytes c.push_steps.new.text) c.in_ok-push_steps.ensures

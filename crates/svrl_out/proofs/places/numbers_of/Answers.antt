@@ -3,8 +3,8 @@ use Rattle.std.proofs.Common.{◌+◌, take, arith}
 use Rattle.std.proofs.Math.Seq.{take_all}
 use Rattle.svrl_out.proofs.PlaceLemmas.{take-next}
 use Rattle.svrl_out.proofs.LocationLemmas.{below-next}
-use Rattle.svrl_out.proofs.locations.numbers_of.Goals as goal
-use Rattle.svrl_out.proofs.locations.numbers_of.Goals.{then-index-numbers, else-index-numbers}
+use Rattle.svrl_out.proofs.places.numbers_of.Goals as goal
+use Rattle.svrl_out.proofs.places.numbers_of.Goals.{then-index-numbers, else-index-numbers}
 
 pub loop-n-preserved : goal.loop-n-preserved
 loop-n-preserved c =

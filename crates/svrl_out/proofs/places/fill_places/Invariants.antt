@@ -2,7 +2,7 @@
 use Rattle.std.proofs.Common.{◌≡◌, ℕ, true, take}
 use Rattle.doc_tree.specs.Lists.{mem}
 use Rattle.svrl_out.specs.inner.Places.{HoldsKids}
-use Rattle.svrl_out.proofs.locations.fill_places.Given as goal
+use Rattle.svrl_out.proofs.places.fill_places.Given as goal
 
 abbrev pub invariant-loop-n : goal.invariant-loop-n
 invariant-loop-n l = (n : ℕ) → mem n (take l.n-index l.nodes) ≡ true → HoldsKids l.fn.tree.nodes l.places n
