@@ -1,6 +1,8 @@
 -- Attributes and ids, one after another.
-use Rattle.std.proofs.Common.{◌≡◌, ℕ, ◌+◌, ◌<◌, List, [], ◌∷◌, ◌++◌, Option, None, Some, map, take, length, slice_index_or, refl, sym, ap, ◌∙◌, append_assoc}
+use Rattle.std.proofs.Common.{◌≡◌, ℕ, ◌+◌, ◌<◌, List, [], ◌∷◌, ◌++◌, Option, None, Some, map, take, length, append-nil, slice_index_or, refl, sym, ap, ◌∙◌, append_assoc}
+use Rattle.std.specs.List.{flat_map}
 use Rattle.std.specs.Prelude.{codes}
+use Rattle.std.proofs.lemmas.Grind.{flat_map-append}
 use Rattle.sch_base.proofs.Lists.{take-next}
 use Rattle.pyx_core.specs.declared.event.Attr.{Attr}
 use Rattle.sch_flat.specs.declared.given.Given.{Given}
@@ -33,3 +35,11 @@ pub spaced_next : (first : List ℕ) (ids : List (List ℕ)) (i : ℕ) (x : List
     spaced (first ∷ take (i + 1) ids) ≡ spaced (first ∷ take i ids) ++ (codes " " ++ x)
 spaced_next first ids i x is less =
     ap (λ l. spaced (first ∷ l)) (take-next ids i x is less) ∙ spaced-append first x (take i ids)
+
+-- one item more
+pub flat_map_next : {A B : Type 0} (f : A → List B) (xs : List A) (i : ℕ) (x : A) → x ≡ slice_index_or xs i x → i < length xs →
+    flat_map f (take (i + 1) xs) ≡ flat_map f (take i xs) ++ f x
+flat_map_next f xs i x is less =
+    ap (flat_map f) (take-next xs i x is less)
+    ∙ flat_map-append f (take i xs) (x ∷ [])
+    ∙ ap (λ l. flat_map f (take i xs) ++ l) (append-nil (f x))

@@ -1,2 +1,3 @@
 pub mod FlatDocument
+pub mod FlatSize
 pub mod inner

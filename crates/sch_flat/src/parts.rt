@@ -138,7 +138,7 @@ impl InDocument for Diagnostic {
 }
 
 /// The name of an assert or a report.
-fn name_of(report: bool) -> &'static str
+pub(crate) fn name_of(report: bool) -> &'static str
     ensures { result.now ≡ assertion_name report }
 {
     if report { "sch:report" } else { "sch:assert" }

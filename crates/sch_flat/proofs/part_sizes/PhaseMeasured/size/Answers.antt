@@ -1,0 +1,11 @@
+-- What is held in two parts.
+use Rattle.std.proofs.Common.{◌++◌}
+use Rattle.std.specs.List.{flat_map}
+use Rattle.sch_flat.specs.FlatDocument.{let_events, active_events}
+use Rattle.sch_flat.proofs.part_sizes.PhaseMeasured.size.Goals as goal
+
+pub returns : goal.returns
+returns c =
+    let first = flat_map let_events c.args.self.now.lets in
+    let last = flat_map active_events c.args.self.now.active in
+    c.element_size.ensures (first ++ last) (c.then-held.ensures first last c.size_of_all.ensures c.size_of_all-2.ensures)

@@ -1,0 +1,19 @@
+-- One after another.
+use Rattle.std.proofs.Common.{◌++◌}
+use Rattle.std.specs.List.{flat_map}
+use Rattle.sch_flat.specs.FlatDocument.{diagnostics_events, let_events, ns_events, pattern_events, phase_events, title_events}
+use Rattle.sch_flat.proofs.schema_size.held_size.Goals as goal
+
+pub returns : goal.returns
+returns c =
+    let flat = c.args.flat.now in
+    let diagnostics = diagnostics_events flat.diagnostics in
+    let patterns = flat_map pattern_events flat.patterns in
+    let phases = flat_map phase_events flat.phases in
+    let lets = flat_map let_events flat.lets in
+    let ns = flat_map ns_events flat.ns in
+    let last = c.then-last.ensures patterns diagnostics c.size_of_all.ensures c.diagnostics_size.ensures in
+    let from_phases = c.then.ensures phases (patterns ++ diagnostics) c.size_of_all-3.ensures last in
+    let later = c.then-later.ensures lets (phases ++ (patterns ++ diagnostics)) c.size_of_all-2.ensures from_phases in
+    let from_ns = c.then-2.ensures ns (lets ++ (phases ++ (patterns ++ diagnostics))) c.size_of_all-4.ensures later in
+    c.then-3.ensures (title_events flat.head.title) (ns ++ (lets ++ (phases ++ (patterns ++ diagnostics)))) c.title_size.ensures from_ns

@@ -1,0 +1,69 @@
+//! How large the document of a schema is.
+
+ghost use Rattle.std.specs.Prelude.{◌≡◌};
+ghost use Rattle.sch_flat.specs.FlatDocument.{diagnostics_events, flat_events, held_events, title_events};
+ghost use Rattle.sch_flat.specs.FlatSize.{is_small, size_of};
+
+use crate::given::Given;
+use crate::lines::{characters_size, element_size};
+use crate::measured::size_of_all;
+use crate::size::FlatSize;
+use doc_tree::MAX_LIVE_NODES;
+use sch_base::{MAX_TEXT_BYTES, Text};
+use sch_model::{DiagnosticList, FlatSchema};
+
+/// How large the document of a schema is.
+///
+/// Time is linear in the schema, no memory is taken, and no event is made.
+pub fn flat_size(flat: &FlatSchema) -> FlatSize
+    ensures { result ≡ size_of (flat_events flat.now) }
+{
+    element_size(
+        "sch:schema",
+        &[
+            Given::Fixed("xmlns:sch", "http://purl.oclc.org/dsdl/schematron"),
+            Given::Fixed("queryBinding", "xslt"),
+            Given::IfAny("schemaVersion", &flat.head.schema_version),
+            Given::IfAny("defaultPhase", &flat.head.default_phase),
+        ],
+        held_size(flat),
+    )
+}
+
+/// Whether the document of a schema is within the limits of a document that is written: `MAX_TEXT_BYTES` bytes, and
+/// `MAX_LIVE_NODES` nodes with the root.
+pub fn fits(flat: &FlatSchema) -> bool
+    ensures { result ≡ is_small flat.now }
+{
+    let size = flat_size(flat);
+    size.bytes <= MAX_TEXT_BYTES as u64 && size.nodes < MAX_LIVE_NODES as u64
+}
+
+/// How large what the document element holds is.
+fn held_size(flat: &FlatSchema) -> FlatSize
+    ensures { result ≡ size_of (held_events flat.now) }
+{
+    let last = size_of_all(&flat.patterns).then(diagnostics_size(&flat.diagnostics));
+    let later = size_of_all(&flat.lets).then(size_of_all(&flat.phases).then(last));
+    title_size(&flat.head.title).then(size_of_all(&flat.ns).then(later))
+}
+
+/// How large the title is, where there is one.
+fn title_size(title: &Option<Text>) -> FlatSize
+    ensures { result ≡ size_of (title_events title.now) }
+{
+    match title {
+        Some(title) => element_size("sch:title", &[], characters_size(title)),
+        None => FlatSize::none(),
+    }
+}
+
+/// How large the diagnostics are, where there is one.
+fn diagnostics_size(diagnostics: &DiagnosticList) -> FlatSize
+    ensures { result ≡ size_of (diagnostics_events diagnostics.now) }
+{
+    if diagnostics.is_empty() {
+        return FlatSize::none();
+    }
+    element_size("sch:diagnostics", &[], size_of_all(diagnostics))
+}
