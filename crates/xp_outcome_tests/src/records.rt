@@ -66,3 +66,18 @@ fn slots_keep_their_values(rt: HostRuntime) -> Result<(), Fail> {
     }
     Ok(())
 }
+
+#[test]
+fn kept_reads_stand_once(rt: HostRuntime) -> Result<(), Fail> {
+    let alloc = rt.alloc();
+    let cell = Cell::Kids(Tree::new(alloc)?.root());
+    let mut reads = Recorder::new(alloc);
+    for _ in 0..40 {
+        reads.add(cell)?;
+    }
+    reads.settle();
+    assert_eq!(rt; reads.cells(), [cell].as_slice());
+    reads.clear();
+    assert!(rt; reads.cells().is_empty());
+    Ok(())
+}
