@@ -7,6 +7,7 @@ use Rattle.xp_tree.specs.declared.expr.Expr.{Expr}
 use Rattle.xp_tree.specs.declared.expr.Chain.{Chain, out-Chain}
 use Rattle.xp_tree.specs.declared.expr.Operand.{Operand, out-Operand}
 use Rattle.xp_tree.specs.declared.expr.Step.{Step, out-Step}
+use Rattle.xp_tree.specs.declared.terms.Level.{Level}
 use Rattle.xp_tree.specs.View.{tree_of, trees_seen, operands_seen, steps_seen}
 use Rattle.xp_tree.specs.Tree.{Steps, offset_of, operand, step}
 use Rattle.xp_tree.proofs.ViewLemmas.{of-operand, of-step}
@@ -27,8 +28,8 @@ use Rattle.xp_types.specs.declared.faults.CheckError.{CheckError}
 use Rattle.xp_types.specs.Scope.{Scope}
 use Rattle.xp_types.specs.inner.ChainParts.{first_in, rest_in}
 use Rattle.xp_types.specs.inner.Checked.{Checked, after, ChecksAs}
-use Rattle.xp_types.specs.Terms.{compared_with, comparison_of}
-use Rattle.xp_types.specs.inner.Typing.{typing, wanted, arith_of, axis_of, resolved, all_typed, operands_typed, comparands_typed, combinands_typed, steps_typed, chain_typed, comparison_typed, arithmetic_typed}
+use Rattle.xp_types.specs.Terms.{joins_nodes, comparison_of, arithmetic_of, compared_with}
+use Rattle.xp_types.specs.inner.Typing.{typing, wanted, or_refused, joined_typed, axis_of, resolved, all_typed, operands_typed, comparands_typed, combinands_typed, steps_typed, chain_typed, comparison_typed, arithmetic_typed}
 use Rattle.xp_types.proofs.Giving.{stops, gives-same, after-value}
 
 -- the expressions done, before those that come
@@ -51,16 +52,16 @@ steps_joined (typed_step a n ps ss) us = typed_step a n ps (steps_joined ss us)
 pub record ListOnto (S : Scope) (nodes : Bool) (es : List Expr) (i : ℕ) (done : List TypedExpr) : Type 0 where
   pub onto : all_typed S nodes (trees_seen es) ≡ after (all_typed S nodes (trees_seen (drop i es))) (λ ts. Ok (joined (typed_seen done) ts))
 
-pub record ChainOnto (S : Scope) (nodes : Bool) (c : Chain) (i : ℕ) (done : List TypedExpr) : Type 0 where
-  pub onto : chain_typed S nodes (first_in c) (rest_in c) ≡ after (operands_typed S nodes (operands_seen (drop i (out-Chain c).rest.items))) (λ ts. Ok (joined (typed_seen done) ts))
+pub record ChainOnto (S : Scope) (level : Level) (c : Chain) (i : ℕ) (done : List TypedExpr) : Type 0 where
+  pub onto : chain_typed S level (first_in c) (rest_in c) ≡ after (operands_typed S level (operands_seen (drop i (out-Chain c).rest.items))) (λ ts. Ok (joined (typed_seen done) ts))
 
-pub record ComparedOnto (S : Scope) (c : Chain) (i : ℕ) (t : TypedExpr) (done : List Compared) : Type 0 where
-  pub onto : comparison_typed S (first_in c) (rest_in c)
-      ≡ after (comparands_typed S (operands_seen (drop i (out-Chain c).rest.items))) (λ cs. Ok (compared_with (typed_tree_of t) (comparands_joined (compared_list_seen done) cs)))
+pub record ComparedOnto (S : Scope) (level : Level) (c : Chain) (i : ℕ) (t : TypedExpr) (done : List Compared) : Type 0 where
+  pub onto : comparison_typed S level (first_in c) (rest_in c)
+      ≡ after (comparands_typed S level (operands_seen (drop i (out-Chain c).rest.items))) (λ cs. Ok (compared_with (typed_tree_of t) (comparands_joined (compared_list_seen done) cs)))
 
-pub record CombinedOnto (S : Scope) (c : Chain) (i : ℕ) (t : TypedExpr) (done : List Combined) : Type 0 where
-  pub onto : arithmetic_typed S (first_in c) (rest_in c)
-      ≡ after (combinands_typed S (operands_seen (drop i (out-Chain c).rest.items))) (λ cs. Ok (arithmetic (typed_tree_of t) (combinands_joined (combined_list_seen done) cs)))
+pub record CombinedOnto (S : Scope) (level : Level) (c : Chain) (i : ℕ) (t : TypedExpr) (done : List Combined) : Type 0 where
+  pub onto : arithmetic_typed S level (first_in c) (rest_in c)
+      ≡ after (combinands_typed S level (operands_seen (drop i (out-Chain c).rest.items))) (λ cs. Ok (arithmetic (typed_tree_of t) (combinands_joined (combined_list_seen done) cs)))
 
 pub record StepsOnto (S : Scope) (ss : List Step) (i : ℕ) (done : List TypedStep) : Type 0 where
   pub onto : steps_typed S (steps_seen ss) ≡ after (steps_typed S (steps_seen (drop i ss))) (λ ts. Ok (steps_joined (typed_steps_seen done) ts))
@@ -169,89 +170,105 @@ list-ends S nodes es i v ge so = record {
 
 -- ---- the operands of a chain
 
-pub chain-begins : (S : Scope) (nodes : Bool) (c : Chain) (first : Expr) (t : TypedExpr) (empty all : List TypedExpr) → first ≡ (out-Chain c).first.value →
-    ChecksAs (after (typing S (tree_of first)) (wanted nodes (offset_of (tree_of first)))) typed_tree_of (Ok t) → empty ≡ [] → all ≡ empty ++ t ∷ [] → ChainOnto S nodes c 0 all
-chain-begins S nodes c first t empty all is g none grown =
-    subst (ChainOnto S nodes c 0) (sym (grown ∙ ap (λ l. l ++ t ∷ []) none)) (record {
-      onto = ap (λ e. chain_typed S nodes (tree_of e) (rest_in c)) (sym is)
-          ∙ after-value (after (typing S (tree_of first)) (wanted nodes (offset_of (tree_of first)))) (λ v. after (operands_typed S nodes (rest_in c)) (λ ts. Ok (typed v ts))) (typed_tree_of t) g.given;
+pub chain-begins : (S : Scope) (level : Level) (c : Chain) (first : Expr) (t : TypedExpr) (empty all : List TypedExpr) → first ≡ (out-Chain c).first.value →
+    ChecksAs (after (typing S (tree_of first)) (wanted (joins_nodes level) (offset_of (tree_of first)))) typed_tree_of (Ok t) → empty ≡ [] → all ≡ empty ++ t ∷ [] → ChainOnto S level c 0 all
+chain-begins S level c first t empty all is g none grown =
+    subst (ChainOnto S level c 0) (sym (grown ∙ ap (λ l. l ++ t ∷ []) none)) (record {
+      onto = ap (λ e. chain_typed S level (tree_of e) (rest_in c)) (sym is)
+          ∙ after-value (after (typing S (tree_of first)) (wanted (joins_nodes level) (offset_of (tree_of first)))) (λ v. after (operands_typed S level (rest_in c)) (λ ts. Ok (typed v ts))) (typed_tree_of t) g.given;
     })
 
-pub chain-fails : (S : Scope) (nodes : Bool) (c : Chain) (first : Expr) (x : CheckError) → first ≡ (out-Chain c).first.value →
-    ChecksAs (after (typing S (tree_of first)) (wanted nodes (offset_of (tree_of first)))) typed_tree_of (Err x) →
-    ChecksAs (chain_typed S nodes (first_in c) (rest_in c)) (λ (v : Vec TypedExpr Global). typed_seen v.items) (Err x)
-chain-fails S nodes c first x is g =
-    gives-same (ap (λ e. chain_typed S nodes (tree_of e) (rest_in c)) (sym is)) (stops _ _ typed_tree_of _ x g)
+pub chain-fails : (S : Scope) (level : Level) (c : Chain) (first : Expr) (x : CheckError) → first ≡ (out-Chain c).first.value →
+    ChecksAs (after (typing S (tree_of first)) (wanted (joins_nodes level) (offset_of (tree_of first)))) typed_tree_of (Err x) →
+    ChecksAs (chain_typed S level (first_in c) (rest_in c)) (λ (v : Vec TypedExpr Global). typed_seen v.items) (Err x)
+chain-fails S level c first x is g =
+    gives-same (ap (λ e. chain_typed S level (tree_of e) (rest_in c)) (sym is)) (stops _ _ typed_tree_of _ x g)
 
 -- the rest with the next operand in front
 operand-next : (os : List Operand) (i : ℕ) (o : Operand) → i < length os → o ≡ get_or os i o →
     operands_seen (drop i os) ≡ operand (out-Operand o).operator (out-Operand o).offset (tree_of (out-Operand o).expr) (operands_seen (drop (i + 1) os))
 operand-next os i o lt is = ap operands_seen (drop-at os i o lt is) ∙ of-operand o (operands_seen (drop (i + 1) os))
 
-chain-next : (S : Scope) (nodes : Bool) (c : Chain) (i : ℕ) (done : List TypedExpr) (o : Operand) → i < length (out-Chain c).rest.items → o ≡ get_or (out-Chain c).rest.items i o → ChainOnto S nodes c i done →
-    chain_typed S nodes (first_in c) (rest_in c)
-    ≡ after (operands_typed S nodes (operand (out-Operand o).operator (out-Operand o).offset (tree_of (out-Operand o).expr) (operands_seen (drop (i + 1) (out-Chain c).rest.items)))) (λ ts. Ok (joined (typed_seen done) ts))
-chain-next S nodes c i done o lt is so =
-    so.onto ∙ ap (λ r. after (operands_typed S nodes r) (λ ts. Ok (joined (typed_seen done) ts))) (operand-next (out-Chain c).rest.items i o lt is)
+chain-next : (S : Scope) (level : Level) (c : Chain) (i : ℕ) (done : List TypedExpr) (o : Operand) → i < length (out-Chain c).rest.items → o ≡ get_or (out-Chain c).rest.items i o → ChainOnto S level c i done →
+    chain_typed S level (first_in c) (rest_in c)
+    ≡ after (operands_typed S level (operand (out-Operand o).operator (out-Operand o).offset (tree_of (out-Operand o).expr) (operands_seen (drop (i + 1) (out-Chain c).rest.items)))) (λ ts. Ok (joined (typed_seen done) ts))
+chain-next S level c i done o lt is so =
+    so.onto ∙ ap (λ r. after (operands_typed S level r) (λ ts. Ok (joined (typed_seen done) ts))) (operand-next (out-Chain c).rest.items i o lt is)
 
-pub chain-goes : (S : Scope) (nodes : Bool) (c : Chain) (i : ℕ) (done all : List TypedExpr) (o : Operand) (t : TypedExpr) → i < length (out-Chain c).rest.items → o ≡ get_or (out-Chain c).rest.items i o → ChainOnto S nodes c i done →
-    ChecksAs (after (typing S (tree_of (out-Operand o).expr)) (wanted nodes (offset_of (tree_of (out-Operand o).expr)))) typed_tree_of (Ok t) → all ≡ done ++ t ∷ [] → ChainOnto S nodes c (i + 1) all
-chain-goes S nodes c i done all o t lt is so g grown = subst (ChainOnto S nodes c (i + 1)) (sym grown) (record {
-  onto = advance (chain_typed S nodes (first_in c) (rest_in c)) (after (typing S (tree_of (out-Operand o).expr)) (wanted nodes (offset_of (tree_of (out-Operand o).expr)))) (operands_typed S nodes (operands_seen (drop (i + 1) (out-Chain c).rest.items))) typed
-      (λ ts. joined (typed_seen done) ts) (λ ts. joined (typed_seen (done ++ t ∷ [])) ts) (typed_tree_of t) g.given (joined-push done t) (chain-next S nodes c i done o lt is so);
+pub chain-goes : (S : Scope) (level : Level) (c : Chain) (i : ℕ) (done all : List TypedExpr) (o : Operand) (t : TypedExpr) → i < length (out-Chain c).rest.items → o ≡ get_or (out-Chain c).rest.items i o → ChainOnto S level c i done →
+    ChecksAs (joined_typed S level (out-Operand o).operator (out-Operand o).offset (tree_of (out-Operand o).expr)) typed_tree_of (Ok t) → all ≡ done ++ t ∷ [] → ChainOnto S level c (i + 1) all
+chain-goes S level c i done all o t lt is so g grown = subst (ChainOnto S level c (i + 1)) (sym grown) (record {
+  onto = advance (chain_typed S level (first_in c) (rest_in c)) (joined_typed S level (out-Operand o).operator (out-Operand o).offset (tree_of (out-Operand o).expr)) (operands_typed S level (operands_seen (drop (i + 1) (out-Chain c).rest.items))) typed
+      (λ ts. joined (typed_seen done) ts) (λ ts. joined (typed_seen (done ++ t ∷ [])) ts) (typed_tree_of t) g.given (joined-push done t) (chain-next S level c i done o lt is so);
 })
 
-pub chain-stops : (S : Scope) (nodes : Bool) (c : Chain) (i : ℕ) (done : List TypedExpr) (o : Operand) (x : CheckError) → i < length (out-Chain c).rest.items → o ≡ get_or (out-Chain c).rest.items i o → ChainOnto S nodes c i done →
-    ChecksAs (after (typing S (tree_of (out-Operand o).expr)) (wanted nodes (offset_of (tree_of (out-Operand o).expr)))) typed_tree_of (Err x) →
-    ChecksAs (chain_typed S nodes (first_in c) (rest_in c)) (λ (v : Vec TypedExpr Global). typed_seen v.items) (Err x)
-chain-stops S nodes c i done o x lt is so g =
-    gives-same (chain-next S nodes c i done o lt is so) (stops _ _ (λ (u : TypedTrees). u) _ x (stops _ _ typed_tree_of (λ (u : TypedTrees). u) x g))
+pub chain-stops : (S : Scope) (level : Level) (c : Chain) (i : ℕ) (done : List TypedExpr) (o : Operand) (x : CheckError) → i < length (out-Chain c).rest.items → o ≡ get_or (out-Chain c).rest.items i o → ChainOnto S level c i done →
+    ChecksAs (joined_typed S level (out-Operand o).operator (out-Operand o).offset (tree_of (out-Operand o).expr)) typed_tree_of (Err x) →
+    ChecksAs (chain_typed S level (first_in c) (rest_in c)) (λ (v : Vec TypedExpr Global). typed_seen v.items) (Err x)
+chain-stops S level c i done o x lt is so g =
+    gives-same (chain-next S level c i done o lt is so) (stops _ _ (λ (u : TypedTrees). u) _ x (stops _ _ typed_tree_of (λ (u : TypedTrees). u) x g))
 
-pub chain-ends : (S : Scope) (nodes : Bool) (c : Chain) (i : ℕ) (v : Vec TypedExpr Global) → length (out-Chain c).rest.items ≤ i → ChainOnto S nodes c i v.items →
-    ChecksAs (chain_typed S nodes (first_in c) (rest_in c)) (λ (w : Vec TypedExpr Global). typed_seen w.items) (Ok v)
-chain-ends S nodes c i v ge so = record {
-  given = so.onto ∙ ap (λ r. after (operands_typed S nodes (operands_seen r)) (λ ts. Ok (joined (typed_seen v.items) ts))) (drop-end (out-Chain c).rest.items i ge)
+pub chain-ends : (S : Scope) (level : Level) (c : Chain) (i : ℕ) (v : Vec TypedExpr Global) → length (out-Chain c).rest.items ≤ i → ChainOnto S level c i v.items →
+    ChecksAs (chain_typed S level (first_in c) (rest_in c)) (λ (w : Vec TypedExpr Global). typed_seen w.items) (Ok v)
+chain-ends S level c i v ge so = record {
+  given = so.onto ∙ ap (λ r. after (operands_typed S level (operands_seen r)) (λ ts. Ok (joined (typed_seen v.items) ts))) (drop-end (out-Chain c).rest.items i ge)
       ∙ after-value (Ok no_typed) (λ ts. Ok (joined (typed_seen v.items) ts)) no_typed refl ∙ ap Ok (joined-none (typed_seen v.items));
 }
 
 -- ---- comparisons
 
-pub comparison-begins : (S : Scope) (c : Chain) (first : Expr) (t b : TypedExpr) (done : List Compared) → first ≡ (out-Chain c).first.value →
-    ChecksAs (typing S (tree_of first)) typed_tree_of (Ok t) → b ≡ t → done ≡ [] → ComparedOnto S c 0 b done
-comparison-begins S c first t b done is g boxed none =
-    subst (ComparedOnto S c 0 b) (sym none) (subst (λ u. ComparedOnto S c 0 u []) (sym boxed) (record {
-      onto = ap (λ e. comparison_typed S (tree_of e) (rest_in c)) (sym is)
-          ∙ after-value (typing S (tree_of first)) (λ v. after (comparands_typed S (rest_in c)) (λ cs. Ok (compared_with v cs))) (typed_tree_of t) g.given;
+pub comparison-begins : (S : Scope) (level : Level) (c : Chain) (first : Expr) (t b : TypedExpr) (done : List Compared) → first ≡ (out-Chain c).first.value →
+    ChecksAs (typing S (tree_of first)) typed_tree_of (Ok t) → b ≡ t → done ≡ [] → ComparedOnto S level c 0 b done
+comparison-begins S level c first t b done is g boxed none =
+    subst (ComparedOnto S level c 0 b) (sym none) (subst (λ u. ComparedOnto S level c 0 u []) (sym boxed) (record {
+      onto = ap (λ e. comparison_typed S level (tree_of e) (rest_in c)) (sym is)
+          ∙ after-value (typing S (tree_of first)) (λ v. after (comparands_typed S level (rest_in c)) (λ cs. Ok (compared_with v cs))) (typed_tree_of t) g.given;
     }))
 
-pub comparison-fails : (S : Scope) (c : Chain) (first : Expr) (x : CheckError) → first ≡ (out-Chain c).first.value →
-    ChecksAs (typing S (tree_of first)) typed_tree_of (Err x) → ChecksAs (comparison_typed S (first_in c) (rest_in c)) typed_tree_of (Err x)
-comparison-fails S c first x is g = gives-same (ap (λ e. comparison_typed S (tree_of e) (rest_in c)) (sym is)) (stops _ _ typed_tree_of _ x g)
+pub comparison-fails : (S : Scope) (level : Level) (c : Chain) (first : Expr) (x : CheckError) → first ≡ (out-Chain c).first.value →
+    ChecksAs (typing S (tree_of first)) typed_tree_of (Err x) → ChecksAs (comparison_typed S level (first_in c) (rest_in c)) typed_tree_of (Err x)
+comparison-fails S level c first x is g = gives-same (ap (λ e. comparison_typed S level (tree_of e) (rest_in c)) (sym is)) (stops _ _ typed_tree_of _ x g)
 
-comparison-next : (S : Scope) (c : Chain) (i : ℕ) (b : TypedExpr) (done : List Compared) (o : Operand) → i < length (out-Chain c).rest.items → o ≡ get_or (out-Chain c).rest.items i o → ComparedOnto S c i b done →
-    comparison_typed S (first_in c) (rest_in c)
-    ≡ after (comparands_typed S (operand (out-Operand o).operator (out-Operand o).offset (tree_of (out-Operand o).expr) (operands_seen (drop (i + 1) (out-Chain c).rest.items))))
+comparison-next : (S : Scope) (level : Level) (c : Chain) (i : ℕ) (b : TypedExpr) (done : List Compared) (o : Operand) → i < length (out-Chain c).rest.items → o ≡ get_or (out-Chain c).rest.items i o → ComparedOnto S level c i b done →
+    comparison_typed S level (first_in c) (rest_in c)
+    ≡ after (comparands_typed S level (operand (out-Operand o).operator (out-Operand o).offset (tree_of (out-Operand o).expr) (operands_seen (drop (i + 1) (out-Chain c).rest.items))))
     (λ cs. Ok (compared_with (typed_tree_of b) (comparands_joined (compared_list_seen done) cs)))
-comparison-next S c i b done o lt is so =
-    so.onto ∙ ap (λ r. after (comparands_typed S r) (λ cs. Ok (compared_with (typed_tree_of b) (comparands_joined (compared_list_seen done) cs)))) (operand-next (out-Chain c).rest.items i o lt is)
+comparison-next S level c i b done o lt is so =
+    so.onto ∙ ap (λ r. after (comparands_typed S level r) (λ cs. Ok (compared_with (typed_tree_of b) (comparands_joined (compared_list_seen done) cs)))) (operand-next (out-Chain c).rest.items i o lt is)
 
-pub comparison-goes : (S : Scope) (c : Chain) (i : ℕ) (b : TypedExpr) (done all : List Compared) (o : Operand) (k : Comparison) (t : TypedExpr) (d : Compared) → i < length (out-Chain c).rest.items → o ≡ get_or (out-Chain c).rest.items i o → ComparedOnto S c i b done →
-    ChecksAs (typing S (tree_of (out-Operand o).expr)) typed_tree_of (Ok t) → k ≡ comparison_of (out-Operand o).operator → ((r : Comparands) → compared_of d r ≡ comparand k (typed_tree_of t) r) → all ≡ done ++ d ∷ [] →
-    ComparedOnto S c (i + 1) b all
-comparison-goes S c i b done all o k t d lt is so g kept made grown = subst (ComparedOnto S c (i + 1) b) (sym grown) (record {
-  onto = advance (comparison_typed S (first_in c) (rest_in c)) (typing S (tree_of (out-Operand o).expr)) (comparands_typed S (operands_seen (drop (i + 1) (out-Chain c).rest.items))) (comparand (comparison_of (out-Operand o).operator))
+-- the operator is known
+comparison-known : (S : Scope) (level : Level) (c : Chain) (i : ℕ) (b : TypedExpr) (done : List Compared) (o : Operand) (k : Comparison) → i < length (out-Chain c).rest.items → o ≡ get_or (out-Chain c).rest.items i o → ComparedOnto S level c i b done →
+    ChecksAs (or_refused (comparison_of level (out-Operand o).operator) (out-Operand o).operator (out-Operand o).offset) (λ (a : Comparison). a) (Ok k) →
+    comparison_typed S level (first_in c) (rest_in c)
+    ≡ after (after (typing S (tree_of (out-Operand o).expr)) (λ t. after (comparands_typed S level (operands_seen (drop (i + 1) (out-Chain c).rest.items))) (λ cs. Ok (comparand k t cs))))
+    (λ cs. Ok (compared_with (typed_tree_of b) (comparands_joined (compared_list_seen done) cs)))
+comparison-known S level c i b done o k lt is so h =
+    comparison-next S level c i b done o lt is so
+    ∙ ap (λ m. after m (λ cs. Ok (compared_with (typed_tree_of b) (comparands_joined (compared_list_seen done) cs))))
+    (after-value (or_refused (comparison_of level (out-Operand o).operator) (out-Operand o).operator (out-Operand o).offset) (λ a. after (typing S (tree_of (out-Operand o).expr)) (λ t. after (comparands_typed S level (operands_seen (drop (i + 1) (out-Chain c).rest.items))) (λ cs. Ok (comparand a t cs)))) k h.given)
+
+pub comparison-goes : (S : Scope) (level : Level) (c : Chain) (i : ℕ) (b : TypedExpr) (done all : List Compared) (o : Operand) (k : Comparison) (t : TypedExpr) (d : Compared) → i < length (out-Chain c).rest.items → o ≡ get_or (out-Chain c).rest.items i o → ComparedOnto S level c i b done →
+    ChecksAs (or_refused (comparison_of level (out-Operand o).operator) (out-Operand o).operator (out-Operand o).offset) (λ (a : Comparison). a) (Ok k) → ChecksAs (typing S (tree_of (out-Operand o).expr)) typed_tree_of (Ok t) → ((r : Comparands) → compared_of d r ≡ comparand k (typed_tree_of t) r) → all ≡ done ++ d ∷ [] →
+    ComparedOnto S level c (i + 1) b all
+comparison-goes S level c i b done all o k t d lt is so h g made grown = subst (ComparedOnto S level c (i + 1) b) (sym grown) (record {
+  onto = advance (comparison_typed S level (first_in c) (rest_in c)) (typing S (tree_of (out-Operand o).expr)) (comparands_typed S level (operands_seen (drop (i + 1) (out-Chain c).rest.items))) (comparand k)
       (λ cs. compared_with (typed_tree_of b) (comparands_joined (compared_list_seen done) cs)) (λ cs. compared_with (typed_tree_of b) (comparands_joined (compared_list_seen (done ++ d ∷ [])) cs)) (typed_tree_of t) g.given
-      (λ cs. ap (compared_with (typed_tree_of b)) (ap (λ q. comparands_joined (compared_list_seen done) (comparand q (typed_tree_of t) cs)) (sym kept) ∙ comparands-push done k (typed_tree_of t) d cs made)) (comparison-next S c i b done o lt is so);
+      (λ cs. ap (compared_with (typed_tree_of b)) (comparands-push done k (typed_tree_of t) d cs made)) (comparison-known S level c i b done o k lt is so h);
 })
 
-pub comparison-stops : (S : Scope) (c : Chain) (i : ℕ) (b : TypedExpr) (done : List Compared) (o : Operand) (x : CheckError) → i < length (out-Chain c).rest.items → o ≡ get_or (out-Chain c).rest.items i o → ComparedOnto S c i b done →
-    ChecksAs (typing S (tree_of (out-Operand o).expr)) typed_tree_of (Err x) → ChecksAs (comparison_typed S (first_in c) (rest_in c)) typed_tree_of (Err x)
-comparison-stops S c i b done o x lt is so g = gives-same (comparison-next S c i b done o lt is so) (stops _ _ (λ (u : Comparands). u) typed_tree_of x (stops _ _ typed_tree_of (λ (u : Comparands). u) x g))
+pub comparison-refuses : (S : Scope) (level : Level) (c : Chain) (i : ℕ) (b : TypedExpr) (done : List Compared) (o : Operand) (x : CheckError) → i < length (out-Chain c).rest.items → o ≡ get_or (out-Chain c).rest.items i o → ComparedOnto S level c i b done →
+    ChecksAs (or_refused (comparison_of level (out-Operand o).operator) (out-Operand o).operator (out-Operand o).offset) (λ (a : Comparison). a) (Err x) → ChecksAs (comparison_typed S level (first_in c) (rest_in c)) typed_tree_of (Err x)
+comparison-refuses S level c i b done o x lt is so h = gives-same (comparison-next S level c i b done o lt is so) (stops _ _ (λ (u : Comparands). u) typed_tree_of x (stops _ _ (λ (a : Comparison). a) (λ (u : Comparands). u) x h))
 
-pub comparison-ends : (S : Scope) (c : Chain) (i : ℕ) (b : TypedExpr) (done : List Compared) → length (out-Chain c).rest.items ≤ i → ComparedOnto S c i b done →
-    comparison_typed S (first_in c) (rest_in c) ≡ Ok (compared_with (typed_tree_of b) (compared_list_seen done))
-comparison-ends S c i b done ge so =
-    so.onto ∙ ap (λ r. after (comparands_typed S (operands_seen r)) (λ cs. Ok (compared_with (typed_tree_of b) (comparands_joined (compared_list_seen done) cs)))) (drop-end (out-Chain c).rest.items i ge)
+pub comparison-stops : (S : Scope) (level : Level) (c : Chain) (i : ℕ) (b : TypedExpr) (done : List Compared) (o : Operand) (k : Comparison) (x : CheckError) → i < length (out-Chain c).rest.items → o ≡ get_or (out-Chain c).rest.items i o → ComparedOnto S level c i b done →
+    ChecksAs (or_refused (comparison_of level (out-Operand o).operator) (out-Operand o).operator (out-Operand o).offset) (λ (a : Comparison). a) (Ok k) → ChecksAs (typing S (tree_of (out-Operand o).expr)) typed_tree_of (Err x) → ChecksAs (comparison_typed S level (first_in c) (rest_in c)) typed_tree_of (Err x)
+comparison-stops S level c i b done o k x lt is so h g =
+    gives-same (comparison-known S level c i b done o k lt is so h) (stops _ _ (λ (u : Comparands). u) typed_tree_of x (stops _ _ typed_tree_of (λ (u : Comparands). u) x g))
+
+pub comparison-ends : (S : Scope) (level : Level) (c : Chain) (i : ℕ) (b : TypedExpr) (done : List Compared) → length (out-Chain c).rest.items ≤ i → ComparedOnto S level c i b done →
+    comparison_typed S level (first_in c) (rest_in c) ≡ Ok (compared_with (typed_tree_of b) (compared_list_seen done))
+comparison-ends S level c i b done ge so =
+    so.onto ∙ ap (λ r. after (comparands_typed S level (operands_seen r)) (λ cs. Ok (compared_with (typed_tree_of b) (comparands_joined (compared_list_seen done) cs)))) (drop-end (out-Chain c).rest.items i ge)
     ∙ after-value (Ok no_comparands) (λ cs. Ok (compared_with (typed_tree_of b) (comparands_joined (compared_list_seen done) cs))) no_comparands refl
     ∙ ap Ok (ap (compared_with (typed_tree_of b)) (comparands-none (compared_list_seen done)))
 
@@ -267,58 +284,58 @@ compared-on t (c ∷ cs) some =
 
 -- ---- operators on numbers
 
-pub arithmetic-begins : (S : Scope) (c : Chain) (first : Expr) (t b : TypedExpr) (done : List Combined) → first ≡ (out-Chain c).first.value →
-    ChecksAs (typing S (tree_of first)) typed_tree_of (Ok t) → b ≡ t → done ≡ [] → CombinedOnto S c 0 b done
-arithmetic-begins S c first t b done is g boxed none =
-    subst (CombinedOnto S c 0 b) (sym none) (subst (λ u. CombinedOnto S c 0 u []) (sym boxed) (record {
-      onto = ap (λ e. arithmetic_typed S (tree_of e) (rest_in c)) (sym is)
-          ∙ after-value (typing S (tree_of first)) (λ v. after (combinands_typed S (rest_in c)) (λ cs. Ok (arithmetic v cs))) (typed_tree_of t) g.given;
+pub arithmetic-begins : (S : Scope) (level : Level) (c : Chain) (first : Expr) (t b : TypedExpr) (done : List Combined) → first ≡ (out-Chain c).first.value →
+    ChecksAs (typing S (tree_of first)) typed_tree_of (Ok t) → b ≡ t → done ≡ [] → CombinedOnto S level c 0 b done
+arithmetic-begins S level c first t b done is g boxed none =
+    subst (CombinedOnto S level c 0 b) (sym none) (subst (λ u. CombinedOnto S level c 0 u []) (sym boxed) (record {
+      onto = ap (λ e. arithmetic_typed S level (tree_of e) (rest_in c)) (sym is)
+          ∙ after-value (typing S (tree_of first)) (λ v. after (combinands_typed S level (rest_in c)) (λ cs. Ok (arithmetic v cs))) (typed_tree_of t) g.given;
     }))
 
-pub arithmetic-fails : (S : Scope) (c : Chain) (first : Expr) (x : CheckError) → first ≡ (out-Chain c).first.value →
-    ChecksAs (typing S (tree_of first)) typed_tree_of (Err x) → ChecksAs (arithmetic_typed S (first_in c) (rest_in c)) typed_tree_of (Err x)
-arithmetic-fails S c first x is g = gives-same (ap (λ e. arithmetic_typed S (tree_of e) (rest_in c)) (sym is)) (stops _ _ typed_tree_of _ x g)
+pub arithmetic-fails : (S : Scope) (level : Level) (c : Chain) (first : Expr) (x : CheckError) → first ≡ (out-Chain c).first.value →
+    ChecksAs (typing S (tree_of first)) typed_tree_of (Err x) → ChecksAs (arithmetic_typed S level (first_in c) (rest_in c)) typed_tree_of (Err x)
+arithmetic-fails S level c first x is g = gives-same (ap (λ e. arithmetic_typed S level (tree_of e) (rest_in c)) (sym is)) (stops _ _ typed_tree_of _ x g)
 
-arithmetic-next : (S : Scope) (c : Chain) (i : ℕ) (b : TypedExpr) (done : List Combined) (o : Operand) → i < length (out-Chain c).rest.items → o ≡ get_or (out-Chain c).rest.items i o → CombinedOnto S c i b done →
-    arithmetic_typed S (first_in c) (rest_in c)
-    ≡ after (combinands_typed S (operand (out-Operand o).operator (out-Operand o).offset (tree_of (out-Operand o).expr) (operands_seen (drop (i + 1) (out-Chain c).rest.items))))
+arithmetic-next : (S : Scope) (level : Level) (c : Chain) (i : ℕ) (b : TypedExpr) (done : List Combined) (o : Operand) → i < length (out-Chain c).rest.items → o ≡ get_or (out-Chain c).rest.items i o → CombinedOnto S level c i b done →
+    arithmetic_typed S level (first_in c) (rest_in c)
+    ≡ after (combinands_typed S level (operand (out-Operand o).operator (out-Operand o).offset (tree_of (out-Operand o).expr) (operands_seen (drop (i + 1) (out-Chain c).rest.items))))
     (λ cs. Ok (arithmetic (typed_tree_of b) (combinands_joined (combined_list_seen done) cs)))
-arithmetic-next S c i b done o lt is so =
-    so.onto ∙ ap (λ r. after (combinands_typed S r) (λ cs. Ok (arithmetic (typed_tree_of b) (combinands_joined (combined_list_seen done) cs)))) (operand-next (out-Chain c).rest.items i o lt is)
+arithmetic-next S level c i b done o lt is so =
+    so.onto ∙ ap (λ r. after (combinands_typed S level r) (λ cs. Ok (arithmetic (typed_tree_of b) (combinands_joined (combined_list_seen done) cs)))) (operand-next (out-Chain c).rest.items i o lt is)
 
 -- the operator is known
-arithmetic-known : (S : Scope) (c : Chain) (i : ℕ) (b : TypedExpr) (done : List Combined) (o : Operand) (k : ArithOp) → i < length (out-Chain c).rest.items → o ≡ get_or (out-Chain c).rest.items i o → CombinedOnto S c i b done →
-    ChecksAs (arith_of (out-Operand o).operator (out-Operand o).offset) (λ (a : ArithOp). a) (Ok k) →
-    arithmetic_typed S (first_in c) (rest_in c)
-    ≡ after (after (typing S (tree_of (out-Operand o).expr)) (λ t. after (combinands_typed S (operands_seen (drop (i + 1) (out-Chain c).rest.items))) (λ cs. Ok (combinand k t cs))))
+arithmetic-known : (S : Scope) (level : Level) (c : Chain) (i : ℕ) (b : TypedExpr) (done : List Combined) (o : Operand) (k : ArithOp) → i < length (out-Chain c).rest.items → o ≡ get_or (out-Chain c).rest.items i o → CombinedOnto S level c i b done →
+    ChecksAs (or_refused (arithmetic_of level (out-Operand o).operator) (out-Operand o).operator (out-Operand o).offset) (λ (a : ArithOp). a) (Ok k) →
+    arithmetic_typed S level (first_in c) (rest_in c)
+    ≡ after (after (typing S (tree_of (out-Operand o).expr)) (λ t. after (combinands_typed S level (operands_seen (drop (i + 1) (out-Chain c).rest.items))) (λ cs. Ok (combinand k t cs))))
     (λ cs. Ok (arithmetic (typed_tree_of b) (combinands_joined (combined_list_seen done) cs)))
-arithmetic-known S c i b done o k lt is so h =
-    arithmetic-next S c i b done o lt is so
+arithmetic-known S level c i b done o k lt is so h =
+    arithmetic-next S level c i b done o lt is so
     ∙ ap (λ m. after m (λ cs. Ok (arithmetic (typed_tree_of b) (combinands_joined (combined_list_seen done) cs))))
-    (after-value (arith_of (out-Operand o).operator (out-Operand o).offset) (λ a. after (typing S (tree_of (out-Operand o).expr)) (λ t. after (combinands_typed S (operands_seen (drop (i + 1) (out-Chain c).rest.items))) (λ cs. Ok (combinand a t cs)))) k h.given)
+    (after-value (or_refused (arithmetic_of level (out-Operand o).operator) (out-Operand o).operator (out-Operand o).offset) (λ a. after (typing S (tree_of (out-Operand o).expr)) (λ t. after (combinands_typed S level (operands_seen (drop (i + 1) (out-Chain c).rest.items))) (λ cs. Ok (combinand a t cs)))) k h.given)
 
-pub arithmetic-goes : (S : Scope) (c : Chain) (i : ℕ) (b : TypedExpr) (done all : List Combined) (o : Operand) (k : ArithOp) (t : TypedExpr) (d : Combined) → i < length (out-Chain c).rest.items → o ≡ get_or (out-Chain c).rest.items i o → CombinedOnto S c i b done →
-    ChecksAs (arith_of (out-Operand o).operator (out-Operand o).offset) (λ (a : ArithOp). a) (Ok k) → ChecksAs (typing S (tree_of (out-Operand o).expr)) typed_tree_of (Ok t) → ((r : Combinands) → combined_of d r ≡ combinand k (typed_tree_of t) r) → all ≡ done ++ d ∷ [] →
-    CombinedOnto S c (i + 1) b all
-arithmetic-goes S c i b done all o k t d lt is so h g made grown = subst (CombinedOnto S c (i + 1) b) (sym grown) (record {
-  onto = advance (arithmetic_typed S (first_in c) (rest_in c)) (typing S (tree_of (out-Operand o).expr)) (combinands_typed S (operands_seen (drop (i + 1) (out-Chain c).rest.items))) (combinand k)
+pub arithmetic-goes : (S : Scope) (level : Level) (c : Chain) (i : ℕ) (b : TypedExpr) (done all : List Combined) (o : Operand) (k : ArithOp) (t : TypedExpr) (d : Combined) → i < length (out-Chain c).rest.items → o ≡ get_or (out-Chain c).rest.items i o → CombinedOnto S level c i b done →
+    ChecksAs (or_refused (arithmetic_of level (out-Operand o).operator) (out-Operand o).operator (out-Operand o).offset) (λ (a : ArithOp). a) (Ok k) → ChecksAs (typing S (tree_of (out-Operand o).expr)) typed_tree_of (Ok t) → ((r : Combinands) → combined_of d r ≡ combinand k (typed_tree_of t) r) → all ≡ done ++ d ∷ [] →
+    CombinedOnto S level c (i + 1) b all
+arithmetic-goes S level c i b done all o k t d lt is so h g made grown = subst (CombinedOnto S level c (i + 1) b) (sym grown) (record {
+  onto = advance (arithmetic_typed S level (first_in c) (rest_in c)) (typing S (tree_of (out-Operand o).expr)) (combinands_typed S level (operands_seen (drop (i + 1) (out-Chain c).rest.items))) (combinand k)
       (λ cs. arithmetic (typed_tree_of b) (combinands_joined (combined_list_seen done) cs)) (λ cs. arithmetic (typed_tree_of b) (combinands_joined (combined_list_seen (done ++ d ∷ [])) cs)) (typed_tree_of t) g.given
-      (λ cs. ap (arithmetic (typed_tree_of b)) (combinands-push done k (typed_tree_of t) d cs made)) (arithmetic-known S c i b done o k lt is so h);
+      (λ cs. ap (arithmetic (typed_tree_of b)) (combinands-push done k (typed_tree_of t) d cs made)) (arithmetic-known S level c i b done o k lt is so h);
 })
 
-pub arithmetic-refuses : (S : Scope) (c : Chain) (i : ℕ) (b : TypedExpr) (done : List Combined) (o : Operand) (x : CheckError) → i < length (out-Chain c).rest.items → o ≡ get_or (out-Chain c).rest.items i o → CombinedOnto S c i b done →
-    ChecksAs (arith_of (out-Operand o).operator (out-Operand o).offset) (λ (a : ArithOp). a) (Err x) → ChecksAs (arithmetic_typed S (first_in c) (rest_in c)) typed_tree_of (Err x)
-arithmetic-refuses S c i b done o x lt is so h = gives-same (arithmetic-next S c i b done o lt is so) (stops _ _ (λ (u : Combinands). u) typed_tree_of x (stops _ _ (λ (a : ArithOp). a) (λ (u : Combinands). u) x h))
+pub arithmetic-refuses : (S : Scope) (level : Level) (c : Chain) (i : ℕ) (b : TypedExpr) (done : List Combined) (o : Operand) (x : CheckError) → i < length (out-Chain c).rest.items → o ≡ get_or (out-Chain c).rest.items i o → CombinedOnto S level c i b done →
+    ChecksAs (or_refused (arithmetic_of level (out-Operand o).operator) (out-Operand o).operator (out-Operand o).offset) (λ (a : ArithOp). a) (Err x) → ChecksAs (arithmetic_typed S level (first_in c) (rest_in c)) typed_tree_of (Err x)
+arithmetic-refuses S level c i b done o x lt is so h = gives-same (arithmetic-next S level c i b done o lt is so) (stops _ _ (λ (u : Combinands). u) typed_tree_of x (stops _ _ (λ (a : ArithOp). a) (λ (u : Combinands). u) x h))
 
-pub arithmetic-stops : (S : Scope) (c : Chain) (i : ℕ) (b : TypedExpr) (done : List Combined) (o : Operand) (k : ArithOp) (x : CheckError) → i < length (out-Chain c).rest.items → o ≡ get_or (out-Chain c).rest.items i o → CombinedOnto S c i b done →
-    ChecksAs (arith_of (out-Operand o).operator (out-Operand o).offset) (λ (a : ArithOp). a) (Ok k) → ChecksAs (typing S (tree_of (out-Operand o).expr)) typed_tree_of (Err x) → ChecksAs (arithmetic_typed S (first_in c) (rest_in c)) typed_tree_of (Err x)
-arithmetic-stops S c i b done o k x lt is so h g =
-    gives-same (arithmetic-known S c i b done o k lt is so h) (stops _ _ (λ (u : Combinands). u) typed_tree_of x (stops _ _ typed_tree_of (λ (u : Combinands). u) x g))
+pub arithmetic-stops : (S : Scope) (level : Level) (c : Chain) (i : ℕ) (b : TypedExpr) (done : List Combined) (o : Operand) (k : ArithOp) (x : CheckError) → i < length (out-Chain c).rest.items → o ≡ get_or (out-Chain c).rest.items i o → CombinedOnto S level c i b done →
+    ChecksAs (or_refused (arithmetic_of level (out-Operand o).operator) (out-Operand o).operator (out-Operand o).offset) (λ (a : ArithOp). a) (Ok k) → ChecksAs (typing S (tree_of (out-Operand o).expr)) typed_tree_of (Err x) → ChecksAs (arithmetic_typed S level (first_in c) (rest_in c)) typed_tree_of (Err x)
+arithmetic-stops S level c i b done o k x lt is so h g =
+    gives-same (arithmetic-known S level c i b done o k lt is so h) (stops _ _ (λ (u : Combinands). u) typed_tree_of x (stops _ _ typed_tree_of (λ (u : Combinands). u) x g))
 
-pub arithmetic-ends : (S : Scope) (c : Chain) (i : ℕ) (b : TypedExpr) (done : List Combined) (e : TypedExpr) → length (out-Chain c).rest.items ≤ i → CombinedOnto S c i b done →
-    typed_tree_of e ≡ arithmetic (typed_tree_of b) (combined_list_seen done) → ChecksAs (arithmetic_typed S (first_in c) (rest_in c)) typed_tree_of (Ok e)
-arithmetic-ends S c i b done e ge so made = record {
-  given = so.onto ∙ ap (λ r. after (combinands_typed S (operands_seen r)) (λ cs. Ok (arithmetic (typed_tree_of b) (combinands_joined (combined_list_seen done) cs)))) (drop-end (out-Chain c).rest.items i ge)
+pub arithmetic-ends : (S : Scope) (level : Level) (c : Chain) (i : ℕ) (b : TypedExpr) (done : List Combined) (e : TypedExpr) → length (out-Chain c).rest.items ≤ i → CombinedOnto S level c i b done →
+    typed_tree_of e ≡ arithmetic (typed_tree_of b) (combined_list_seen done) → ChecksAs (arithmetic_typed S level (first_in c) (rest_in c)) typed_tree_of (Ok e)
+arithmetic-ends S level c i b done e ge so made = record {
+  given = so.onto ∙ ap (λ r. after (combinands_typed S level (operands_seen r)) (λ cs. Ok (arithmetic (typed_tree_of b) (combinands_joined (combined_list_seen done) cs)))) (drop-end (out-Chain c).rest.items i ge)
       ∙ after-value (Ok no_combinands) (λ cs. Ok (arithmetic (typed_tree_of b) (combinands_joined (combined_list_seen done) cs))) no_combinands refl
       ∙ ap Ok (ap (arithmetic (typed_tree_of b)) (combinands-none (combined_list_seen done)) ∙ sym made);
 }

@@ -5,7 +5,9 @@ use Rattle.xp_types.specs.declared.faults.TypeKind.TheVariants as kinds
 use Rattle.std.proofs.Common.{◌≡◌, ◌≤◌, ℕ, suc, Bool, true, false, cond, Ok, Err, Option, Some, None, List, [], ◌∷◌, nat_le, pos, ◌≤ℤ◌, refl, sym, ap, ◌∙◌, subst, arith}
 use Rattle.std.proofs.lemmas.Int.{ints}
 use Rattle.std.proofs.lemmas.Bool.Decides.{nat_tests}
+use Rattle.xp_tree.specs.declared.terms.Level.{Level}
 use Rattle.xp_tree.specs.declared.terms.Level.TheVariants as levels
+use Rattle.xp_tree.specs.declared.terms.Operator.{Operator}
 use Rattle.xp_tree.specs.Tree.{Tree, PathStart, Steps, Operands, Trees, chain, negated, path, filtered, variable, literal, number, call, root, here, from, no_steps, step, no_operands, operand, no_trees, tree, offset_of}
 use Rattle.xp_tree.specs.PatternTree.{PathTree, StepTree}
 use Rattle.xp_tree.specs.declared.numbers.TheConstants.{MAX_WHOLE}
@@ -19,8 +21,8 @@ use Rattle.xp_types.specs.declared.env.Variable.{Variable}
 use Rattle.xp_types.specs.Scope.{Scope, variable_of}
 use Rattle.xp_types.specs.FunctionNames.{function_named, is_left_out}
 use Rattle.xp_types.specs.inner.Checked.{Checked, after}
-use Rattle.xp_types.specs.Terms.{compared_with, number_of_trees, has_point, pattern_axis}
-use Rattle.xp_types.specs.inner.Typing.{typing, wanted, node_set_at, all_typed, operands_typed, comparands_typed, combinands_typed, steps_typed, place_typed, called, function_called, variable_typed, axis_of, resolved, arith_of, pattern_start, pattern_steps_typed, pattern_typing}
+use Rattle.xp_types.specs.Terms.{compared_with, number_of_trees, has_point, pattern_axis, joins, joins_nodes, comparison_of, arithmetic_of}
+use Rattle.xp_types.specs.inner.Typing.{typing, wanted, node_set_at, all_typed, operands_typed, comparands_typed, combinands_typed, steps_typed, place_typed, called, function_called, variable_typed, axis_of, resolved, pattern_start, pattern_steps_typed, pattern_typing, or_refused, if_joins, joined_typed}
 
 -- a chain of checks gave a value: its parts did
 pub record Went {A B : Type 0} (m : Checked A) (f : A → Checked B) (b : B) : Type 0 where
@@ -35,6 +37,10 @@ went (Err e) f b h = absurd (cc)
 
 pub same : {A : Type 0} (a b : A) → ◌≡◌ {A = Checked A} (Ok a) (Ok b) → a ≡ b
 same a b h = cc
+
+joined-value : {A : Type 0} (b : Bool) (operator : Operator) (offset : ℕ) (m : Checked A) (a : A) → if_joins b operator offset m ≡ Ok a → m ≡ Ok a
+joined-value true operator offset m a h = h
+joined-value false operator offset m a h = absurd (cc)
 
 pub record Wanted (nodes : Bool) (u t : TypedTree) : Type 0 where
   pub is : u ≡ t
@@ -109,34 +115,34 @@ mutual
   pub typing-sound : (S : Scope) (e : Tree) (t : TypedTree) → typing S e ≡ Ok t → WellTyped S.in_pattern t
   typing-sound S (chain levels.Or offset first rest) t h =
       let a = went (typing S first) _ t h in
-      let b = went (operands_typed S false rest) _ t a.next in
-      subst (WellTyped S.in_pattern) (same _ t b.next) (typing-sound S first a.value a.had, tt, operands-sound S false rest b.value b.had)
+      let b = went (operands_typed S levels.Or rest) _ t a.next in
+      subst (WellTyped S.in_pattern) (same _ t b.next) (typing-sound S first a.value a.had, tt, operands-sound S levels.Or rest b.value b.had)
   typing-sound S (chain levels.And offset first rest) t h =
       let a = went (typing S first) _ t h in
-      let b = went (operands_typed S false rest) _ t a.next in
-      subst (WellTyped S.in_pattern) (same _ t b.next) (typing-sound S first a.value a.had, tt, operands-sound S false rest b.value b.had)
+      let b = went (operands_typed S levels.And rest) _ t a.next in
+      subst (WellTyped S.in_pattern) (same _ t b.next) (typing-sound S first a.value a.had, tt, operands-sound S levels.And rest b.value b.had)
   typing-sound S (chain levels.Equal offset first rest) t h =
       let a = went (typing S first) _ t h in
-      let b = went (comparands_typed S rest) _ t a.next in
-      subst (WellTyped S.in_pattern) (same _ t b.next) (compared-sound S.in_pattern a.value b.value (typing-sound S first a.value a.had) (comparands-sound S rest b.value b.had))
+      let b = went (comparands_typed S levels.Equal rest) _ t a.next in
+      subst (WellTyped S.in_pattern) (same _ t b.next) (compared-sound S.in_pattern a.value b.value (typing-sound S first a.value a.had) (comparands-sound S levels.Equal rest b.value b.had))
   typing-sound S (chain levels.Rel offset first rest) t h =
       let a = went (typing S first) _ t h in
-      let b = went (comparands_typed S rest) _ t a.next in
-      subst (WellTyped S.in_pattern) (same _ t b.next) (compared-sound S.in_pattern a.value b.value (typing-sound S first a.value a.had) (comparands-sound S rest b.value b.had))
+      let b = went (comparands_typed S levels.Rel rest) _ t a.next in
+      subst (WellTyped S.in_pattern) (same _ t b.next) (compared-sound S.in_pattern a.value b.value (typing-sound S first a.value a.had) (comparands-sound S levels.Rel rest b.value b.had))
   typing-sound S (chain levels.Sum offset first rest) t h =
       let a = went (typing S first) _ t h in
-      let b = went (combinands_typed S rest) _ t a.next in
-      subst (WellTyped S.in_pattern) (same _ t b.next) (typing-sound S first a.value a.had, combinands-sound S rest b.value b.had)
+      let b = went (combinands_typed S levels.Sum rest) _ t a.next in
+      subst (WellTyped S.in_pattern) (same _ t b.next) (typing-sound S first a.value a.had, combinands-sound S levels.Sum rest b.value b.had)
   typing-sound S (chain levels.Prod offset first rest) t h =
       let a = went (typing S first) _ t h in
-      let b = went (combinands_typed S rest) _ t a.next in
-      subst (WellTyped S.in_pattern) (same _ t b.next) (typing-sound S first a.value a.had, combinands-sound S rest b.value b.had)
+      let b = went (combinands_typed S levels.Prod rest) _ t a.next in
+      subst (WellTyped S.in_pattern) (same _ t b.next) (typing-sound S first a.value a.had, combinands-sound S levels.Prod rest b.value b.had)
   typing-sound S (chain levels.Union offset first rest) t h =
       let a = went (after (typing S first) (wanted true (offset_of first))) _ t h in
-      let b = went (operands_typed S true rest) _ t a.next in
+      let b = went (operands_typed S levels.Union rest) _ t a.next in
       let k = went (typing S first) _ a.value a.had in
       let w = wanted-sound true (offset_of first) k.value a.value k.next in
-      subst (WellTyped S.in_pattern) (same _ t b.next) (subst (WellTyped S.in_pattern) w.is (typing-sound S first k.value k.had), w.kind, operands-sound S true rest b.value b.had)
+      subst (WellTyped S.in_pattern) (same _ t b.next) (subst (WellTyped S.in_pattern) w.is (typing-sound S first k.value k.had), w.kind, operands-sound S levels.Union rest b.value b.had)
   typing-sound S (negated offset count e) t h =
       let a = went (typing S e) _ t h in subst (WellTyped S.in_pattern) (same _ t a.next) (typing-sound S e a.value a.had)
   typing-sound S (path offset start steps) t h =
@@ -177,29 +183,30 @@ mutual
       let l = went (steps_typed S rest) _ ts k.next in
       subst (StepsTyped S.in_pattern) (same _ ts l.next) (all-sound S false predicates k.value k.had, steps-sound S rest l.value l.had)
 
-  operands-sound : (S : Scope) (nodes : Bool) (os : Operands) (ts : TypedTrees) → operands_typed S nodes os ≡ Ok ts → AllTyped S.in_pattern nodes ts
-  operands-sound S nodes no_operands ts h = subst (AllTyped S.in_pattern nodes) (same _ ts h) tt
-  operands-sound S nodes (operand o at e rest) ts h =
-      let a = went (after (typing S e) (wanted nodes (offset_of e))) _ ts h in
-      let b = went (operands_typed S nodes rest) _ ts a.next in
-      let k = went (typing S e) _ a.value a.had in
-      let w = wanted-sound nodes (offset_of e) k.value a.value k.next in
-      subst (AllTyped S.in_pattern nodes) (same _ ts b.next) (subst (WellTyped S.in_pattern) w.is (typing-sound S e k.value k.had), w.kind, operands-sound S nodes rest b.value b.had)
+  operands-sound : (S : Scope) (level : Level) (os : Operands) (ts : TypedTrees) → operands_typed S level os ≡ Ok ts → AllTyped S.in_pattern (joins_nodes level) ts
+  operands-sound S level no_operands ts h = subst (AllTyped S.in_pattern (joins_nodes level)) (same _ ts h) tt
+  operands-sound S level (operand o at e rest) ts h =
+      let a = went (joined_typed S level o at e) _ ts h in
+      let b = went (operands_typed S level rest) _ ts a.next in
+      let k = went (typing S e) _ a.value (joined-value (joins level o) o at _ a.value a.had) in
+      let w = wanted-sound (joins_nodes level) (offset_of e) k.value a.value k.next in
+      subst (AllTyped S.in_pattern (joins_nodes level)) (same _ ts b.next) (subst (WellTyped S.in_pattern) w.is (typing-sound S e k.value k.had), w.kind, operands-sound S level rest b.value b.had)
 
-  comparands-sound : (S : Scope) (os : Operands) (cs : Comparands) → comparands_typed S os ≡ Ok cs → ComparandsTyped S.in_pattern cs
-  comparands-sound S no_operands cs h = subst (ComparandsTyped S.in_pattern) (same _ cs h) tt
-  comparands-sound S (operand o at e rest) cs h =
-      let a = went (typing S e) _ cs h in
-      let b = went (comparands_typed S rest) _ cs a.next in
-      subst (ComparandsTyped S.in_pattern) (same _ cs b.next) (typing-sound S e a.value a.had, comparands-sound S rest b.value b.had)
-
-  combinands-sound : (S : Scope) (os : Operands) (cs : Combinands) → combinands_typed S os ≡ Ok cs → CombinandsTyped S.in_pattern cs
-  combinands-sound S no_operands cs h = subst (CombinandsTyped S.in_pattern) (same _ cs h) tt
-  combinands-sound S (operand o at e rest) cs h =
-      let k = went (arith_of o at) _ cs h in
+  comparands-sound : (S : Scope) (level : Level) (os : Operands) (cs : Comparands) → comparands_typed S level os ≡ Ok cs → ComparandsTyped S.in_pattern cs
+  comparands-sound S level no_operands cs h = subst (ComparandsTyped S.in_pattern) (same _ cs h) tt
+  comparands-sound S level (operand o at e rest) cs h =
+      let k = went (or_refused (comparison_of level o) o at) _ cs h in
       let a = went (typing S e) _ cs k.next in
-      let b = went (combinands_typed S rest) _ cs a.next in
-      subst (CombinandsTyped S.in_pattern) (same _ cs b.next) (typing-sound S e a.value a.had, combinands-sound S rest b.value b.had)
+      let b = went (comparands_typed S level rest) _ cs a.next in
+      subst (ComparandsTyped S.in_pattern) (same _ cs b.next) (typing-sound S e a.value a.had, comparands-sound S level rest b.value b.had)
+
+  combinands-sound : (S : Scope) (level : Level) (os : Operands) (cs : Combinands) → combinands_typed S level os ≡ Ok cs → CombinandsTyped S.in_pattern cs
+  combinands-sound S level no_operands cs h = subst (CombinandsTyped S.in_pattern) (same _ cs h) tt
+  combinands-sound S level (operand o at e rest) cs h =
+      let k = went (or_refused (arithmetic_of level o) o at) _ cs h in
+      let a = went (typing S e) _ cs k.next in
+      let b = went (combinands_typed S level rest) _ cs a.next in
+      subst (CombinandsTyped S.in_pattern) (same _ cs b.next) (typing-sound S e a.value a.had, combinands-sound S level rest b.value b.had)
 
   pub all-sound : (S : Scope) (nodes : Bool) (es : Trees) (ts : TypedTrees) → all_typed S nodes es ≡ Ok ts → AllTyped S.in_pattern nodes ts
   all-sound S nodes no_trees ts h = subst (AllTyped S.in_pattern nodes) (same _ ts h) tt

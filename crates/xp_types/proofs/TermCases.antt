@@ -6,12 +6,10 @@ use Rattle.doc_tree.specs.declared.axes.Axis.{Axis}
 use Rattle.doc_tree.specs.declared.axes.NodeTest.{NodeTest}
 use Rattle.doc_tree.specs.declared.axes.NodeTest.TheVariants as tests
 use Rattle.xp_tree.specs.declared.terms.Operator.{Operator}
-use Rattle.xp_tree.specs.declared.terms.Operator.TheVariants as operators
 use Rattle.xp_tree.specs.declared.terms.AxisName.{AxisName}
 use Rattle.xp_tree.specs.declared.terms.AxisName.TheVariants as names
 use Rattle.xp_tree.specs.declared.terms.StepTest.{StepTest}
 use Rattle.xp_tree.specs.declared.terms.StepTest.TheVariants as written
-use Rattle.xp_tree.specs.declared.operators.ArithOp.{ArithOp}
 use Rattle.xp_tree.specs.declared.numbers.TheConstants.{MAX_WHOLE}
 use Rattle.xp_tree.specs.Decimals.{decimal_value}
 use Rattle.xp_typed_tree.specs.declared.function.Function.{Function}
@@ -22,9 +20,9 @@ use Rattle.xp_types.specs.declared.faults.TypeKind.{TypeKind}
 use Rattle.xp_types.specs.declared.faults.TypeKind.TheVariants as kinds
 use Rattle.xp_types.specs.Scope.{Scope, namespace_of}
 use Rattle.xp_types.specs.FunctionNames.{function_named, is_left_out}
-use Rattle.xp_types.specs.Terms.{has_point, has_colon, arithmetic_of, axis_named, test_resolved, MayBeCalled}
+use Rattle.xp_types.specs.Terms.{has_point, has_colon, axis_named, test_resolved, MayBeCalled}
 use Rattle.xp_types.specs.inner.Checked.{Checked, after, fault}
-use Rattle.xp_types.specs.inner.Typing.{number_typed, arith_of, axis_of, known, resolved, variable_typed, called, function_called}
+use Rattle.xp_types.specs.inner.Typing.{number_typed, axis_of, known, resolved, variable_typed, called, function_called, or_refused, if_joins}
 use Rattle.xp_types.proofs.Sound.{same}
 
 abbrev or_fault : {A : Type 0} → Option A → TypeKind → ℕ → Checked A
@@ -61,18 +59,19 @@ axis-has a offset x h = was (axis_named a) _ offset x (sym (axis-as a offset) �
 pub axis-so : (a : AxisName) (offset : ℕ) (x : Axis) → axis_named a ≡ Some x → axis_of a offset ≡ Ok x
 axis-so a offset x h = axis-as a offset ∙ passes (axis_named a) _ offset x h
 
-arith-as : (o : Operator) (offset : ℕ) → arith_of o offset ≡ or_fault (arithmetic_of o) (kinds.Refused (codes "div")) offset
-arith-as operators.Div offset = refl
-arith-as operators.Minus offset = refl
-arith-as operators.Times offset = refl
-arith-as operators.Mod offset = refl
-arith-as _ offset = refl
+pub refused-has : {A : Type 0} (o : Option A) (operator : Operator) (offset : ℕ) (a : A) → or_refused o operator offset ≡ Ok a → o ≡ Some a
+refused-has (Some b) operator offset a h = ap Some (same b a h)
+refused-has None operator offset a h = absurd (cc)
 
-pub arith-has : (o : Operator) (offset : ℕ) (x : ArithOp) → arith_of o offset ≡ Ok x → arithmetic_of o ≡ Some x
-arith-has o offset x h = was (arithmetic_of o) _ offset x (sym (arith-as o offset) ∙ h)
+pub refused-so : {A : Type 0} (o : Option A) (operator : Operator) (offset : ℕ) (a : A) → o ≡ Some a → or_refused o operator offset ≡ Ok a
+refused-so o operator offset a h = ap (λ x. or_refused x operator offset) h
 
-pub arith-so : (o : Operator) (offset : ℕ) (x : ArithOp) → arithmetic_of o ≡ Some x → arith_of o offset ≡ Ok x
-arith-so o offset x h = arith-as o offset ∙ passes (arithmetic_of o) _ offset x h
+pub joins-has : {A : Type 0} (b : Bool) (operator : Operator) (offset : ℕ) (m : Checked A) (a : A) → if_joins b operator offset m ≡ Ok a → (b ≡ true) × (m ≡ Ok a)
+joins-has true operator offset m a h = (refl, h)
+joins-has false operator offset m a h = absurd (cc)
+
+pub joins-so : {A : Type 0} (b : Bool) (operator : Operator) (offset : ℕ) (m : Checked A) (a : A) → b ≡ true → m ≡ Ok a → if_joins b operator offset m ≡ Ok a
+joins-so b operator offset m a is h = ap (λ x. if_joins x operator offset m) is ∙ h
 
 known-as : (o : Option (List ℕ)) (offset : ℕ) (k : List ℕ → NodeTest) → after (known o offset) (λ uri. Ok (k uri)) ≡ or_fault (option_map k o) kinds.UnknownPrefix offset
 unfolding after

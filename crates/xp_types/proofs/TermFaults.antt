@@ -1,11 +1,10 @@
 -- The first faults of parts that hold no expression, and of operands that must be node-sets.
 use Rattle.std.specs.Prelude.{codes}
-use Rattle.std.proofs.Common.{◌≡◌, ◌<◌, ℕ, pos, Bool, true, false, cond, Ok, Err, Option, Some, None, List, nat_le, true≢false, refl, sym, ap, ◌∙◌, subst, arith}
+use Rattle.std.proofs.Common.{◌≡◌, ◌<◌, ℕ, pos, Bool, true, false, cond, Ok, Err, Option, Some, None, is_some, List, nat_le, true≢false, refl, sym, ap, ◌∙◌, subst, arith}
 use Rattle.std.proofs.lemmas.Bool.Decides.{nat_tests}
 use Rattle.doc_tree.specs.declared.axes.NodeTest.{NodeTest}
 use Rattle.doc_tree.specs.declared.axes.NodeTest.TheVariants as tests
 use Rattle.xp_tree.specs.declared.terms.Operator.{Operator}
-use Rattle.xp_tree.specs.declared.terms.Operator.TheVariants as operators
 use Rattle.xp_tree.specs.declared.terms.AxisName.{AxisName}
 use Rattle.xp_tree.specs.declared.terms.AxisName.TheVariants as names
 use Rattle.xp_tree.specs.declared.terms.StepTest.{StepTest}
@@ -22,11 +21,11 @@ use Rattle.xp_types.specs.declared.faults.TypeKind.TheVariants as kinds
 use Rattle.xp_types.specs.declared.faults.TypeFault.{TypeFault}
 use Rattle.xp_types.specs.Scope.{Scope, namespace_of}
 use Rattle.xp_types.specs.inner.Checked.{Checked, after, fault}
-use Rattle.xp_types.specs.Terms.{has_point}
-use Rattle.xp_types.specs.inner.Typing.{typing, wanted, node_set_at, number_typed, arith_of, axis_of, known, resolved, variable_typed}
+use Rattle.xp_types.specs.Terms.{has_point, spelling}
+use Rattle.xp_types.specs.inner.Typing.{typing, wanted, node_set_at, number_typed, axis_of, known, resolved, variable_typed, or_refused, if_joins}
 use Rattle.xp_types.specs.HasType.{HasType}
-use Rattle.xp_types.specs.Places.{FaultAt, InOrder}
-use Rattle.xp_types.specs.TypeFaults.{NotWanted, AxisFault, DivisionFault, prefix_of, TestFault, NumberFault, HasFault}
+use Rattle.xp_types.specs.Places.{Place, FaultAt, InOrder}
+use Rattle.xp_types.specs.TypeFaults.{NotWanted, AxisFault, prefix_of, TestFault, NumberFault, HasFault}
 use Rattle.xp_types.proofs.Sound.{same, wanted-sound}
 use Rattle.xp_types.proofs.Cases.{has-type, typed-so}
 use Rattle.xp_types.proofs.FirstLemmas.{Meets, Single, leaf, turn, single-at, single-order, none-at, none-order, first-at, first-left, first-right}
@@ -63,16 +62,30 @@ pub axis-meets : (a : AxisName) (offset : ℕ) → Meets (axis_of a offset) (Axi
 axis-meets a offset =
     leaf (axis_of a offset) (a ≡ names.Namespace) (kinds.Refused (codes "namespace")) offset (λ x h e. let k : axis_of names.Namespace offset ≡ Ok x = sym (ap (λ v. axis_of v offset) e) ∙ h in absurd (cc)) (axis-known a offset)
 
-arith-known : (o : Operator) (offset : ℕ) (f : TypeFault) → arith_of o offset ≡ Err f → (o ≡ operators.Div) × (f ≡ record { kind = kinds.Refused (codes "div"); offset = offset })
-arith-known operators.Div offset f h = (refl, told _ f h)
-arith-known operators.Minus offset f h = absurd (cc)
-arith-known operators.Times offset f h = absurd (cc)
-arith-known operators.Mod offset f h = absurd (cc)
-arith-known _ offset f h = absurd (cc)
+module _ (operator : Operator) (offset : ℕ) where
+  abbrev NotOwn : Bool → Place → TypeFault → Type 0
+  NotOwn b = FaultAt (b ≡ false) (kinds.Refused (spelling operator)) offset
 
-pub arith-meets : (o : Operator) (offset : ℕ) → Meets (arith_of o offset) (DivisionFault o offset)
-arith-meets o offset =
-    leaf (arith_of o offset) (o ≡ operators.Div) (kinds.Refused (codes "div")) offset (λ x h e. let k : arith_of operators.Div offset ≡ Ok x = sym (ap (λ v. arith_of v offset) e) ∙ h in absurd (cc)) (arith-known o offset)
+  pub own-meets : {A : Type 0} (o : Option A) → Meets (or_refused o operator offset) (NotOwn (is_some o))
+  own-meets (Some a) = leaf (Ok a) (true ≡ false) (kinds.Refused (spelling operator)) offset (λ b h e. absurd (cc)) (λ f h. absurd (cc))
+  own-meets {A} None = leaf {A = A} (fault (kinds.Refused (spelling operator)) offset) (false ≡ false) (kinds.Refused (spelling operator)) offset (λ a h. absurd (cc)) (λ f h. (refl, told {A = A} _ f h))
+
+  pub joins-meets : {A : Type 0} (b : Bool) (m : Checked A) (F : Place → TypeFault → Type 0) → Meets m F → Meets (if_joins b operator offset m) (InOrder (NotOwn b) F)
+  joins-meets true m F M = record {
+    fine = λ a h. none-order (NotOwn true) F (none-at (true ≡ false) (kinds.Refused (spelling operator)) offset true≢false) (M.fine a h);
+    faulty = λ f h. first-right (NotOwn true) F (none-at (true ≡ false) (kinds.Refused (spelling operator)) offset true≢false) f (M.faulty f h);
+    one = single-order (NotOwn true) F (single-at (true ≡ false) (kinds.Refused (spelling operator)) offset) M.one;
+  }
+  joins-meets {A} false m F M = record {
+    fine = λ a h. absurd (cc);
+    faulty = λ f h. first-left (NotOwn false) F f (first-at (false ≡ false) (kinds.Refused (spelling operator)) offset f refl (told {A = A} _ f h));
+    one = single-order (NotOwn false) F (single-at (false ≡ false) (kinds.Refused (spelling operator)) offset) M.one;
+  }
+
+  pub joins-after : {A B : Type 0} (b : Bool) (m : Checked A) (k : A → Checked B) → if_joins b operator offset (after m k) ≡ after (if_joins b operator offset m) k
+  unfolding after
+  joins-after true m k = refl
+  joins-after false m k = refl
 
 -- ---- node tests
 
@@ -166,3 +179,14 @@ operand-meets S nodes e M =
     (λ t is. leaf (wanted nodes (offset_of e) t) ((u : TypedTree) × HasType S e u × ¬ IsWanted nodes u) kinds.NodeSetWanted (offset_of e)
     (λ a h u. let w = wanted-sound nodes (offset_of e) t a h in let it : a ≡ u.0 = sym w.is ∙ same t u.0 (sym is ∙ typed-so S e u.0 u.1) in u.2 (subst (IsWanted nodes) it w.kind))
     (λ f h. let n = not-wanted nodes (offset_of e) t f h in ((t, has-type S e t is, n.0), n.1)))
+
+after-plain : (m : Checked TypedTree) (offset : ℕ) → after m (wanted false offset) ≡ m
+unfolding after
+after-plain (Ok t) offset = refl
+after-plain (Err e) offset = refl
+
+-- an operand that may be anything
+pub plain-operand-meets : (S : Scope) (nodes : Bool) (e : Tree) → nodes ≡ false → Meets (typing S e) (HasFault S e) → Meets (typing S e) (InOrder (HasFault S e) (NotWanted S nodes e))
+plain-operand-meets S nodes e plain M =
+    subst (λ b. Meets (typing S e) (InOrder (HasFault S e) (NotWanted S b e))) (sym plain)
+    (subst (λ m. Meets m (InOrder (HasFault S e) (NotWanted S false e))) (after-plain (typing S e) (offset_of e)) (operand-meets S false e M))

@@ -40,27 +40,27 @@ seen-as : (S : Scope) (e f : Expr) (t : Tree) → e ≡ f → tree_of f ≡ t �
 seen-as S e f t is seen = ap (λ x. typing S (tree_of x)) is ∙ ap (typing S) seen
 
 module _ (S : Scope) (e : Expr) where
-  pub view-Or : (c : Chain) → e ≡ exprs.Or c → typing S (tree_of e) ≡ after (chain_typed S false (first_in c) (rest_in c)) (λ ts. Ok (disjunction ts))
-  view-Or c is = seen-as S e (exprs.Or c) _ is (of-Or c ∙ of-chain c levels.Or) ∙ regrouped (typing S (first_in c)) (operands_typed S false (rest_in c)) (offset_of (first_in c)) disjunction
+  pub view-Or : (c : Chain) → e ≡ exprs.Or c → typing S (tree_of e) ≡ after (chain_typed S levels.Or (first_in c) (rest_in c)) (λ ts. Ok (disjunction ts))
+  view-Or c is = seen-as S e (exprs.Or c) _ is (of-Or c ∙ of-chain c levels.Or) ∙ regrouped (typing S (first_in c)) (operands_typed S levels.Or (rest_in c)) (offset_of (first_in c)) disjunction
 
-  pub view-And : (c : Chain) → e ≡ exprs.And c → typing S (tree_of e) ≡ after (chain_typed S false (first_in c) (rest_in c)) (λ ts. Ok (conjunction ts))
-  view-And c is = seen-as S e (exprs.And c) _ is (of-And c ∙ of-chain c levels.And) ∙ regrouped (typing S (first_in c)) (operands_typed S false (rest_in c)) (offset_of (first_in c)) conjunction
+  pub view-And : (c : Chain) → e ≡ exprs.And c → typing S (tree_of e) ≡ after (chain_typed S levels.And (first_in c) (rest_in c)) (λ ts. Ok (conjunction ts))
+  view-And c is = seen-as S e (exprs.And c) _ is (of-And c ∙ of-chain c levels.And) ∙ regrouped (typing S (first_in c)) (operands_typed S levels.And (rest_in c)) (offset_of (first_in c)) conjunction
 
-  pub view-Union : (c : Chain) → e ≡ exprs.Union c → typing S (tree_of e) ≡ after (chain_typed S true (first_in c) (rest_in c)) (λ ts. Ok (union ts))
+  pub view-Union : (c : Chain) → e ≡ exprs.Union c → typing S (tree_of e) ≡ after (chain_typed S levels.Union (first_in c) (rest_in c)) (λ ts. Ok (union ts))
   view-Union c is =
       seen-as S e (exprs.Union c) _ is (of-Union c ∙ of-chain c levels.Union)
-      ∙ regrouped-nodes (after (typing S (first_in c)) (wanted true (offset_of (first_in c)))) (operands_typed S true (rest_in c)) union
+      ∙ regrouped-nodes (after (typing S (first_in c)) (wanted true (offset_of (first_in c)))) (operands_typed S levels.Union (rest_in c)) union
 
-  pub view-Equal : (c : Chain) → e ≡ exprs.Equal c → typing S (tree_of e) ≡ comparison_typed S (first_in c) (rest_in c)
+  pub view-Equal : (c : Chain) → e ≡ exprs.Equal c → typing S (tree_of e) ≡ comparison_typed S levels.Equal (first_in c) (rest_in c)
   view-Equal c is = seen-as S e (exprs.Equal c) _ is (of-Equal c ∙ of-chain c levels.Equal)
 
-  pub view-Rel : (c : Chain) → e ≡ exprs.Rel c → typing S (tree_of e) ≡ comparison_typed S (first_in c) (rest_in c)
+  pub view-Rel : (c : Chain) → e ≡ exprs.Rel c → typing S (tree_of e) ≡ comparison_typed S levels.Rel (first_in c) (rest_in c)
   view-Rel c is = seen-as S e (exprs.Rel c) _ is (of-Rel c ∙ of-chain c levels.Rel)
 
-  pub view-Sum : (c : Chain) → e ≡ exprs.Sum c → typing S (tree_of e) ≡ arithmetic_typed S (first_in c) (rest_in c)
+  pub view-Sum : (c : Chain) → e ≡ exprs.Sum c → typing S (tree_of e) ≡ arithmetic_typed S levels.Sum (first_in c) (rest_in c)
   view-Sum c is = seen-as S e (exprs.Sum c) _ is (of-Sum c ∙ of-chain c levels.Sum)
 
-  pub view-Prod : (c : Chain) → e ≡ exprs.Prod c → typing S (tree_of e) ≡ arithmetic_typed S (first_in c) (rest_in c)
+  pub view-Prod : (c : Chain) → e ≡ exprs.Prod c → typing S (tree_of e) ≡ arithmetic_typed S levels.Prod (first_in c) (rest_in c)
   view-Prod c is = seen-as S e (exprs.Prod c) _ is (of-Prod c ∙ of-chain c levels.Prod)
 
   pub view-Neg : (offset count : ℕ) (b : Box Expr Global) (operand : Expr) → e ≡ exprs.Neg offset count b → operand ≡ b.value →

@@ -1,11 +1,13 @@
 -- What parts that hold no expression stand for: XPath 1.0, sections 2.3, 3.1, 3.4, 3.5 and 4. None where a part is refused or isn't
 -- known.
-use Rattle.std.specs.Prelude.{◌≡◌, ℕ, Bool, true, false, List, [], Option, None, Some, option_map, ◌==◌, suc}
+use Rattle.std.specs.Prelude.{◌≡◌, ℕ, Bool, true, false, List, [], Option, None, Some, is_some, option_map, ◌==◌, suc, codes}
 use Rattle.std.specs.List.{list_any}
 use Rattle.doc_tree.specs.declared.axes.Axis.{Axis}
 use Rattle.doc_tree.specs.declared.axes.Axis.TheVariants as axes
 use Rattle.doc_tree.specs.declared.axes.NodeTest.{NodeTest}
 use Rattle.doc_tree.specs.declared.axes.NodeTest.TheVariants as tests
+use Rattle.xp_tree.specs.declared.terms.Level.{Level}
+use Rattle.xp_tree.specs.declared.terms.Level.TheVariants as levels
 use Rattle.xp_tree.specs.declared.terms.Operator.{Operator}
 use Rattle.xp_tree.specs.declared.terms.Operator.TheVariants as operators
 use Rattle.xp_tree.specs.declared.terms.AxisName.{AxisName}
@@ -29,21 +31,61 @@ has_point digits = list_any (λ c. c == 46) digits
 abbrev pub has_colon : List ℕ → Bool
 has_colon name = list_any (λ c. c == 58) name
 
-abbrev pub comparison_of : Operator → Comparison
-comparison_of operators.NotEqual = comparisons.Ne
-comparison_of operators.Less = comparisons.Lt
-comparison_of operators.AtMost = comparisons.Le
-comparison_of operators.Greater = comparisons.Gt
-comparison_of operators.AtLeast = comparisons.Ge
-comparison_of _ = comparisons.Eq
+-- the comparison that an operator is at a level
+abbrev pub comparison_of : Level → Operator → Option Comparison
+comparison_of levels.Equal operators.Equal = Some comparisons.Eq
+comparison_of levels.Equal operators.NotEqual = Some comparisons.Ne
+comparison_of levels.Rel operators.Less = Some comparisons.Lt
+comparison_of levels.Rel operators.AtMost = Some comparisons.Le
+comparison_of levels.Rel operators.Greater = Some comparisons.Gt
+comparison_of levels.Rel operators.AtLeast = Some comparisons.Ge
+comparison_of _ _ = None
 
--- the operator on numbers; division is refused
-abbrev pub arithmetic_of : Operator → Option ArithOp
-arithmetic_of operators.Div = None
-arithmetic_of operators.Minus = Some ariths.Sub
-arithmetic_of operators.Times = Some ariths.Mul
-arithmetic_of operators.Mod = Some ariths.Mod
-arithmetic_of _ = Some ariths.Add
+-- the operator on numbers at a level; division is refused
+abbrev pub arithmetic_of : Level → Operator → Option ArithOp
+arithmetic_of levels.Sum operators.Plus = Some ariths.Add
+arithmetic_of levels.Sum operators.Minus = Some ariths.Sub
+arithmetic_of levels.Prod operators.Times = Some ariths.Mul
+arithmetic_of levels.Prod operators.Mod = Some ariths.Mod
+arithmetic_of _ _ = None
+
+-- whether an operator joins the operands of a level that keeps no operators
+abbrev pub joins : Level → Operator → Bool
+joins levels.Or operators.Or = true
+joins levels.And operators.And = true
+joins levels.Union operators.Union = true
+joins _ _ = false
+
+-- whether an operator has a meaning at a level
+abbrev pub is_own : Level → Operator → Bool
+is_own levels.Or o = joins levels.Or o
+is_own levels.And o = joins levels.And o
+is_own levels.Equal o = is_some (comparison_of levels.Equal o)
+is_own levels.Rel o = is_some (comparison_of levels.Rel o)
+is_own levels.Sum o = is_some (arithmetic_of levels.Sum o)
+is_own levels.Prod o = is_some (arithmetic_of levels.Prod o)
+is_own levels.Union o = joins levels.Union o
+
+-- whether the operands of a level are node-sets
+abbrev pub joins_nodes : Level → Bool
+joins_nodes levels.Union = true
+joins_nodes _ = false
+
+abbrev pub spelling : Operator → List ℕ
+spelling operators.Or = codes "or"
+spelling operators.And = codes "and"
+spelling operators.Equal = codes "="
+spelling operators.NotEqual = codes "!="
+spelling operators.Less = codes "<"
+spelling operators.AtMost = codes "<="
+spelling operators.Greater = codes ">"
+spelling operators.AtLeast = codes ">="
+spelling operators.Plus = codes "+"
+spelling operators.Minus = codes "-"
+spelling operators.Times = codes "*"
+spelling operators.Div = codes "div"
+spelling operators.Mod = codes "mod"
+spelling operators.Union = codes "|"
 
 -- the axis of a name; the namespace axis is refused
 abbrev pub axis_named : AxisName → Option Axis

@@ -1,11 +1,10 @@
 -- The faults of types that an expression has, by cases: XPath 1.0, sections 2 to 4. Each part has its faults whatever else is
 -- wrong, and `InOrder` says which parts begin earlier: an operator before its right operand (so `6 div 2.5` is refused for
--- `div` by `CombinandsFault`), an axis before its node test, a call's name before the number of its arguments and these last.
+-- `div` by `OperandsFault`), an axis before its node test, a call's name before the number of its arguments and these last.
 -- That a node-set is wanted is a fault of an operand that has a type, and so has no fault in it.
 use Rattle.std.specs.Prelude.{◌≡◌, ◌⊎◌, ◌<◌, ℕ, Bool, true, false, List, Option, None, Some, codes}
-use Rattle.xp_tree.specs.declared.terms.Level.TheVariants as levels
+use Rattle.xp_tree.specs.declared.terms.Level.{Level}
 use Rattle.xp_tree.specs.declared.terms.Operator.{Operator}
-use Rattle.xp_tree.specs.declared.terms.Operator.TheVariants as operators
 use Rattle.xp_tree.specs.declared.terms.AxisName.{AxisName}
 use Rattle.xp_tree.specs.declared.terms.AxisName.TheVariants as names
 use Rattle.xp_tree.specs.declared.terms.StepTest.{StepTest}
@@ -20,7 +19,7 @@ use Rattle.xp_types.specs.declared.faults.TypeKind.TheVariants as kinds
 use Rattle.xp_types.specs.declared.faults.TypeFault.{TypeFault}
 use Rattle.xp_types.specs.Scope.{Scope, namespace_of, variable_of}
 use Rattle.xp_types.specs.FunctionNames.{function_named, is_left_out}
-use Rattle.xp_types.specs.Terms.{has_point, has_colon, number_of_trees}
+use Rattle.xp_types.specs.Terms.{is_own, joins_nodes, spelling, has_point, has_colon, number_of_trees}
 use Rattle.xp_types.specs.HasType.{HasType}
 use Rattle.xp_types.specs.Places.{Place, NoFault, FaultAt, InOrder, IsFirst}
 
@@ -28,12 +27,13 @@ use Rattle.xp_types.specs.Places.{Place, NoFault, FaultAt, InOrder, IsFirst}
 abbrev pub NotWanted : Scope → Bool → Tree → Place → TypeFault → Type 0
 NotWanted S nodes e = FaultAt ((t : TypedTree) × HasType S e t × ¬ IsWanted nodes t) kinds.NodeSetWanted (offset_of e)
 
--- the namespace axis is refused, and so is division
+-- the namespace axis is refused
 abbrev pub AxisFault : AxisName → ℕ → Place → TypeFault → Type 0
 AxisFault axis offset = FaultAt (axis ≡ names.Namespace) (kinds.Refused (codes "namespace")) offset
 
-abbrev pub DivisionFault : Operator → ℕ → Place → TypeFault → Type 0
-DivisionFault operator offset = FaultAt (operator ≡ operators.Div) (kinds.Refused (codes "div")) offset
+-- an operator is refused where it has no meaning at its level: division, and an operator of another level
+abbrev pub OperatorFault : Level → Operator → ℕ → Place → TypeFault → Type 0
+OperatorFault level operator offset = FaultAt (is_own level operator ≡ false) (kinds.Refused (spelling operator)) offset
 
 -- the prefix of a name test
 abbrev pub prefix_of : StepTest → Option (List ℕ)
@@ -73,13 +73,7 @@ wanted_by None = false
 
 abbrev mutual
   pub HasFault : Scope → Tree → Place → TypeFault → Type 0
-  HasFault S (chain levels.Or offset first rest) p f = InOrder (HasFault S first) (OperandsFault S false rest) p f
-  HasFault S (chain levels.And offset first rest) p f = InOrder (HasFault S first) (OperandsFault S false rest) p f
-  HasFault S (chain levels.Equal offset first rest) p f = InOrder (HasFault S first) (ComparandsFault S rest) p f
-  HasFault S (chain levels.Rel offset first rest) p f = InOrder (HasFault S first) (ComparandsFault S rest) p f
-  HasFault S (chain levels.Sum offset first rest) p f = InOrder (HasFault S first) (CombinandsFault S rest) p f
-  HasFault S (chain levels.Prod offset first rest) p f = InOrder (HasFault S first) (CombinandsFault S rest) p f
-  HasFault S (chain levels.Union offset first rest) p f = InOrder (InOrder (HasFault S first) (NotWanted S true first)) (OperandsFault S true rest) p f
+  HasFault S (chain level offset first rest) p f = InOrder (InOrder (HasFault S first) (NotWanted S (joins_nodes level) first)) (OperandsFault S level rest) p f
   HasFault S (negated offset count e) p f = HasFault S e p f
   HasFault S (path offset start steps) p f = InOrder (StartFault S start) (StepsFault S steps) p f
   HasFault S (filtered offset base predicates) p f = InOrder (InOrder (HasFault S base) (NotWanted S true base)) (AllFault S false predicates) p f
@@ -98,20 +92,11 @@ abbrev mutual
   StepsFault S (step offset axis node_test test_offset predicates rest) p f =
       InOrder (AxisFault axis offset) (InOrder (TestFault S node_test test_offset) (InOrder (AllFault S false predicates) (StepsFault S rest))) p f
 
-  -- the later operands of a chain, node-sets where these are wanted
-  pub OperandsFault : Scope → Bool → Operands → Place → TypeFault → Type 0
-  OperandsFault S nodes no_operands p f = NoFault p f
-  OperandsFault S nodes (operand operator offset e rest) p f = InOrder (InOrder (HasFault S e) (NotWanted S nodes e)) (OperandsFault S nodes rest) p f
-
-  pub ComparandsFault : Scope → Operands → Place → TypeFault → Type 0
-  ComparandsFault S no_operands p f = NoFault p f
-  ComparandsFault S (operand operator offset e rest) p f = InOrder (HasFault S e) (ComparandsFault S rest) p f
-
-  -- the later operands of operators on numbers
-  pub CombinandsFault : Scope → Operands → Place → TypeFault → Type 0
-  CombinandsFault S no_operands p f = NoFault p f
-  CombinandsFault S (operand operator offset e rest) p f =
-      InOrder (DivisionFault operator offset) (InOrder (HasFault S e) (CombinandsFault S rest)) p f
+  -- the later operands of a chain, each with the operator before it
+  pub OperandsFault : Scope → Level → Operands → Place → TypeFault → Type 0
+  OperandsFault S level no_operands p f = NoFault p f
+  OperandsFault S level (operand operator offset e rest) p f =
+      InOrder (OperatorFault level operator offset) (InOrder (InOrder (HasFault S e) (NotWanted S (joins_nodes level) e)) (OperandsFault S level rest)) p f
 
   pub AllFault : Scope → Bool → Trees → Place → TypeFault → Type 0
   AllFault S nodes no_trees p f = NoFault p f

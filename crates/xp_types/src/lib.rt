@@ -7,6 +7,7 @@ mod env;
 mod faults;
 mod function_names;
 mod laws;
+mod operators;
 mod patterns;
 mod terms;
 mod typing;

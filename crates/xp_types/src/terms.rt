@@ -9,8 +9,7 @@ ghost use Rattle.xp_typed_tree.specs.TypedView.{typed_tree_of};
 ghost use Rattle.xp_types.specs.declared.faults.TypeKind.TheVariants as kinds;
 ghost use Rattle.xp_types.specs.Scope.{namespace_of, variable_of};
 ghost use Rattle.xp_types.specs.inner.Checked.{ChecksAs, Tells};
-ghost use Rattle.xp_types.specs.Terms.{comparison_of};
-ghost use Rattle.xp_types.specs.inner.Typing.{number_typed, wanted, arith_of, axis_of, known, resolved, variable_typed, called};
+ghost use Rattle.xp_types.specs.inner.Typing.{number_typed, wanted, axis_of, known, resolved, variable_typed, called};
 ghost use Rattle.xp_tree.specs.declared.terms.StepTest.TheVariants as written;
 
 use crate::env::Env;
@@ -18,7 +17,7 @@ use crate::faults::{CheckError, TypeFault, TypeKind};
 use crate::function_names::{function_named, is_left_out};
 use sch_base::Text;
 use std::alloc::Global;
-use xp_tree::{ArithOp, AxisName, Comparison, Expr, MAX_WHOLE, Operator, StepTest};
+use xp_tree::{AxisName, Expr, MAX_WHOLE, StepTest};
 use xp_typed_tree::{Axis, Function, NodeTest, TypedExpr, ValueType};
 
 /// A fault of a kind at a place.
@@ -48,37 +47,6 @@ pub(crate) fn as_wanted(typed: TypedExpr, offset: u32, nodes: bool) -> Result<Ty
     match typed.ty() {
         ValueType::NodeSet => Ok(typed),
         _ => Err(fault_at(TypeKind::NodeSetWanted, offset)),
-    }
-}
-
-/// The comparison of an operator.
-pub(crate) fn comparison_of(operator: Operator) -> Comparison
-    ensures { result ≡ comparison_of operator }
-{
-    match operator {
-        Operator::NotEqual => Comparison::Ne,
-        Operator::Less => Comparison::Lt,
-        Operator::AtMost => Comparison::Le,
-        Operator::Greater => Comparison::Gt,
-        Operator::AtLeast => Comparison::Ge,
-        _ => Comparison::Eq,
-    }
-}
-
-/// The operator on numbers; `div` is refused.
-pub(crate) fn arith_of(
-    alloc: Global,
-    operator: Operator,
-    offset: u32,
-) -> Result<ArithOp, CheckError>
-    ensures { ChecksAs (arith_of operator offset) (λ o. o) result }
-{
-    match operator {
-        Operator::Div => Err(refusal(alloc, "div", offset)),
-        Operator::Minus => Ok(ArithOp::Sub),
-        Operator::Times => Ok(ArithOp::Mul),
-        Operator::Mod => Ok(ArithOp::Mod),
-        _ => Ok(ArithOp::Add),
     }
 }
 

@@ -6,20 +6,18 @@ ghost use Rattle.std.specs.Prelude.{Ok};
 ghost use Rattle.xp_tree.specs.View.{tree_of, start_of, trees_seen, steps_seen};
 ghost use Rattle.xp_tree.specs.Tree.{offset_of};
 ghost use Rattle.xp_typed_tree.specs.TypedView.{typed_tree_of, place_of, typed_seen, compared_list_seen, typed_steps_seen};
-ghost use Rattle.xp_types.specs.inner.ChainParts.{first_in, rest_in};
+ghost use Rattle.xp_types.specs.inner.ChainParts.{first_in, rest_in, operator_in, place_in, expr_in};
 ghost use Rattle.xp_types.specs.inner.Checked.{ChecksAs, after};
 ghost use Rattle.xp_types.specs.Terms.{compared_with};
-ghost use Rattle.xp_types.specs.inner.Typing.{typing, wanted, all_typed, chain_typed, comparison_typed, arithmetic_typed, place_typed, steps_typed};
+ghost use Rattle.xp_types.specs.inner.Typing.{typing, wanted, all_typed, chain_typed, joined_typed, comparison_typed, arithmetic_typed, place_typed, steps_typed};
 
 use crate::env::Env;
 use crate::faults::CheckError;
-use crate::terms::{
-    arith_of, as_wanted, axis_of, called, comparison_of, offset_of, resolve, type_number,
-    type_variable,
-};
+use crate::operators::{combined_by, compared_by, joins, joins_nodes, refused_operator};
+use crate::terms::{as_wanted, axis_of, called, offset_of, resolve, type_number, type_variable};
 use sch_base::Text;
 use std::alloc::Global;
-use xp_tree::{Chain, Expr, Start, Step};
+use xp_tree::{Chain, Expr, Level, Operand, Start, Step};
 use xp_typed_tree::{Combined, Compared, TypedExpr, TypedStart, TypedStep};
 
 /// The typed tree of an expression.
@@ -28,13 +26,13 @@ pub(crate) fn type_expr(alloc: Global, expr: &Expr, env: &Env) -> Result<TypedEx
     ensures { ChecksAs (typing env.now (tree_of expr.now)) typed_tree_of result }
 {
     match expr {
-        Expr::Or(chain) => Ok(TypedExpr::or(type_chain(alloc, chain, env, false)?)),
-        Expr::And(chain) => Ok(TypedExpr::and(type_chain(alloc, chain, env, false)?)),
-        Expr::Equal(chain) => type_comparison(alloc, chain, env),
-        Expr::Rel(chain) => type_comparison(alloc, chain, env),
-        Expr::Sum(chain) => type_arithmetic(alloc, chain, env),
-        Expr::Prod(chain) => type_arithmetic(alloc, chain, env),
-        Expr::Union(chain) => Ok(TypedExpr::union(type_chain(alloc, chain, env, true)?)),
+        Expr::Or(chain) => Ok(TypedExpr::or(type_chain(alloc, chain, env, Level::Or)?)),
+        Expr::And(chain) => Ok(TypedExpr::and(type_chain(alloc, chain, env, Level::And)?)),
+        Expr::Equal(chain) => type_comparison(alloc, chain, env, Level::Equal),
+        Expr::Rel(chain) => type_comparison(alloc, chain, env, Level::Rel),
+        Expr::Sum(chain) => type_arithmetic(alloc, chain, env, Level::Sum),
+        Expr::Prod(chain) => type_arithmetic(alloc, chain, env, Level::Prod),
+        Expr::Union(chain) => Ok(TypedExpr::union(type_chain(alloc, chain, env, Level::Union)?)),
         Expr::Neg { count, operand, .. } => {
             let operand = type_expr(alloc, operand, env)?;
             Ok(TypedExpr::negate(*count, Box::new(alloc, operand)?))
@@ -89,34 +87,57 @@ pub(crate) fn type_list(
     Ok(typed)
 }
 
-/// The operands of a chain, node-sets where these are wanted.
+/// The operands of a chain of a level that keeps no operators.
 #[cycle(typing)]
 fn type_chain(
     alloc: Global,
     chain: &Chain,
     env: &Env,
-    nodes: bool,
+    level: Level,
 ) -> Result<Vec<TypedExpr>, CheckError>
-    ensures { ChecksAs (chain_typed env.now nodes (first_in chain.now) (rest_in chain.now)) (λ v. typed_seen v.items) result }
+    ensures { ChecksAs (chain_typed env.now level (first_in chain.now) (rest_in chain.now)) (λ v. typed_seen v.items) result }
 {
     let mut typed = Vec::new(alloc);
-    typed.push(type_operand(alloc, &chain.first, env, nodes)?)?;
+    typed.push(type_operand(alloc, &chain.first, env, joins_nodes(level))?)?;
     for operand in &chain.rest {
-        typed.push(type_operand(alloc, &operand.expr, env, nodes)?)?;
+        typed.push(type_joined(alloc, operand, env, level)?)?;
     }
     Ok(typed)
 }
 
+/// A later operand of a chain of a level that keeps no operators.
+#[cycle(typing)]
+fn type_joined(
+    alloc: Global,
+    operand: &Operand,
+    env: &Env,
+    level: Level,
+) -> Result<TypedExpr, CheckError>
+    ensures { ChecksAs (joined_typed env.now level (operator_in operand.now) (place_in operand.now) (expr_in operand.now)) typed_tree_of result }
+{
+    if joins(level, operand.operator) {
+        type_operand(alloc, &operand.expr, env, joins_nodes(level))
+    } else {
+        Err(refused_operator(alloc, operand.operator, operand.offset))
+    }
+}
+
 /// Comparisons of one level.
 #[cycle(typing)]
-fn type_comparison(alloc: Global, chain: &Chain, env: &Env) -> Result<TypedExpr, CheckError>
-    ensures { ChecksAs (comparison_typed env.now (first_in chain.now) (rest_in chain.now)) typed_tree_of result }
+fn type_comparison(
+    alloc: Global,
+    chain: &Chain,
+    env: &Env,
+    level: Level,
+) -> Result<TypedExpr, CheckError>
+    ensures { ChecksAs (comparison_typed env.now level (first_in chain.now) (rest_in chain.now)) typed_tree_of result }
 {
     let first = type_expr(alloc, &chain.first, env)?;
     let mut compared = Vec::new(alloc);
     for operand in &chain.rest {
+        let operator = compared_by(alloc, level, operand.operator, operand.offset)?;
         let expr = type_expr(alloc, &operand.expr, env)?;
-        compared.push(Compared::new(comparison_of(operand.operator), expr))?;
+        compared.push(Compared::new(operator, expr))?;
     }
     compared_with(alloc, first, compared)
 }
@@ -137,13 +158,18 @@ fn compared_with(
 
 /// Operators on numbers of one level.
 #[cycle(typing)]
-fn type_arithmetic(alloc: Global, chain: &Chain, env: &Env) -> Result<TypedExpr, CheckError>
-    ensures { ChecksAs (arithmetic_typed env.now (first_in chain.now) (rest_in chain.now)) typed_tree_of result }
+fn type_arithmetic(
+    alloc: Global,
+    chain: &Chain,
+    env: &Env,
+    level: Level,
+) -> Result<TypedExpr, CheckError>
+    ensures { ChecksAs (arithmetic_typed env.now level (first_in chain.now) (rest_in chain.now)) typed_tree_of result }
 {
     let first = Box::new(alloc, type_expr(alloc, &chain.first, env)?)?;
     let mut combined = Vec::new(alloc);
     for operand in &chain.rest {
-        let operator = arith_of(alloc, operand.operator, operand.offset)?;
+        let operator = combined_by(alloc, level, operand.operator, operand.offset)?;
         let expr = type_expr(alloc, &operand.expr, env)?;
         combined.push(Combined::new(operator, expr))?;
     }

@@ -5,9 +5,9 @@ use Rattle.doc_tree.specs.declared.axes.Axis.{Axis}
 use Rattle.doc_tree.specs.declared.axes.Axis.TheVariants as axes
 use Rattle.doc_tree.specs.declared.axes.NodeTest.{NodeTest}
 use Rattle.doc_tree.specs.declared.axes.NodeTest.TheVariants as tests
+use Rattle.xp_tree.specs.declared.terms.Level.{Level}
 use Rattle.xp_tree.specs.declared.terms.Level.TheVariants as levels
 use Rattle.xp_tree.specs.declared.terms.Operator.{Operator}
-use Rattle.xp_tree.specs.declared.terms.Operator.TheVariants as operators
 use Rattle.xp_tree.specs.declared.terms.AxisName.{AxisName}
 use Rattle.xp_tree.specs.declared.terms.AxisName.TheVariants as names
 use Rattle.xp_tree.specs.declared.terms.StepTest.{StepTest}
@@ -20,15 +20,13 @@ use Rattle.xp_tree.specs.declared.numbers.TheConstants.{MAX_WHOLE}
 use Rattle.xp_tree.specs.Decimals.{decimal_value}
 use Rattle.xp_typed_tree.specs.declared.value_type.ValueType.{ValueType}
 use Rattle.xp_typed_tree.specs.declared.value_type.ValueType.TheVariants as types
-use Rattle.xp_tree.specs.declared.operators.ArithOp.{ArithOp}
-use Rattle.xp_tree.specs.declared.operators.ArithOp.TheVariants as ariths
 use Rattle.xp_typed_tree.specs.declared.function.Function.{Function}
 use Rattle.xp_typed_tree.specs.TypedTree.{TypedTree, TypedPlace, TypedSteps, Comparands, Combinands, TypedTrees, TypedPatternStepTree, TypedPathTree, disjunction, conjunction, arithmetic, negation, union, location, selection, slot, text, whole, application, at_root, at_context, at_nodes, no_more_steps, typed_step, no_comparands, comparand, no_combinands, combinand, no_typed, typed}
 use Rattle.xp_typed_tree.specs.WellTyped.{type_of, takes, wants_nodes, may_call}
 use Rattle.xp_types.specs.declared.env.Variable.{Variable}
 use Rattle.xp_types.specs.declared.faults.TypeKind.TheVariants as kinds
 use Rattle.xp_types.specs.Scope.{Scope, namespace_of, variable_of}
-use Rattle.xp_types.specs.Terms.{has_point, has_colon, comparison_of, compared_with, number_of_trees, pattern_axis}
+use Rattle.xp_types.specs.Terms.{has_point, has_colon, comparison_of, arithmetic_of, joins, joins_nodes, spelling, compared_with, number_of_trees, pattern_axis}
 use Rattle.xp_types.specs.FunctionNames.{function_named, is_left_out}
 use Rattle.xp_types.specs.inner.Checked.{Checked, after, fault}
 
@@ -47,13 +45,14 @@ abbrev pub wanted : Bool → ℕ → TypedTree → Checked TypedTree
 wanted true offset t = node_set_at (type_of t) offset t
 wanted false offset t = Ok t
 
--- division is refused
-abbrev pub arith_of : Operator → ℕ → Checked ArithOp
-arith_of operators.Div offset = fault (kinds.Refused (codes "div")) offset
-arith_of operators.Minus offset = Ok ariths.Sub
-arith_of operators.Times offset = Ok ariths.Mul
-arith_of operators.Mod offset = Ok ariths.Mod
-arith_of _ offset = Ok ariths.Add
+-- an operator has no meaning where it stands
+abbrev pub or_refused : {A : Type 0} → Option A → Operator → ℕ → Checked A
+or_refused (Some a) operator offset = Ok a
+or_refused None operator offset = fault (kinds.Refused (spelling operator)) offset
+
+abbrev pub if_joins : {A : Type 0} → Bool → Operator → ℕ → Checked A → Checked A
+if_joins true operator offset next = next
+if_joins false operator offset next = fault (kinds.Refused (spelling operator)) offset
 
 -- the namespace axis is refused
 abbrev pub axis_of : AxisName → ℕ → Checked Axis
@@ -106,14 +105,14 @@ called S name offset count =
 abbrev mutual
   -- the typed tree of an expression, or its first fault
   pub typing : Scope → Tree → Checked TypedTree
-  typing S (chain levels.Or offset first rest) = after (typing S first) (λ t. after (operands_typed S false rest) (λ ts. Ok (disjunction (typed t ts))))
-  typing S (chain levels.And offset first rest) = after (typing S first) (λ t. after (operands_typed S false rest) (λ ts. Ok (conjunction (typed t ts))))
-  typing S (chain levels.Equal offset first rest) = after (typing S first) (λ t. after (comparands_typed S rest) (λ cs. Ok (compared_with t cs)))
-  typing S (chain levels.Rel offset first rest) = after (typing S first) (λ t. after (comparands_typed S rest) (λ cs. Ok (compared_with t cs)))
-  typing S (chain levels.Sum offset first rest) = after (typing S first) (λ t. after (combinands_typed S rest) (λ cs. Ok (arithmetic t cs)))
-  typing S (chain levels.Prod offset first rest) = after (typing S first) (λ t. after (combinands_typed S rest) (λ cs. Ok (arithmetic t cs)))
+  typing S (chain levels.Or offset first rest) = after (typing S first) (λ t. after (operands_typed S levels.Or rest) (λ ts. Ok (disjunction (typed t ts))))
+  typing S (chain levels.And offset first rest) = after (typing S first) (λ t. after (operands_typed S levels.And rest) (λ ts. Ok (conjunction (typed t ts))))
+  typing S (chain levels.Equal offset first rest) = after (typing S first) (λ t. after (comparands_typed S levels.Equal rest) (λ cs. Ok (compared_with t cs)))
+  typing S (chain levels.Rel offset first rest) = after (typing S first) (λ t. after (comparands_typed S levels.Rel rest) (λ cs. Ok (compared_with t cs)))
+  typing S (chain levels.Sum offset first rest) = after (typing S first) (λ t. after (combinands_typed S levels.Sum rest) (λ cs. Ok (arithmetic t cs)))
+  typing S (chain levels.Prod offset first rest) = after (typing S first) (λ t. after (combinands_typed S levels.Prod rest) (λ cs. Ok (arithmetic t cs)))
   typing S (chain levels.Union offset first rest) =
-      after (after (typing S first) (wanted true (offset_of first))) (λ t. after (operands_typed S true rest) (λ ts. Ok (union (typed t ts))))
+      after (after (typing S first) (wanted true (offset_of first))) (λ t. after (operands_typed S levels.Union rest) (λ ts. Ok (union (typed t ts))))
   typing S (negated offset count e) = after (typing S e) (λ t. Ok (negation count t))
   typing S (path offset start steps) = after (place_typed S start) (λ place. after (steps_typed S steps) (λ ss. Ok (location place ss)))
   typing S (filtered offset base predicates) =
@@ -135,19 +134,20 @@ abbrev mutual
       after (axis_of axis offset) (λ a. after (resolved S test test_offset) (λ n. after (all_typed S false predicates) (λ ps. after (steps_typed S rest) (λ ss. Ok (typed_step a n ps ss)))))
 
   -- the later operands of a chain, node-sets where these are wanted
-  pub operands_typed : Scope → Bool → Operands → Checked TypedTrees
-  operands_typed S nodes no_operands = Ok no_typed
-  operands_typed S nodes (operand operator at e rest) =
-      after (after (typing S e) (wanted nodes (offset_of e))) (λ t. after (operands_typed S nodes rest) (λ ts. Ok (typed t ts)))
+  pub operands_typed : Scope → Level → Operands → Checked TypedTrees
+  operands_typed S level no_operands = Ok no_typed
+  operands_typed S level (operand operator at e rest) =
+      after (if_joins (joins level operator) operator at (after (typing S e) (wanted (joins_nodes level) (offset_of e)))) (λ t. after (operands_typed S level rest) (λ ts. Ok (typed t ts)))
 
-  pub comparands_typed : Scope → Operands → Checked Comparands
-  comparands_typed S no_operands = Ok no_comparands
-  comparands_typed S (operand operator at e rest) = after (typing S e) (λ t. after (comparands_typed S rest) (λ cs. Ok (comparand (comparison_of operator) t cs)))
+  pub comparands_typed : Scope → Level → Operands → Checked Comparands
+  comparands_typed S level no_operands = Ok no_comparands
+  comparands_typed S level (operand operator at e rest) =
+      after (or_refused (comparison_of level operator) operator at) (λ o. after (typing S e) (λ t. after (comparands_typed S level rest) (λ cs. Ok (comparand o t cs))))
 
-  pub combinands_typed : Scope → Operands → Checked Combinands
-  combinands_typed S no_operands = Ok no_combinands
-  combinands_typed S (operand operator at e rest) =
-      after (arith_of operator at) (λ o. after (typing S e) (λ t. after (combinands_typed S rest) (λ cs. Ok (combinand o t cs))))
+  pub combinands_typed : Scope → Level → Operands → Checked Combinands
+  combinands_typed S level no_operands = Ok no_combinands
+  combinands_typed S level (operand operator at e rest) =
+      after (or_refused (arithmetic_of level operator) operator at) (λ o. after (typing S e) (λ t. after (combinands_typed S level rest) (λ cs. Ok (combinand o t cs))))
 
   -- expressions in a list, node-sets where these are wanted
   pub all_typed : Scope → Bool → Trees → Checked TypedTrees
@@ -155,15 +155,19 @@ abbrev mutual
   all_typed S nodes (tree e es) = after (after (typing S e) (wanted nodes (offset_of e))) (λ t. after (all_typed S nodes es) (λ ts. Ok (typed t ts)))
 
 -- the operands of a chain, the first one and the others
-abbrev pub chain_typed : Scope → Bool → Tree → Operands → Checked TypedTrees
-chain_typed S nodes first rest =
-    after (after (typing S first) (wanted nodes (offset_of first))) (λ t. after (operands_typed S nodes rest) (λ ts. Ok (typed t ts)))
+abbrev pub chain_typed : Scope → Level → Tree → Operands → Checked TypedTrees
+chain_typed S level first rest =
+    after (after (typing S first) (wanted (joins_nodes level) (offset_of first))) (λ t. after (operands_typed S level rest) (λ ts. Ok (typed t ts)))
 
-abbrev pub comparison_typed : Scope → Tree → Operands → Checked TypedTree
-comparison_typed S first rest = after (typing S first) (λ t. after (comparands_typed S rest) (λ cs. Ok (compared_with t cs)))
+-- a later operand of a chain
+abbrev pub joined_typed : Scope → Level → Operator → ℕ → Tree → Checked TypedTree
+joined_typed S level operator at e = if_joins (joins level operator) operator at (after (typing S e) (wanted (joins_nodes level) (offset_of e)))
 
-abbrev pub arithmetic_typed : Scope → Tree → Operands → Checked TypedTree
-arithmetic_typed S first rest = after (typing S first) (λ t. after (combinands_typed S rest) (λ cs. Ok (arithmetic t cs)))
+abbrev pub comparison_typed : Scope → Level → Tree → Operands → Checked TypedTree
+comparison_typed S level first rest = after (typing S first) (λ t. after (comparands_typed S level rest) (λ cs. Ok (compared_with t cs)))
+
+abbrev pub arithmetic_typed : Scope → Level → Tree → Operands → Checked TypedTree
+arithmetic_typed S level first rest = after (typing S first) (λ t. after (combinands_typed S level rest) (λ cs. Ok (arithmetic t cs)))
 
 -- `id` and `key` are refused: XSLT 1.0, section 5.2
 abbrev pub pattern_start : PatternStart → ℕ → Checked Bool

@@ -9,63 +9,67 @@ use Rattle.xp_typed_tree.specs.TypedTree.{negation, selection, at_nodes, text}
 use Rattle.xp_typed_tree.specs.TypedView.{typed_tree_of, place_of, typed_seen, typed_steps_seen}
 use Rattle.xp_types.proofs.Giving.{goes, stops, gives-same}
 use Rattle.xp_types.proofs.TypingViews.{view-Or, view-And, view-Union, view-Equal, view-Rel, view-Sum, view-Prod, view-Neg, view-Path, view-Path-start, view-Filter, view-Variable, view-Literal, view-Number, view-Call, view-Root, view-Here, view-From}
-use Rattle.xp_types.proofs.Looping.{list-begins, list-goes, list-stops, list-ends, chain-begins, chain-fails, chain-goes, chain-stops, chain-ends, comparison-begins, comparison-fails, comparison-goes, comparison-stops, comparison-ends, arithmetic-begins, arithmetic-fails, arithmetic-goes, arithmetic-refuses, arithmetic-stops, arithmetic-ends, steps-begin, steps-go, steps-refuse, steps-unresolved, steps-stop, steps-end}
+use Rattle.xp_types.proofs.Looping.{list-begins, list-goes, list-stops, list-ends, chain-begins, chain-fails, chain-goes, chain-stops, chain-ends, comparison-begins, comparison-fails, comparison-goes, comparison-refuses, comparison-stops, comparison-ends, arithmetic-begins, arithmetic-fails, arithmetic-goes, arithmetic-refuses, arithmetic-stops, arithmetic-ends, steps-begin, steps-go, steps-refuse, steps-unresolved, steps-stop, steps-end}
 use Rattle.xp_types.proofs.typing.+typing.Goals as goal
 
 pub type_arithmetic-returns-in_err-type_expr : goal.type_arithmetic-returns-in_err-type_expr
 type_arithmetic-returns-in_err-type_expr t c = let p = err_from_is_err_and c.from_residual.result c.from_residual.ensures.1 in
-    rw (p.1, p.2) (arithmetic-fails _ _ _ _ c.deref.ensures c.in_err-type_expr.ensures)
+    rw (p.1, p.2) (arithmetic-fails _ _ _ _ _ c.deref.ensures c.in_err-type_expr.ensures)
 
 pub type_arithmetic-loop-operand-init : goal.type_arithmetic-loop-operand-init
-type_arithmetic-loop-operand-init t c = arithmetic-begins _ _ _ _ _ _ c.deref.ensures c.in_ok-type_expr.ensures c.in_ok-first.ensures.ok c.new-combined.ensures.items
+type_arithmetic-loop-operand-init t c = arithmetic-begins _ _ _ _ _ _ _ c.deref.ensures c.in_ok-type_expr.ensures c.in_ok-first.ensures.ok c.new-combined.ensures.items
 
 pub type_arithmetic-returns-in_err-operator : goal.type_arithmetic-returns-in_err-operator
 type_arithmetic-returns-in_err-operator t c = let p = err_from_is_err_and c.from_residual-in_err-operator.result c.from_residual-in_err-operator.ensures.1 in
-    rw (p.1, p.2) (arithmetic-refuses _ _ _ _ _ c.operand-item.result _ (rw c.deref-operand-items.ensures.value at c.loop-operand-test.true) (rw c.deref-operand-items.ensures.value at c.operand-item.is) c.loop-operand.invariant c.in_err-operator.ensures)
+    rw (p.1, p.2) (arithmetic-refuses _ _ _ _ _ _ c.operand-item.result _ (rw c.deref-operand-items.ensures.value at c.loop-operand-test.true) (rw c.deref-operand-items.ensures.value at c.operand-item.is) c.loop-operand.invariant c.in_err-operator.ensures)
 
 pub type_arithmetic-returns-in_err-expr : goal.type_arithmetic-returns-in_err-expr
 type_arithmetic-returns-in_err-expr t c = let p = err_from_is_err_and c.from_residual-in_err-expr.result c.from_residual-in_err-expr.ensures.1 in
-    rw (p.1, p.2) (arithmetic-stops _ _ _ _ _ c.operand-item.result _ _ (rw c.deref-operand-items.ensures.value at c.loop-operand-test.true) (rw c.deref-operand-items.ensures.value at c.operand-item.is) c.loop-operand.invariant c.in_ok-operator.ensures c.in_err-expr.ensures)
+    rw (p.1, p.2) (arithmetic-stops _ _ _ _ _ _ c.operand-item.result _ _ (rw c.deref-operand-items.ensures.value at c.loop-operand-test.true) (rw c.deref-operand-items.ensures.value at c.operand-item.is) c.loop-operand.invariant c.in_ok-operator.ensures c.in_err-expr.ensures)
 
 pub type_arithmetic-loop-operand-preserved : goal.type_arithmetic-loop-operand-preserved
-type_arithmetic-loop-operand-preserved t c = arithmetic-goes _ _ _ _ _ _ c.operand-item.result _ c.in_ok-expr.expr _ (rw c.deref-operand-items.ensures.value at c.loop-operand-test.true) (rw c.deref-operand-items.ensures.value at c.operand-item.is) c.loop-operand.invariant c.in_ok-operator.ensures c.in_ok-expr.ensures c.new-in-loop-operand.ensures c.in_ok-push.ensures.items
+type_arithmetic-loop-operand-preserved t c = arithmetic-goes _ _ _ _ _ _ _ c.operand-item.result _ c.in_ok-expr.expr _ (rw c.deref-operand-items.ensures.value at c.loop-operand-test.true) (rw c.deref-operand-items.ensures.value at c.operand-item.is) c.loop-operand.invariant c.in_ok-operator.ensures c.in_ok-expr.ensures c.new-in-loop-operand.ensures c.in_ok-push.ensures.items
 
 pub type_arithmetic-returns : goal.type_arithmetic-returns
-type_arithmetic-returns t c = arithmetic-ends _ _ _ _ _ _ (rw c.deref-operand-items.ensures.value at c.loop-operand-test.false) c.loop-operand.invariant c.arith.ensures
+type_arithmetic-returns t c = arithmetic-ends _ _ _ _ _ _ _ (rw c.deref-operand-items.ensures.value at c.loop-operand-test.false) c.loop-operand.invariant c.arith.ensures
 
 pub type_chain-returns-in_err-type_operand : goal.type_chain-returns-in_err-type_operand
 type_chain-returns-in_err-type_operand t c = let p = err_from_is_err_and c.from_residual.result c.from_residual.ensures.1 in
-    rw (p.1, p.2) (chain-fails _ _ _ _ _ c.deref.ensures c.in_err-type_operand.ensures)
+    rw (p.1, p.2) (chain-fails _ _ _ _ _ c.deref.ensures (rw c.joins_nodes.ensures at c.in_err-type_operand.ensures))
 
 pub type_chain-loop-operand-init : goal.type_chain-loop-operand-init
-type_chain-loop-operand-init t c = chain-begins _ _ _ _ _ _ _ c.deref.ensures c.in_ok-type_operand.ensures c.new-typed.ensures.items c.in_ok-push.ensures.items
+type_chain-loop-operand-init t c = chain-begins _ _ _ _ _ _ _ c.deref.ensures (rw c.joins_nodes.ensures at c.in_ok-type_operand.ensures) c.new-typed.ensures.items c.in_ok-push.ensures.items
 
-pub type_chain-returns-in_err-type_operand-2 : goal.type_chain-returns-in_err-type_operand-2
-type_chain-returns-in_err-type_operand-2 t c = let p = err_from_is_err_and c.from_residual-in_err-type_operand-2.result c.from_residual-in_err-type_operand-2.ensures.1 in
-    rw (p.1, p.2) (chain-stops _ _ _ _ _ c.operand-item.result _ (rw c.deref-operand-items.ensures.value at c.loop-operand-test.true) (rw c.deref-operand-items.ensures.value at c.operand-item.is) c.loop-operand.invariant c.in_err-type_operand-2.ensures)
+pub type_chain-returns-in_err-type_joined : goal.type_chain-returns-in_err-type_joined
+type_chain-returns-in_err-type_joined t c = let p = err_from_is_err_and c.from_residual-in_err-type_joined.result c.from_residual-in_err-type_joined.ensures.1 in
+    rw (p.1, p.2) (chain-stops _ _ _ _ _ c.operand-item.result _ (rw c.deref-operand-items.ensures.value at c.loop-operand-test.true) (rw c.deref-operand-items.ensures.value at c.operand-item.is) c.loop-operand.invariant c.in_err-type_joined.ensures)
 
 pub type_chain-loop-operand-preserved : goal.type_chain-loop-operand-preserved
-type_chain-loop-operand-preserved t c = chain-goes _ _ _ _ _ _ c.operand-item.result _ (rw c.deref-operand-items.ensures.value at c.loop-operand-test.true) (rw c.deref-operand-items.ensures.value at c.operand-item.is) c.loop-operand.invariant c.in_ok-type_operand-2.ensures c.in_ok-push-2.ensures.items
+type_chain-loop-operand-preserved t c = chain-goes _ _ _ _ _ _ c.operand-item.result _ (rw c.deref-operand-items.ensures.value at c.loop-operand-test.true) (rw c.deref-operand-items.ensures.value at c.operand-item.is) c.loop-operand.invariant c.in_ok-type_joined.ensures c.in_ok-push-2.ensures.items
 
 pub type_chain-returns : goal.type_chain-returns
 type_chain-returns t c = chain-ends _ _ _ _ _ (rw c.deref-operand-items.ensures.value at c.loop-operand-test.false) c.loop-operand.invariant
 
 pub type_comparison-returns-in_err-first : goal.type_comparison-returns-in_err-first
 type_comparison-returns-in_err-first t c = let p = err_from_is_err_and c.from_residual.result c.from_residual.ensures.1 in
-    rw (p.1, p.2) (comparison-fails _ _ _ _ c.deref.ensures c.in_err-first.ensures)
+    rw (p.1, p.2) (comparison-fails _ _ _ _ _ c.deref.ensures c.in_err-first.ensures)
 
 pub type_comparison-loop-operand-init : goal.type_comparison-loop-operand-init
-type_comparison-loop-operand-init t c = comparison-begins _ _ _ _ _ _ c.deref.ensures c.in_ok-first.ensures refl c.new-compared.ensures.items
+type_comparison-loop-operand-init t c = comparison-begins _ _ _ _ _ _ _ c.deref.ensures c.in_ok-first.ensures refl c.new-compared.ensures.items
+
+pub type_comparison-returns-in_err-operator : goal.type_comparison-returns-in_err-operator
+type_comparison-returns-in_err-operator t c = let p = err_from_is_err_and c.from_residual-in_err-operator.result c.from_residual-in_err-operator.ensures.1 in
+    rw (p.1, p.2) (comparison-refuses _ _ _ _ _ _ c.operand-item.result _ (rw c.deref-operand-items.ensures.value at c.loop-operand-test.true) (rw c.deref-operand-items.ensures.value at c.operand-item.is) c.loop-operand.invariant c.in_err-operator.ensures)
 
 pub type_comparison-returns-in_err-expr : goal.type_comparison-returns-in_err-expr
 type_comparison-returns-in_err-expr t c = let p = err_from_is_err_and c.from_residual-in_err-expr.result c.from_residual-in_err-expr.ensures.1 in
-    rw (p.1, p.2) (comparison-stops _ _ _ _ _ c.operand-item.result _ (rw c.deref-operand-items.ensures.value at c.loop-operand-test.true) (rw c.deref-operand-items.ensures.value at c.operand-item.is) c.loop-operand.invariant c.in_err-expr.ensures)
+    rw (p.1, p.2) (comparison-stops _ _ _ _ _ _ c.operand-item.result _ _ (rw c.deref-operand-items.ensures.value at c.loop-operand-test.true) (rw c.deref-operand-items.ensures.value at c.operand-item.is) c.loop-operand.invariant c.in_ok-operator.ensures c.in_err-expr.ensures)
 
 pub type_comparison-loop-operand-preserved : goal.type_comparison-loop-operand-preserved
-type_comparison-loop-operand-preserved t c = comparison-goes _ _ _ _ _ _ c.operand-item.result c.comparison_of.result c.in_ok-expr.expr _ (rw c.deref-operand-items.ensures.value at c.loop-operand-test.true) (rw c.deref-operand-items.ensures.value at c.operand-item.is) c.loop-operand.invariant c.in_ok-expr.ensures c.comparison_of.ensures c.new.ensures c.in_ok-push.ensures.items
+type_comparison-loop-operand-preserved t c = comparison-goes _ _ _ _ _ _ _ c.operand-item.result _ c.in_ok-expr.expr _ (rw c.deref-operand-items.ensures.value at c.loop-operand-test.true) (rw c.deref-operand-items.ensures.value at c.operand-item.is) c.loop-operand.invariant c.in_ok-operator.ensures c.in_ok-expr.ensures c.new.ensures c.in_ok-push.ensures.items
 
 pub type_comparison-returns : goal.type_comparison-returns
-type_comparison-returns t c = gives-same (comparison-ends _ _ _ _ _ (rw c.deref-operand-items.ensures.value at c.loop-operand-test.false) c.loop-operand.invariant) c.compared_with.ensures
+type_comparison-returns t c = gives-same (comparison-ends _ _ _ _ _ _ (rw c.deref-operand-items.ensures.value at c.loop-operand-test.false) c.loop-operand.invariant) c.compared_with.ensures
 
 pub type_expr-returns-in_err-type_chain-in-Or : goal.type_expr-returns-in_err-type_chain-in-Or
 type_expr-returns-in_err-type_chain-in-Or t c = let p = err_from_is_err_and c.from_residual.result c.from_residual.ensures.1 in
