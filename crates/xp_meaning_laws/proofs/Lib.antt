@@ -4,3 +4,7 @@ pub mod Agreeing
 pub mod Sound
 pub mod Parts
 pub mod Knowing
+pub mod TextBounds
+pub mod Bounding
+pub mod Bounded
+pub mod StringLengths

@@ -2,3 +2,4 @@ pub mod Slots
 pub mod Types
 pub mod Agreeing
 pub mod KnownReads
+pub mod Bounds

@@ -4,6 +4,7 @@
 ghost use Rattle.xp_meaning_laws.specs.Types.{ValuesHaveTypes};
 ghost use Rattle.xp_meaning_laws.specs.Agreeing.{MeaningNeedsSlotsAlone};
 ghost use Rattle.xp_meaning_laws.specs.KnownReads.{LetsReadAreNamed, CellsReadAreLive};
+ghost use Rattle.xp_meaning_laws.specs.Bounds.{ValuesAreBounded};
 ghost use Rattle.xp_meaning.specs.Laws.{ValuesAreProper};
 
 use doc_tree::Tree;
@@ -33,6 +34,15 @@ pub fn lets_read_are_named()
 /// The cells that are read are of live nodes, where the context's nodes and those of the lets' values live.
 pub fn cells_read_are_live(tree: &Tree)
     ensures { CellsReadAreLive tree.now.nodes }
+{
+    tree.laws();
+}
+
+/// A number that an expression gives is in range, and a text has at most `MAX_TEXT_BYTES` bytes, where this holds of the
+/// literals and numbers written in it, of the lets, of the names of the tree and of the context's place, and the
+/// string-values of the tree are UTF-8.
+pub fn values_are_bounded(tree: &Tree)
+    ensures { ValuesAreBounded tree.now.nodes }
 {
     tree.laws();
 }
