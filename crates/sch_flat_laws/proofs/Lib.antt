@@ -1,0 +1,4 @@
+pub mod CountLemmas
+pub mod FlatNestingLemmas
+pub mod NameLemmas
+pub mod NestingLemmas

@@ -1,0 +1,6 @@
+//! The document that a flat schema is: laws of its definition.
+#![tactic(auto)]
+
+mod laws;
+
+pub use laws::{flat_text_is_read_back, nodes_are_counted};
