@@ -4,7 +4,6 @@ use Rattle.std.specs.List.{flat_map}
 use Rattle.std.specs.Prelude.{codes}
 use Rattle.std.proofs.lemmas.Grind.{flat_map-append}
 use Rattle.sch_base.proofs.Lists.{take-next}
-use Rattle.pyx_core.specs.declared.event.Attr.{Attr}
 use Rattle.sch_flat.specs.declared.given.Given.{Given}
 use Rattle.sch_flat.specs.FlatDocument.{only_given, spaced}
 use Rattle.sch_flat.specs.inner.Given.{seen}

@@ -1,6 +1,5 @@
 -- Sizes of events in their parts, and sums that stand still at the last value.
 use Rattle.std.proofs.Common.{arith, ◌≡◌, ◌==◌, ℕ, suc, ◌+◌, ◌-◌, ◌^◌, Bool, true, false, Option, cond, ◌||◌, List, [], ◌∷◌, ◌++◌, length, min, Some, None, refl, sym, ap, ◌∙◌, append-nil, length-append}
-use Rattle.std.specs.List.{filter}
 use Rattle.std.specs.Option.{is_none}
 use Rattle.std.specs.Prelude.{codes}
 use Rattle.std.specs.Str.{bytes_eq}
@@ -10,12 +9,12 @@ use Rattle.name_scopes.specs.Declarations.{is_plain, plain_attrs}
 use Rattle.name_scopes.specs.QNames.{local_part, prefix_part}
 use Rattle.pyx_core.specs.declared.event.Attr.{Attr}
 use Rattle.pyx_core.specs.declared.event.Event.{Event}
-use Rattle.pyx_core.specs.declared.event.Event.TheVariants.{Start, End, Chars}
+use Rattle.pyx_core.specs.declared.event.Event.TheVariants.{Start, End}
 use Rattle.pyx_core.specs.Escapes.{escape_of, escaped}
 use Rattle.pyx_core.specs.Written.{attr_line, attr_lines, chars_line, end_line, event_lines, start_line, text_of}
 use Rattle.sch_flat.specs.declared.size.FlatSize.{FlatSize}
 use Rattle.sch_flat.specs.FlatDocument.{characters}
-use Rattle.sch_flat.specs.FlatSize.{bytes_of, capped, nodes_at, nodes_of, size_of}
+use Rattle.sch_flat.specs.FlatSize.{bytes_of, capped, nodes_of, size_of}
 use Rattle.sch_flat.specs.inner.Sizes.{attrs_size, declares, sized, sum_of}
 
 sum-capped : (a b m : ℕ) → min (min a m + min b m) m ≡ min (a + b) m

@@ -1,5 +1,5 @@
 -- An element whose events are written one after another.
-use Rattle.std.proofs.Common.{arith, ◌≡◌, ◌==◌, Bool, true, false, List, [], ◌∷◌, ◌++◌, length, Result, OnOk, refl, sym, ap, ◌∙◌, subst, append_assoc}
+use Rattle.std.proofs.Common.{arith, ◌≡◌, ◌==◌, true, false, List, [], ◌∷◌, ◌++◌, length, Result, OnOk, refl, ap, ◌∙◌, subst, append_assoc}
 use Rattle.std.specs.List.{flat_map}
 use Rattle.std.specs.Prelude.{codes}
 use Rattle.sch_model.specs.declared.parts.Diagnostic.{Diagnostic}

@@ -1,5 +1,4 @@
 -- One line.
-use Rattle.std.proofs.Common.{◌≡◌}
 use Rattle.sch_flat.proofs.SizeLemmas.{attr_is}
 use Rattle.sch_flat.proofs.lines.attr_size.Goals as goal
 

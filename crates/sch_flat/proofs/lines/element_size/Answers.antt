@@ -1,5 +1,5 @@
 -- The start, what is held, and the end.
-use Rattle.std.proofs.Common.{List, [], ◌∷◌, map}
+use Rattle.std.proofs.Common.{[], ◌∷◌, map}
 use Rattle.pyx_core.specs.declared.event.Event.TheVariants.{Start, End}
 use Rattle.sch_flat.specs.FlatDocument.{only_given}
 use Rattle.sch_flat.specs.inner.Given.{seen}

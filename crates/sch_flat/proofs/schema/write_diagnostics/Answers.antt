@@ -1,7 +1,6 @@
 -- Nothing without diagnostics, and else all of them in an element.
 use Rattle.std.proofs.Common.{◌≡◌, ◌++◌, List, OnOk, sym, ap, ◌∙◌, subst, append-nil}
 use Rattle.pyx_core.specs.declared.event.Event.{Event}
-use Rattle.sch_flat.specs.FlatDocument.{diagnostic_events}
 use Rattle.sch_flat.proofs.WritingLemmas.{around_one, no_diagnostics, some_diagnostics}
 use Rattle.sch_flat.proofs.schema.write_diagnostics.Goals as goal
 
