@@ -1,4 +1,3 @@
-pub mod NameLemmas
 pub mod Exits
 pub mod ListLemmas
 pub mod Failing

@@ -44,7 +44,7 @@ pub(crate) fn type_test(node_type: NodeType) -> StepTest
 }
 
 /// A name as a node test.
-#[tactic(auto, using(crate::proofs::NameLemmas::none_passes))]
+#[tactic(auto, using(sch_base::proofs::Lists::none_passes))]
 fn name_test(alloc: Global, name: &str) -> Result<StepTest, AllocError>
     ensures { IfOk result (λ test. test ≡ name_test name.now) }
 {
