@@ -1,5 +1,5 @@
 -- The values of functions and of all expressions are bounded.
-use Rattle.std.proofs.Common.{◌≡◌, ℕ, zero, suc, ◌≤◌, List, [], ◌∷◌, length, Option, None, Some, Result, Ok, Err, refl, sym, subst, arith, IsUtf8, slice_get}
+use Rattle.std.proofs.Common.{◌≡◌, ℕ, zero, suc, ◌≤◌, Bool, ℤ, pos, negsuc, ◌≤ℤ◌, leb→le, List, [], ◌∷◌, length, Option, None, Some, Result, Ok, Err, refl, sym, subst, arith, IsUtf8, slice_get}
 use Rattle.std.specs.Prelude.{flat_map}
 use Rattle.std.specs.List.{AllByRecursion as Each}
 use Rattle.std.proofs.lemmas.Str.{IsUtf8-nil, IsUtf8-append}
@@ -12,6 +12,7 @@ use Rattle.xp_tree.specs.declared.numbers.TheConstants.{MAX_WHOLE}
 use Rattle.xp_typed_tree.specs.declared.function.Function.{Function}
 use Rattle.xp_typed_tree.specs.declared.function.Function.TheVariants as functions
 use Rattle.xp_typed_tree.specs.TypedTree.{TypedTree, TypedPlace, TypedTrees, disjunction, conjunction, comparison, arithmetic, negation, union, location, selection, slot, text, whole, application, at_root, at_context, at_nodes, no_typed, typed}
+use Rattle.xp_typed_tree.specs.WellTyped.{WellTyped, PlaceTyped, AllTyped, wants_nodes}
 use Rattle.xp_outcome.specs.Evaluation.{Evaluation, done, given, bind, variable}
 use Rattle.xp_outcome.specs.Slots.{in_slot}
 use Rattle.xp_values.specs.declared.values.Value.{Value}
@@ -30,13 +31,17 @@ use Rattle.xp_meaning.specs.Functions.{applied, as_chars, in_place, argument, no
 use Rattle.xp_meaning.specs.Language.{in_language}
 use Rattle.xp_meaning.specs.Evaluation.{Lets, meaning, meanings, some_true, all_true, compared, combined, values, slot_value, start_nodes, steps_meant, comparands_meant, combinands_meant}
 use Rattle.xp_meaning.specs.Laws.{IsProper}
-use Rattle.xp_meaning_laws.specs.Bounds.{IsText, IsBounded, constants_in, constants_in_all, constants_in_place, constants_in_steps, constants_in_comparands, constants_in_combinands, NamesFit, IsPlacedInRange, ValuesAreBounded}
+use Rattle.xp_meaning_laws.specs.Bounds.{IsText, literals_in, literals_in_all, literals_in_place, literals_in_steps, literals_in_comparands, literals_in_combinands, NamesFit, IsPlacedInRange, ValuesAreBounded}
 use Rattle.xp_meaning_laws.proofs.EachLemmas.{each-front, each-back}
 use Rattle.xp_meaning_laws.proofs.Parts.{Any}
 use Rattle.xp_meaning_laws.proofs.Sound.{Sound, sound_done, sound_given, sound_visit, sound_reading, sound_bind}
 use Rattle.xp_meaning_laws.proofs.StringLengths.{string-le}
 use Rattle.xp_meaning_laws.proofs.TextBounds.{no_text, few_chars, substring_text, normalized_text, before_text, after_text, limited_text, translated_text}
 use Rattle.xp_meaning_laws.proofs.Bounding.{StringsFit, AnyRead, by_answer, Few, Small, bounded, small, few_nodes, filter-shorter, negated-ranged, text_fits, number_fits, sum_fits, filtered_few, path_few, Fit, compared_fits, combined_fits, values_fit}
+
+number_written : (z : ℤ) → pos 0 ≤ℤ z → z ≤ℤ pos MAX_WHOLE → InRange (Whole z)
+number_written (pos n) h k = leb→le n MAX_WHOLE k.le
+number_written (negsuc n) h k = absurd h.le
 
 module _ (T : Table) (strings : StringsFit T) (names : NamesFit T) (some : 1 ≤ length (order T)) (few : length (order T) ≤ MAX_WHOLE) where
   abbrev Held : Value → Type 0
@@ -158,70 +163,70 @@ module _ (T : Table) (strings : StringsFit T) (names : NamesFit T) (some : 1 ≤
   function_fits functions.Ceiling c vs at e = sound_done AnyRead Held _ (number_at-fits vs 0 e)
   function_fits functions.Round c vs at e = sound_done AnyRead Held _ (number_at-fits vs 0 e)
 
-  module _ (L : Lets) (lets : (place : ℕ) (v : Value) → in_slot L place ≡ Some (Ok v) → Held v) where
+  module _ (p : Bool) (L : Lets) (lets : (place : ℕ) (v : Value) → in_slot L place ≡ Some (Ok v) → Held v) where
     slot_fits : (o : Option (Result Value EvalFault)) → ((v : Value) → o ≡ Some (Ok v) → Held v) → Sound AnyRead Held (slot_value o)
     slot_fits None h = sound_done AnyRead Held (NodeSet []) (omega arith)
     slot_fits (Some (Ok v)) h = sound_done AnyRead Held v (h v refl)
     slot_fits (Some (Err f)) h = sound_given AnyRead Held (Err f) (λ v e. cc)
 
     mutual
-      fit : (t : TypedTree) → Each IsBounded (constants_in t) → Fit T strings some (meaning T L t)
-      fit (disjunction ts) h c at =
+      fit : (t : TypedTree) → WellTyped p t → Each IsText (literals_in t) → Fit T strings some (meaning T L t)
+      fit (disjunction ts) s h c at =
           sound_visit AnyRead Held _ (made_fits Any (some_true (meanings T L ts) c) (λ b. Truth b) (by_answer Any (some_true (meanings T L ts) c) (λ b k. tt)) (λ b k. tt))
-      fit (conjunction ts) h c at =
+      fit (conjunction ts) s h c at =
           sound_visit AnyRead Held _ (made_fits Any (all_true (meanings T L ts) c) (λ b. Truth b) (by_answer Any (all_true (meanings T L ts) c) (λ b k. tt)) (λ b k. tt))
-      fit (comparison first rest) h c at =
+      fit (comparison first rest) s h c at =
           sound_visit AnyRead Held _ (sound_bind AnyRead Held Held (meaning T L first c) (λ v. compared T (comparands_meant T L rest) v c)
-          (fit first (each-front IsBounded (constants_in first) (constants_in_comparands rest) h) c at)
+          (fit first s.1 (each-front IsText (literals_in first) (literals_in_comparands rest) h) c at)
           (λ v k. compared_fits T strings some (comparands_meant T L rest) v c k))
-      fit (arithmetic first rest) h c at =
+      fit (arithmetic first rest) s h c at =
           sound_visit AnyRead Held _ (sound_bind AnyRead Held Held (meaning T L first c)
           (λ v. bind (number_in T v) (λ x. bind (combined T (combinands_meant T L rest) x c) (λ y. done (Number y))))
-          (fit first (each-front IsBounded (constants_in first) (constants_in_combinands rest) h) c at)
+          (fit first s.0 (each-front IsText (literals_in first) (literals_in_combinands rest) h) c at)
           (λ v k. sound_bind AnyRead InRange Held (number_in T v) (λ x. bind (combined T (combinands_meant T L rest) x c) (λ y. done (Number y))) (number_fits T strings some v k)
           (λ x e. made_fits InRange (combined T (combinands_meant T L rest) x c) (λ y. Number y) (combined_fits T strings some (combinands_meant T L rest) x c e) (λ y q. q))))
-      fit (negation signs operand) h c at =
+      fit (negation signs operand) s h c at =
           sound_visit AnyRead Held _ (sound_bind AnyRead Held Held (meaning T L operand c) (λ v. bind (number_in T v) (λ x. bind (given (negated signs x)) (λ y. done (Number y))))
-          (fit operand h c at)
+          (fit operand s h c at)
           (λ v k. sound_bind AnyRead InRange Held (number_in T v) (λ x. bind (given (negated signs x)) (λ y. done (Number y))) (number_fits T strings some v k)
           (λ x e. made_fits InRange (given (negated signs x)) (λ y. Number y) (sound_given AnyRead InRange (negated signs x) (λ y q. negated-ranged signs x e y q)) (λ y q. q))))
-      fit (union ts) h c at =
+      fit (union ts) s h c at =
           sound_visit AnyRead Held _ (made_fits Any (values T (λ _. AsItIs) (meanings T L ts) c) (λ vs. NodeSet (in_order T (flat_map nodes_of vs)))
           (by_answer Any (values T (λ _. AsItIs) (meanings T L ts) c) (λ vs k. tt)) (λ vs k. filter-shorter (λ m. mem m (flat_map nodes_of vs)) (order T)))
-      fit (location place steps) h c at =
+      fit (location place steps) s h c at =
           sound_visit AnyRead Held _ (sound_bind AnyRead (Few T strings some) Held (start_nodes T L place c) (λ ns. bind (path T (steps_meant T L steps) c.current ns) (λ ms. done (NodeSet ms)))
-          (fit_start place (each-front IsBounded (constants_in_place place) (constants_in_steps steps) h) c at)
+          (fit_start place s.0 (each-front IsText (literals_in_place place) (literals_in_steps steps) h) c at)
           (λ ns k. made_fits (Few T strings some) (path T (steps_meant T L steps) c.current ns) (λ ms. NodeSet ms) (path_few T strings some (steps_meant T L steps) c.current ns k) (λ ms q. q)))
-      fit (selection base predicates) h c at =
+      fit (selection base predicates) s h c at =
           sound_visit AnyRead Held _ (sound_bind AnyRead Held Held (meaning T L base c) (λ v. bind (filtered (meanings T L predicates) c.current (nodes_of v)) (λ ms. done (NodeSet ms)))
-          (fit base (each-front IsBounded (constants_in base) (constants_in_all predicates) h) c at)
+          (fit base s.0 (each-front IsText (literals_in base) (literals_in_all predicates) h) c at)
           (λ v k. made_fits (Few T strings some) (filtered (meanings T L predicates) c.current (nodes_of v)) (λ ms. NodeSet ms)
           (filtered_few T strings some (meanings T L predicates) c.current (nodes_of v) (few_nodes T strings some v k)) (λ ms q. q)))
-      fit (slot place type) h c at =
+      fit (slot place type) s h c at =
           sound_visit AnyRead Held _ (sound_reading AnyRead Held (variable place) (slot_value (in_slot L place)) tt (slot_fits (in_slot L place) (λ v e. lets place v e)))
-      fit (text characters) h c at = sound_visit AnyRead Held _ (sound_done AnyRead Held (Chars characters) h.0)
-      fit (whole number) h c at = sound_visit AnyRead Held _ (sound_done AnyRead Held (Number (Whole number)) h.0)
-      fit (application f ts) h c at =
+      fit (text characters) s h c at = sound_visit AnyRead Held _ (sound_done AnyRead Held (Chars characters) h.0)
+      fit (whole number) s h c at = sound_visit AnyRead Held _ (sound_done AnyRead Held (Number (Whole number)) (number_written number s.0 s.1))
+      fit (application f ts) s h c at =
           sound_visit AnyRead Held _ (sound_bind AnyRead (Each Held) Held (values T (wanted f) (meanings T L ts) c) (λ vs. applied T f c vs)
-          (values_fit T strings some (wanted f) (meanings T L ts) c at (fits ts h)) (λ vs k. function_fits f c vs at k))
+          (values_fit T strings some (wanted f) (meanings T L ts) c at (fits (wants_nodes f) ts s.2 h)) (λ vs k. function_fits f c vs at k))
 
-      fit_start : (place : TypedPlace) → Each IsBounded (constants_in_place place) → (c : Context) → IsPlacedInRange c → Sound AnyRead (Few T strings some) (start_nodes T L place c)
-      fit_start at_root h c at = sound_done AnyRead (Few T strings some) (0 ∷ []) some
-      fit_start at_context h c at = sound_done AnyRead (Few T strings some) (c.node ∷ []) some
-      fit_start (at_nodes base) h c at =
-          sound_bind AnyRead Held (Few T strings some) (meaning T L base c) (λ v. done (nodes_of v)) (fit base h c at)
+      fit_start : (place : TypedPlace) → PlaceTyped p place → Each IsText (literals_in_place place) → (c : Context) → IsPlacedInRange c → Sound AnyRead (Few T strings some) (start_nodes T L place c)
+      fit_start at_root s h c at = sound_done AnyRead (Few T strings some) (0 ∷ []) some
+      fit_start at_context s h c at = sound_done AnyRead (Few T strings some) (c.node ∷ []) some
+      fit_start (at_nodes base) s h c at =
+          sound_bind AnyRead Held (Few T strings some) (meaning T L base c) (λ v. done (nodes_of v)) (fit base s.0 h c at)
           (λ v k. sound_done AnyRead (Few T strings some) (nodes_of v) (few_nodes T strings some v k))
 
-      fits : (ts : TypedTrees) → Each IsBounded (constants_in_all ts) → Each (Fit T strings some) (meanings T L ts)
-      fits no_typed h = tt
-      fits (typed t ts) h =
-          (fit t (each-front IsBounded (constants_in t) (constants_in_all ts) h), fits ts (each-back IsBounded (constants_in t) (constants_in_all ts) h))
+      fits : (w : Bool) (ts : TypedTrees) → AllTyped p w ts → Each IsText (literals_in_all ts) → Each (Fit T strings some) (meanings T L ts)
+      fits w no_typed s h = tt
+      fits w (typed t ts) s h =
+          (fit t s.0 (each-front IsText (literals_in t) (literals_in_all ts) h), fits w ts s.2 (each-back IsText (literals_in t) (literals_in_all ts) h))
 
 pub values_are_bounded : (T : Table) → WellFormed T → Ordered T → ValuesAreBounded T
-values_are_bounded T form ord L t c v utf8 names proper lets constants at is =
+values_are_bounded T form ord p L t c v sound literals utf8 names proper lets at is =
     let strings : StringsFit T = λ n. (utf8 n, omega (arith, string-le T ord n, form.little_text)) in
     let some : 1 ≤ length (order T) = subst (λ ns. 1 ≤ length ns) (sym ord.root_first.1) (omega arith) in
     let few : length (order T) ≤ MAX_WHOLE = omega (arith, form.few_nodes) in
     let held : (place : ℕ) (w : Value) → in_slot L place ≡ Some (Ok w) → Small T strings some w =
     λ place w e. small T strings some w (lets place w e) (λ ns q. subst (IsProper T) q (proper place w e)) in
-    bounded T strings some v ((fit T strings names some few L held t constants c at).answer v is)
+    bounded T strings some v ((fit T strings names some few p L held t sound literals c at).answer v is)

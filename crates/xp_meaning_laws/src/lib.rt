@@ -38,9 +38,9 @@ pub fn cells_read_are_live(tree: &Tree)
     tree.laws();
 }
 
-/// A number that an expression gives is in range, and a text has at most `MAX_TEXT_BYTES` bytes, where this holds of the
-/// literals and numbers written in it, of the lets, of the names of the tree and of the context's place, and the
-/// string-values of the tree are UTF-8.
+/// A number that a well typed expression gives is in range, and a text has at most `MAX_TEXT_BYTES` bytes, where this holds
+/// of the literals written in it, of the lets, of the names of the tree and of the context's place, and the string-values of
+/// the tree are UTF-8.
 pub fn values_are_bounded(tree: &Tree)
     ensures { ValuesAreBounded tree.now.nodes }
 {
