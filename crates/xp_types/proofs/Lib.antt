@@ -13,3 +13,4 @@ mod PatternCases
 mod TermCases
 mod OneAnswer
 mod Refused
+mod SlotLemmas

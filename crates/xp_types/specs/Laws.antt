@@ -3,6 +3,7 @@ use Rattle.std.specs.Prelude.{◌≡◌, ◌⊎◌, List}
 use Rattle.xp_tree.specs.Tree.{Tree}
 use Rattle.xp_tree.specs.PatternTree.{PathTree}
 use Rattle.xp_typed_tree.specs.TypedTree.{TypedTree, TypedPathTree}
+use Rattle.xp_typed_tree.specs.Slots.{slots_in, slots_in_paths}
 use Rattle.xp_types.specs.declared.faults.TypeFault.{TypeFault}
 use Rattle.xp_types.specs.Scope.{Scope}
 use Rattle.xp_types.specs.Places.{Place}
@@ -10,6 +11,7 @@ use Rattle.xp_types.specs.HasType.{HasType}
 use Rattle.xp_types.specs.TypeFaults.{HasFault, IsFirstTypeFault}
 use Rattle.xp_types.specs.PatternTypes.{PatternHasType}
 use Rattle.xp_types.specs.PatternFaults.{HasPatternFault, IsFirstPatternTypeFault}
+use Rattle.xp_types.specs.SlotsInScope.{AreVariables}
 
 -- each has a typed tree or a first fault
 abbrev pub EachIsTypedOrRefused : Type 0
@@ -41,3 +43,10 @@ FirstTypeFaultsAreUnique = (S : Scope) (e : Tree) (f g : TypeFault) → IsFirstT
 abbrev pub FirstPatternTypeFaultsAreUnique : Type 0
 FirstPatternTypeFaultsAreUnique =
     (S : Scope) (ps : List PathTree) (f g : TypeFault) → IsFirstPatternTypeFault S ps f → IsFirstPatternTypeFault S ps g → f ≡ g
+
+-- a typed tree names the slots of variables in scope, each with its variable's type
+abbrev pub SlotsAreInScope : Type 0
+SlotsAreInScope = (S : Scope) (e : Tree) (t : TypedTree) → HasType S e t → AreVariables S (slots_in t)
+
+abbrev pub PatternSlotsAreInScope : Type 0
+PatternSlotsAreInScope = (S : Scope) (ps : List PathTree) (ts : List TypedPathTree) → PatternHasType S ps ts → AreVariables S (slots_in_paths ts)

@@ -8,4 +8,5 @@ pub mod Places
 pub mod TypeFaults
 pub mod PatternTypes
 pub mod PatternFaults
+pub mod SlotsInScope
 pub mod Laws

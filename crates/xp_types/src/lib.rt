@@ -15,4 +15,6 @@ mod typing;
 pub use checks::{check, check_pattern};
 pub use env::Env;
 pub use faults::{CheckError, TypeFault, TypeKind};
-pub use laws::{expressions_are_typed_or_refused, patterns_are_typed_or_refused};
+pub use laws::{
+    expressions_are_typed_or_refused, patterns_are_typed_or_refused, slots_are_in_scope,
+};
