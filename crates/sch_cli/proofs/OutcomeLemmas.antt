@@ -117,10 +117,10 @@ findings-push T n asserts i assert d before after all within is false_there push
 
 -- the nodes so far, and one more, have their outcomes
 pub outcomes-on : (f : ℕ → Outcome) (before after : OutcomeTable) (ns : List ℕ) (i n d : ℕ) → i < length ns → slice_index_or ns i d ≡ n →
-    0 < before.patterns → Puts before after 0 n (Some (f n)) →
+    Puts before after 0 n (Some (f n)) →
     ((k : ℕ) → k < i → outcome_at before 0 (slice_index_or ns k 0) ≡ Some (f (slice_index_or ns k 0))) →
     (k : ℕ) → k < i + 1 → outcome_at after 0 (slice_index_or ns k 0) ≡ Some (f (slice_index_or ns k 0))
-outcomes-on f before after ns i n d within is low puts so_far =
+outcomes-on f before after ns i n d within is puts so_far =
     below_more (λ k. outcome_at after 0 (slice_index_or ns k 0) ≡ Some (f (slice_index_or ns k 0))) i
     (λ k below. at_node (slice_index_or ns k 0) (λ differ. so_far k below))
     (at_node (slice_index_or ns i 0) (λ differ. absurd (differ here)))
@@ -131,7 +131,7 @@ outcomes-on f before after ns i n d within is low puts so_far =
     at_node : (m : ℕ) → (m ≢ n → outcome_at before 0 m ≡ Some (f m)) → outcome_at after 0 m ≡ Some (f m)
     at_node m before_is = elim (cases_eq m n) [
       | inl same ↦ ap (λ (k : ℕ). outcome_at after 0 k) same ∙ puts.there ∙ ap (λ (k : ℕ). Some (f k)) (sym same)
-      | inr differ ↦ puts.others 0 m low (inr differ) ∙ before_is differ
+      | inr differ ↦ puts.others 0 m (inr differ) ∙ before_is differ
     ]
 
 -- What an outcome is made of

@@ -39,10 +39,13 @@ pub struct Findings {
 
 impl Model for Findings {
     ghost use Rattle.svrl_out.specs.Findings.{OutcomeTable};
+    ghost use Rattle.svrl_out.specs.inner.Cells.{table_code, shown};
 
     ghost Value = { OutcomeTable };
 
-    ghost view = { λ f. record { patterns = f.patterns; cells = f.cells.items } };
+    ghost coded = { table_code };
+
+    ghost view = { λ f. shown f.patterns f.cells.items };
 }
 
 impl Findings {

@@ -21,7 +21,6 @@ loop-n-preserved c =
       patterns = c.in_ok-put.ensures.puts.patterns ∙ c.loop-n.invariant.patterns;
       outcomes = outcomes-on (outcome_of c.args.plan.now c.args.tree.now.nodes) c.loop-n.judged.found c.put.new.self
           c.as_slice-n-items.result.now c.loop-n.n-index c.n-item.result c.n-item.result c.loop-n-test.true (sym c.n-item.is)
-          (omega (arith, c.loop-n.invariant.patterns))
           (subst (λ (outcome : Outcome). Puts c.loop-n.judged.found c.put.new.self 0 c.n-item.result (Some outcome)) c.in_ok-outcome.ensures c.in_ok-put.ensures.puts)
           c.loop-n.invariant.outcomes;
       finds_is = found-on (λ n. has_finding (outcome_of c.args.plan.now c.args.tree.now.nodes n)) c.as_slice-n-items.result.now c.loop-n.n-index
