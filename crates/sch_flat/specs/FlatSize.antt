@@ -3,7 +3,9 @@ use Rattle.std.specs.Prelude.{ℕ, ◌+◌, ◌-◌, ◌^◌, suc, min, nat_le, 
 use Rattle.pyx_core.specs.declared.event.Event.{Event}
 use Rattle.pyx_core.specs.declared.event.Event.TheVariants.{Start, End, Chars, Pi, Comment}
 use Rattle.pyx_core.specs.Written.{text_of}
+use Rattle.doc_tree.specs.limits.TheConstants.{MAX_LIVE_NODES}
 use Rattle.name_scopes.specs.Declarations.{plain_attrs}
+use Rattle.sch_base.specs.declared.limits.TheConstants.{MAX_TEXT_BYTES}
 use Rattle.sch_model.specs.declared.flat.FlatSchema.{FlatSchema}
 use Rattle.sch_flat.specs.declared.size.FlatSize.{FlatSize}
 use Rattle.sch_flat.specs.FlatDocument.{flat_events}
@@ -34,6 +36,6 @@ capped n = min n (2 ^ 64 - 1)
 abbrev pub size_of : List Event → FlatSize
 size_of events = record { bytes = capped (bytes_of events); nodes = capped (nodes_of events) }
 
--- whether the document of a schema has at most 16,777,216 bytes and, with its root, at most 262,144 nodes
+-- whether the document of a schema has no more bytes than a text may have, nor, with its root, more nodes than a tree
 abbrev pub is_small : FlatSchema → Bool
-is_small schema = nat_le (bytes_of (flat_events schema)) 16777216 && nat_le (suc (nodes_of (flat_events schema))) 262144
+is_small schema = nat_le (bytes_of (flat_events schema)) MAX_TEXT_BYTES && nat_le (suc (nodes_of (flat_events schema))) MAX_LIVE_NODES
