@@ -7,11 +7,12 @@ use Rattle.pyx_core.specs.declared.event.Event.TheVariants as event
 use Rattle.doc_tree.specs.kind.Kind.TheVariants.{Root}
 use Rattle.doc_tree.specs.Laws.{WellFormed}
 use Rattle.doc_tree.specs.Lines.{Line, starts, declares, has_attribute, ends, has_text, has_comment, has_instruction, closes, first_lines, last_lines, lines, lines_at, opens}
+use Rattle.doc_tree.specs.Lists.{upto}
 use Rattle.doc_tree.specs.Scope.{Decl}
 use Rattle.doc_tree.specs.Table.{Table, Content, root, element, attribute, text, comment, instruction, AllLive, Facts, content_of, content_at, entry_at, kind_at, kind_of, attrs_of, kids_of}
 use Rattle.doc_tree.specs.Walks.{order, walk}
 use Rattle.name_scopes.specs.Declarations.{declarations, plain_attrs}
-use Rattle.name_scopes.specs.ScopedTree.{Scoped, attribute_line, said_by, unscoped, upto}
+use Rattle.name_scopes.specs.ScopedTree.{Scoped, attribute_line, said_by, unscoped}
 use Rattle.sch_flat.specs.FlatSize.{nodes_at, nodes_of}
 
 -- whether a line begins a node
