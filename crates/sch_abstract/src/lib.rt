@@ -6,7 +6,9 @@ mod expansion;
 mod first;
 mod flat;
 mod ids;
+mod laws;
 mod references;
 mod sizes;
 
 pub use expansion::expand;
+pub use laws::first_fault_agrees;

@@ -1,0 +1,7 @@
+-- The schema was read from the document.
+use Rattle.sch_rules.specs.RawSchema.{raw_schema}
+use Rattle.sch_abstract.proofs.ToldLemmas.{agrees, single-references}
+use Rattle.sch_abstract.proofs.laws.first_fault_agrees.Goals as goal
+
+pub returns : goal.returns
+returns c = agrees (raw_schema c.args.tree.now.nodes) (single-references c.args.tree.now.nodes)
