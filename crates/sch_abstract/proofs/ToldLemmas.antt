@@ -53,7 +53,7 @@ rising-references schema =
     )
 
 rise-sizes : (schema : FlatSchema) → Rise 1 (size_rules schema)
-rise-sizes schema = (lit≤ tt, (lit≤ tt, (lit≤ tt, tt)))
+rise-sizes schema = (lit≤ tt, (lit≤ tt, (lit≤ tt, (lit≤ tt, tt))))
 
 -- a name is told of an element by a rule
 pub data Told (T : Table) (known : Known) (rule n : ℕ) (name : List ℕ) : Type 0 where

@@ -11,12 +11,11 @@ use crate::sizes::check_sizes;
 use sch_model::{FlatSchema, RawSchema, SchemaError};
 use std::alloc::Global;
 
-/// The schema without abstract parts, or the first rule from 13 to 18 that the schema breaks.
+/// The schema without abstract parts, or the first rule from 13 to 19 that the schema breaks.
 ///
 /// The first broken rule from 13 to 15 is the one at the element with the least node number, and there the one with the
 /// least number. Where none of these is broken, the first is the one of the others with the least number. Costs time
-/// linear in the schema; texts and lists are moved, not copied. Rule 19 is not tested yet: the document of the schema is
-/// to have at most 16,777,216 bytes and 262,144 nodes.
+/// linear in the schema; texts and lists are moved, not copied.
 pub fn expand(alloc: Global, raw: RawSchema) -> Result<FlatSchema, SchemaError>
     requires concrete { is_concrete raw ≡ true }
     ensures refused { IfErr result (Refused raw) }

@@ -10,6 +10,7 @@ ghost use Rattle.sch_abstract.specs.inner.Onto.{onto};
 
 use crate::first::FirstFault;
 use sch_base::{MAX_ASSERTIONS, MAX_LETS, MAX_RULES};
+use sch_flat::fits;
 use sch_model::{FlatPattern, FlatRule, FlatSchema, Phase, SchemaError};
 use std::alloc::{AllocError, Global};
 
@@ -34,6 +35,8 @@ fn tell_size(first: &mut FirstFault, schema: &FlatSchema) -> Result<(), AllocErr
         first.tell(17, node, "16384")
     } else if count_lets(schema) > MAX_LETS {
         first.tell(18, node, "1024")
+    } else if !fits(schema) {
+        first.tell(19, node, "16777216")
     } else {
         Ok(())
     }
