@@ -1,17 +1,20 @@
 //! `sch` validates XML documents against Schematron schemas (ISO/IEC 19757-3:2016); the library's `run` does the work.
 #![tactic(auto)]
 
-ghost use Rattle.std.specs.Prelude.{◌≡◌};
+ghost use Rattle.std.specs.Prelude.{◌≡◌, ◌<◌};
 ghost use Rattle.sch_cli.specs.declared.status.Status.TheVariants as statuses;
 ghost use Rattle.sch_cli.specs.Output.{memory_line};
 ghost use Rattle.sch_cli.specs.Runs.{Tells};
 
 use sch_cli::{Status, Words, run};
-use sch_io::{HostShelf, HostSink, Sink, write_all};
+use sch_io::{HostShelf, HostSink, Shelf, Sink, write_all};
 use std::alloc::{AllocError, Global};
 use std::env::{Env, FillError};
+use std::marker::Brand;
 use std::process::ExitCode;
 use std::str;
+use std::sync::ledger::{Blank, Ledger};
+use xp_outcome::Steps;
 
 /// Rooms in bytes that a word of the command line is read into, the next where the one before is too small.
 const ROOMS: [usize; 4] = [256, 4_096, 131_072, 16_777_216];
@@ -22,11 +25,35 @@ fn main(rt: HostRuntime) -> ExitCode {
         Ok(words) => {
             let mut shelf = HostShelf::new(&rt);
             let mut out = HostSink::new(rt.stdout());
-            run(rt.alloc(), &words, &mut shelf, &mut out, &mut err)
+            run_counted::<_, _, _, Brand>(
+                rt.alloc(),
+                &words,
+                &mut shelf,
+                &mut out,
+                &mut err,
+                Blank::new(1),
+            )
         }
         Err(AllocError) => without_words(&mut err),
     };
     ExitCode::from(status.code())
+}
+
+/// Runs the words, with a count of steps over the ledger of the blank.
+fn run_counted<S: Shelf, O: Sink, E: Sink, L: Ledger>(
+    alloc: Global,
+    words: &Words,
+    shelf: &mut S,
+    out: &mut O,
+    err: &mut E,
+    blank: Blank,
+) -> Status
+    requires name { blank.name ≡ L.name }
+    requires parts { blank.parts ≡ L.parts }
+    requires some { 0 < L.parts }
+{
+    let mut steps: Steps<L> = Steps::start(blank);
+    run(alloc, words, shelf, out, err, &mut steps)
 }
 
 /// Ends a run that has no memory for its words.

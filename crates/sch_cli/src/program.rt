@@ -15,16 +15,19 @@ use crate::validation::validate;
 use crate::words::Words;
 use sch_io::{Shelf, Sink};
 use std::alloc::Global;
+use std::sync::ledger::Ledger;
+use xp_outcome::Steps;
 
 /// Carries out what the words ask for, over the files of the shelf: the report goes to `out`, and where the run was
 /// stopped its one line goes to `err`, whose failure changes no status.
 #[tactic(auto, using(crate::proofs::RunLemmas::run_ends, crate::proofs::RunLemmas::line_named))]
-pub fn run<S: Shelf, O: Sink, E: Sink>(
+pub fn run<S: Shelf, O: Sink, E: Sink, L: Ledger>(
     alloc: Global,
     words: &Words,
     shelf: &mut S,
     out: &mut O,
     err: &mut E,
+    steps: &mut Steps<L>,
 ) -> Status
     // over a shelf that tells its files, the run ends as the files and words say
     ensures whole { Ends (S.state shelf.old).files words.now (Appends (O.log out.old).written (O.log out.new).written)
@@ -42,6 +45,8 @@ pub fn run<S: Shelf, O: Sink, E: Sink>(
     ensures write_faults { (O.log out.new).faults ≡ counted_if (is_status statuses.WriteFault result) (O.log out.old).faults }
     // a run that stops before its report leaves the output as it was
     ensures untouched { may_write result ≡ false → O.log out.new ≡ O.log out.old }
+    // nothing is evaluated yet, so no step is counted
+    ensures steps { steps.new ≡ steps.old }
 {
     conclude(carry_out(alloc, words, shelf, out), err)
 }

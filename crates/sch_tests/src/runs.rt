@@ -1,5 +1,7 @@
 //! The library in use, over a shelf and sinks in memory.
 
+ghost use Rattle.std.specs.Prelude.{◌≡◌, ◌<◌};
+
 use crate::reports::{
     EMPTY_LIST, ITEMS, ITEMS_REPORT, LISTS, LISTS_REPORT, NOTHING_FIRED, TWO_ITEMS,
 };
@@ -7,9 +9,12 @@ use crate::rows::sides;
 use sch_cli::{Status, Words, run};
 use sch_io::{MemoryShelf, MemorySink};
 use std::alloc::Global;
+use std::marker::Brand;
 use std::process::Abort;
 use std::str;
+use std::sync::ledger::{Blank, Ledger};
 use std::test::Fail;
+use xp_outcome::Steps;
 
 /// How many bytes a sink of a test holds.
 const ROOM: usize = 4_096;
@@ -69,8 +74,25 @@ fn run_over(
     }
     let mut out = MemorySink::with_room(alloc, room)?;
     let mut err = MemorySink::with_room(alloc, ROOM)?;
-    let status = run(alloc, &list, &mut shelf, &mut out, &mut err);
+    let status = run_counted::<Brand>(alloc, &list, &mut shelf, &mut out, &mut err, Blank::new(1));
     Ok(Ended { status, out, err })
+}
+
+/// Runs words, with a count of steps over the ledger of the blank.
+fn run_counted<L: Ledger>(
+    alloc: Global,
+    words: &Words,
+    shelf: &mut MemoryShelf,
+    out: &mut MemorySink,
+    err: &mut MemorySink,
+    blank: Blank,
+) -> Status
+    requires name { blank.name ≡ L.name }
+    requires parts { blank.parts ≡ L.parts }
+    requires some { 0 < L.parts }
+{
+    let mut steps: Steps<L> = Steps::start(blank);
+    run(alloc, words, shelf, out, err, &mut steps)
 }
 
 /// A shelf that holds a schema and a document.
