@@ -1,4 +1,6 @@
 pub mod CountLemmas
+pub mod ExpansionLemmas
 pub mod FlatNestingLemmas
+pub mod IdLemmas
 pub mod NameLemmas
 pub mod NestingLemmas

@@ -1,2 +1,4 @@
+pub mod Expansion
 pub mod FlatText
+pub mod IdLists
 pub mod NodeCount

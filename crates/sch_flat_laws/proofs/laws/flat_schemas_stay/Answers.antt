@@ -1,0 +1,6 @@
+-- Nothing is left to expand.
+use Rattle.sch_flat_laws.proofs.ExpansionLemmas.{schema_stays}
+use Rattle.sch_flat_laws.proofs.laws.flat_schemas_stay.Goals as goal
+
+pub returns : goal.returns
+returns c = schema_stays
