@@ -1,4 +1,5 @@
 pub mod Expansion
 pub mod FlatText
 pub mod IdLists
+pub mod Joined
 pub mod NodeCount

@@ -3,6 +3,7 @@
 ghost use Rattle.sch_flat_laws.specs.Expansion.{FlatSchemasStay};
 ghost use Rattle.sch_flat_laws.specs.FlatText.{FlatTextIsReadBack};
 ghost use Rattle.sch_flat_laws.specs.IdLists.{IdsAreReadBack};
+ghost use Rattle.sch_flat_laws.specs.Joined.{TextsStandApart};
 ghost use Rattle.sch_flat_laws.specs.NodeCount.{NodesAreCounted};
 
 /// The lines of the document of a schema have no fault, and give its events.
@@ -26,4 +27,9 @@ pub fn flat_schemas_stay()
 /// The ids of an assertion's diagnostics are read back as they are written, with single spaces.
 pub fn ids_are_read_back()
     ensures { IdsAreReadBack }
+{}
+
+/// No two texts meet in a message that is read, nor in the document of a schema with such messages.
+pub fn texts_stand_apart()
+    ensures { TextsStandApart }
 {}
