@@ -4,6 +4,7 @@ use Rattle.std.specs.List.{flat_map}
 use Rattle.std.proofs.Math.ListN.{take-append-drop}
 use Rattle.std.proofs.Math.Seq.{drop-cons, take-length, take-suc}
 use Rattle.std.proofs.lemmas.Grind.{flat_map-append}
+use Rattle.sch_base.proofs.Lists.{flat_map-next, flat_map-cut}
 use Rattle.doc_tree.specs.Lists.{mem}
 use Rattle.doc_tree.specs.Table.{Table}
 use Rattle.doc_tree.specs.Walks.{below}
@@ -11,21 +12,6 @@ use Rattle.doc_tree.proofs.ListLemmas.{mem-get}
 use Rattle.sch_model.specs.declared.fault.SchemaError.{SchemaError}
 use Rattle.sch_rules.specs.Keys.{Key}
 use Rattle.sch_read.proofs.ToldLemmas.{Checked, checked-stop, checked-then}
-
--- with one item more
-pub flat_map-next : {A B : Type 0} (f : A → List B) (xs : List A) (i : ℕ) (x : A) → x ≡ slice_index_or xs i x → i < length xs → flat_map f (take (i + 1) xs) ≡ flat_map f (take i xs) ++ f x
-flat_map-next f xs i x is less =
-    ap (flat_map f) (ap (λ (n : ℕ). take n xs) (add-one i) ∙ take-suc xs i x less)
-    ∙ flat_map-append f (take i xs) (slice_index_or xs i x ∷ [])
-    ∙ ap (λ l. flat_map f (take i xs) ++ l) (append-nil (f (slice_index_or xs i x)) ∙ ap f (sym is))
-
--- the items before a place, the item there, and those after it
-flat_map-cut : {A B : Type 0} (f : A → List B) (xs : List A) (i : ℕ) (x : A) → x ≡ slice_index_or xs i x → i < length xs → flat_map f xs ≡ (flat_map f (take i xs) ++ f x) ++ flat_map f (drop (suc i) xs)
-flat_map-cut f xs i x is less =
-    ap (flat_map f) (sym (take-append-drop i xs) ∙ ap (λ l. take i xs ++ l) (drop-cons xs i x less))
-    ∙ flat_map-append f (take i xs) (slice_index_or xs i x ∷ drop (suc i) xs)
-    ∙ sym (append_assoc (flat_map f (take i xs)) (f (slice_index_or xs i x)) (flat_map f (drop (suc i) xs)))
-    ∙ ap (λ (y : _). (flat_map f (take i xs) ++ f y) ++ flat_map f (drop (suc i) xs)) (sym is)
 
 pub mem-at : (xs : List ℕ) (i x : ℕ) → x ≡ slice_index_or xs i x → i < length xs → mem x xs ≡ true
 mem-at xs i x is less = subst (λ n. mem n xs ≡ true) (sym is) (mem-get xs i x less)

@@ -2,6 +2,7 @@
 use Rattle.std.proofs.Common.{◌≡◌, ℕ, true, false, Bool, cond, List, [], ◌∷◌, ◌++◌, Option, None, Some, refl, ap, ◌∙◌, append-nil}
 use Rattle.std.specs.List.{flat_map}
 use Rattle.std.proofs.lemmas.Grind.{flat_map-append}
+use Rattle.sch_base.proofs.Lists.{flat_map-flat}
 use Rattle.doc_tree.specs.kind.Kind.TheVariants.{Attribute}
 use Rattle.doc_tree.specs.Laws.{Ordered, WellFormed}
 use Rattle.doc_tree.specs.Lists.{mem}
@@ -14,10 +15,6 @@ use Rattle.sch_rules.specs.Elements.{is_foreign, is_ignored, word_at}
 use Rattle.sch_rules.specs.RawSchema.{chars_part, counted_text, holds_text, own_part, part_at, text_at}
 use Rattle.sch_rules.specs.Elements.{word_above}
 use Rattle.sch_read.proofs.PlaceLemmas.{cond-same, ignored-inside, inside, no_element}
-
-flat_map-flat : {A B C : Type 0} (f : B → List C) (g : A → List B) (xs : List A) → flat_map f (flat_map g xs) ≡ flat_map (λ x. flat_map f (g x)) xs
-flat_map-flat f g [] = refl
-flat_map-flat f g (x ∷ xs) = flat_map-append f (g x) (flat_map g xs) ∙ ap (λ l. flat_map f (g x) ++ l) (flat_map-flat f g xs)
 
 flat_map-quiet : {A : Type 0} (f : ℕ → List A) (ns : List ℕ) → ((m : ℕ) → mem m ns ≡ true → f m ≡ []) → flat_map f ns ≡ []
 flat_map-quiet f [] quiet = refl

@@ -5,7 +5,8 @@ use Rattle.doc_tree.specs.Table.{kids_of}
 use Rattle.doc_tree.specs.Walks.{below}
 use Rattle.sch_rules.specs.RawSchema.{part_at}
 use Rattle.sch_read.specs.inner.Messages.{ReadsOn}
-use Rattle.sch_read.proofs.KidLemmas.{all_taken, flat_map-next, mem-at}
+use Rattle.sch_base.proofs.Lists.{flat_map-next}
+use Rattle.sch_read.proofs.KidLemmas.{all_taken, mem-at}
 use Rattle.sch_read.proofs.MessageLemmas.{reads-then}
 use Rattle.sch_read.proofs.PlaceLemmas.{stands_below}
 use Rattle.sch_read.proofs.WalkLemmas.{own-part, silent-parts, told-foreign, told-kids}
