@@ -1,0 +1,11 @@
+pub mod Attributes
+pub mod Blocks
+pub mod Document
+pub mod Elements
+pub mod EventBlocks
+pub mod Front
+pub mod Kids
+pub mod Leaves
+pub mod Places
+pub mod Schema
+pub mod TreeBlocks

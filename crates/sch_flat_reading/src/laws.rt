@@ -1,0 +1,10 @@
+//! Laws of the definitions, for the proofs of callers.
+
+ghost use Rattle.sch_flat_reading.specs.ReadBack.{FrontIsReadBack};
+
+/// What a flat schema says of itself, its prefixes, its lets and its phases are read back from the tree of its document.
+pub fn front_is_read_back()
+    ensures { FrontIsReadBack }
+{
+    doc_tree::laws_from_order();
+}
