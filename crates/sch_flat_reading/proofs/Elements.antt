@@ -60,9 +60,9 @@ unfolding is_loud
 loud-end x = refl
 
 module _ (T : Table) (formed : WellFormed T) (ways : HasWaysUp T) (walks : Walks T) where
-  told-as : (n : ℕ) (content : Option Content) → content_of T n ≡ content →
+  pub told_as : (n : ℕ) (content : Option Content) → content_of T n ≡ content →
       told T n ≡ (map unscoped (lines_at first_lines content) ++ attributes_told T n) ++ (flat_map (told T) (kids_of T n) ++ map unscoped (lines_at last_lines content))
-  told-as n content is =
+  told_as n content is =
       told_at T formed ways walks n
       ∙ ap (λ (c : Option Content). (map unscoped (lines_at first_lines c) ++ attributes_told T n) ++ (flat_map (told T) (kids_of T n) ++ map unscoped (lines_at last_lines c))) is
 
@@ -78,17 +78,17 @@ module _ (T : Table) (formed : WellFormed T) (ways : HasWaysUp T) (walks : Walks
       by (Some root) is kid = absurd (cc)
       by (Some (attribute its value)) is kid = absurd (cc)
       by (Some (text characters)) is kid =
-          let e = sym (told-as n (Some (text characters)) is) ∙ lines in absurd (cc)
+          let e = sym (told_as n (Some (text characters)) is) ∙ lines in absurd (cc)
       by (Some (comment characters)) is kid =
-          let e = sym (told-as n (Some (comment characters)) is) ∙ lines in absurd (cc)
+          let e = sym (told_as n (Some (comment characters)) is) ∙ lines in absurd (cc)
       by (Some (instruction its body)) is kid =
-          let e = sym (told-as n (Some (instruction its body)) is) ∙ lines in absurd (cc)
+          let e = sym (told_as n (Some (instruction its body)) is) ∙ lines in absurd (cc)
       by (Some (element its decls)) is kid =
           let K = flat_map (told T) (kids_of T n) in
           let A = attributes_told T n in
           let e : starts (as_written its) ∷ ((map unscoped (map declares decls) ++ A) ++ (K ++ ends (as_written its) ∷ []))
           ≡ starts (written name) ∷ (head_lines attrs ++ (said held ++ ends (written name) ∷ [])) =
-          sym (told-as n (Some (element its decls)) is) ∙ lines in
+          sym (told_as n (Some (element its decls)) is) ∙ lines in
           let named : as_written its ≡ written name = cc in
           let tails : (map unscoped (map declares decls) ++ A) ++ (K ++ ends (as_written its) ∷ []) ≡ head_lines attrs ++ (said held ++ ends (written name) ∷ []) = cc in
           let quiet : list_all is_quiet (map unscoped (map declares decls) ++ A) ≡ true =

@@ -32,6 +32,9 @@ module _ (T : Table) (formed : WellFormed T) (ways : HasWaysUp T) (walks : Walks
     pub ns_kids : AreKids T d p.ns
     pub let_kids : AreKids T d p.lets
     pub phase_kids : AreKids T d p.phases
+    pub pattern_kids : AreKids T d p.patterns
+    pub title_kids : AreKids T d p.titles
+    pub diagnostics_kids : AreKids T d p.diagnostics
 
   pub words : (schema : FlatSchema) (f : Found T schema) (p : Pieces T f.node schema) → Words f.node schema p
   words schema f p =
@@ -51,6 +54,9 @@ module _ (T : Table) (formed : WellFormed T) (ways : HasWaysUp T) (walks : Walks
         ns_kids = k2.0;
         let_kids = k3.0;
         phase_kids = k4.0;
+        pattern_kids = k5.0;
+        title_kids = k1.0;
+        diagnostics_kids = k5.1;
       }
 
   pub front : (schema : FlatSchema) → Scoped (flat_events schema) T → SameFront schema (raw_schema T)

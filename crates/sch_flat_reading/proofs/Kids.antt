@@ -1,6 +1,7 @@
 -- Kids that tell what items say, one after another.
-use Rattle.std.proofs.Common.{◌≡◌, ℕ, List, [], ◌∷◌, ◌++◌, refl, sym, ap, ◌∙◌, append_assoc}
-use Rattle.std.specs.List.{flat_map}
+use Rattle.std.proofs.Common.{◌≡◌, ℕ, Bool, true, ◌&&◌, List, [], ◌∷◌, ◌++◌, refl, sym, ap, ◌∙◌, append_assoc}
+use Rattle.std.specs.List.{flat_map, list_all}
+use Rattle.std.proofs.lemmas.Bool.{and_parts}
 use Rattle.doc_tree.specs.Lines.{Line}
 use Rattle.doc_tree.specs.Table.{Table}
 use Rattle.pyx_core.specs.declared.event.Event.{Event}
@@ -41,17 +42,19 @@ pub none_left : (T : Table) (ks : List ℕ) → Items T ks → flat_map (told T)
 none_left T [] items h = refl
 none_left T (k ∷ ks) items h = absurd (no-lines (told T k) (flat_map (told T) ks) items.0 (sym h))
 
-pub take_pairs : {A : Type 0} (T : Table) (f : A → List Event) → ((x : A) → Chunk (f x)) → (ks : List ℕ) → Items T ks → (xs : List A) (rest : List Line) →
-    flat_map (told T) ks ≡ said (flat_map f xs) ++ rest → Taken T f xs ks rest
-take_pairs T f chunk ks items [] rest h = record { front = []; back = ks; parts = refl; pairs = tt; left = h; items = items }
-take_pairs T f chunk [] items (x ∷ xs) rest h =
-    absurd (no-lines (said (f x)) (said (flat_map f xs) ++ rest) (chunk x).block
+-- those that tell what the items say, where each of these is one
+pub take_if : {A : Type 0} (T : Table) (f : A → List Event) (ok : A → Bool) → ((x : A) → ok x ≡ true → Chunk (f x)) → (ks : List ℕ) → Items T ks →
+    (xs : List A) → list_all ok xs ≡ true → (rest : List Line) → flat_map (told T) ks ≡ said (flat_map f xs) ++ rest → Taken T f xs ks rest
+take_if T f ok chunk ks items [] good rest h = record { front = []; back = ks; parts = refl; pairs = tt; left = h; items = items }
+take_if T f ok chunk [] items (x ∷ xs) good rest h =
+    absurd (no-lines (said (f x)) (said (flat_map f xs) ++ rest) (chunk x (and_parts (ok x) (list_all ok xs) good).0).block
     (h ∙ ap (λ l. l ++ rest) (said_append (f x) (flat_map f xs)) ∙ append_assoc (said (f x)) (said (flat_map f xs)) rest))
-take_pairs T f chunk (k ∷ ks) items (x ∷ xs) rest h =
+take_if T f ok chunk (k ∷ ks) items (x ∷ xs) good rest h =
+    let goods = and_parts (ok x) (list_all ok xs) good in
     let same : told T k ++ flat_map (told T) ks ≡ said (f x) ++ (said (flat_map f xs) ++ rest) =
     h ∙ ap (λ l. l ++ rest) (said_append (f x) (flat_map f xs)) ∙ append_assoc (said (f x)) (said (flat_map f xs)) rest in
-    let split = split_blocks (told T k) (said (f x)) (flat_map (told T) ks) (said (flat_map f xs) ++ rest) items.0 (chunk x).block same in
-    let taken = take_pairs T f chunk ks items.1 xs rest split.1 in
+    let split = split_blocks (told T k) (said (f x)) (flat_map (told T) ks) (said (flat_map f xs) ++ rest) items.0 (chunk x goods.0).block same in
+    let taken = take_if T f ok chunk ks items.1 xs goods.1 rest split.1 in
     record {
       front = k ∷ taken.front;
       back = taken.back;
@@ -60,3 +63,11 @@ take_pairs T f chunk (k ∷ ks) items (x ∷ xs) rest h =
       left = taken.left;
       items = taken.items;
     }
+
+all-true : {A : Type 0} (xs : List A) → list_all (λ (x : A). true) xs ≡ true
+all-true [] = refl
+all-true (x ∷ xs) = all-true xs
+
+pub take_pairs : {A : Type 0} (T : Table) (f : A → List Event) → ((x : A) → Chunk (f x)) → (ks : List ℕ) → Items T ks → (xs : List A) (rest : List Line) →
+    flat_map (told T) ks ≡ said (flat_map f xs) ++ rest → Taken T f xs ks rest
+take_pairs T f chunk ks items xs rest h = take_if T f (λ x. true) (λ x yes. chunk x) ks items xs (all-true xs) rest h

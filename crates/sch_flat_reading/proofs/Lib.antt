@@ -2,10 +2,15 @@ pub mod Attributes
 pub mod Blocks
 pub mod Document
 pub mod Elements
+pub mod Ends
 pub mod EventBlocks
 pub mod Front
 pub mod Kids
 pub mod Leaves
+pub mod Messages
+pub mod Patterns
 pub mod Places
+pub mod Rules
 pub mod Schema
 pub mod TreeBlocks
+pub mod Whole

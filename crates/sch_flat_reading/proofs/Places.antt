@@ -9,6 +9,7 @@ use Rattle.doc_tree.specs.Laws.{HasWaysUp, Walks, WellFormed}
 use Rattle.doc_tree.specs.Lists.{mem}
 use Rattle.doc_tree.specs.Scope.{Decl, HasScopes, namespace_in, scope_at, xml_prefix, xmlns_prefix}
 use Rattle.doc_tree.specs.Table.{Table, Name, Content, element, attrs_of, content_of, decls_at, kids_of, kind_of, parent_of}
+use Rattle.doc_tree.specs.Walks.{characters_in}
 use Rattle.name_scopes.proofs.ItemNames.{local-at, prefix-at}
 use Rattle.name_scopes.specs.Declarations.{declarations, plain_attrs}
 use Rattle.name_scopes.specs.QNames.{as_written}
@@ -43,6 +44,7 @@ pub record Read (T : Table) (n : ℕ) (local : List ℕ) (attributes : List (Lis
   pub word : word_at T n ≡ word_of local
   pub says : (name : List ℕ) → said_at T n name ≡ given_in attributes name
   pub kids : flat_map (told T) (kids_of T n) ≡ said held
+  pub blank : characters_in (content_of T n) ≡ []
 
 sch-namespace : namespace_in sch_scope (codes "sch") ≡ Some schematron
 unfolding xmlns_prefix xml_prefix
@@ -116,4 +118,5 @@ module _ (T : Table) (formed : WellFormed T) (ways : HasWaysUp T) (walks : Walks
         word = word.0;
         says = says-of n (codes "sch" ++ 58 ∷ local) attributes held plain e;
         kids = e.kids;
+        blank = ap characters_in e.content;
       }

@@ -1,2 +1,3 @@
 pub mod Placeless
 pub mod ReadBack
+pub mod Readable

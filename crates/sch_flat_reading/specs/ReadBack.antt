@@ -6,7 +6,9 @@ use Rattle.sch_model.specs.declared.flat.FlatSchema.{FlatSchema}
 use Rattle.sch_model.specs.declared.raw.RawSchema.{RawSchema}
 use Rattle.sch_rules.specs.RawSchema.{raw_schema}
 use Rattle.sch_flat.specs.FlatDocument.{flat_events}
-use Rattle.sch_flat_reading.specs.Placeless.{placeless_let, placeless_ns, placeless_phase}
+use Rattle.sch_flat_laws.specs.Expansion.{raw_of}
+use Rattle.sch_flat_reading.specs.Placeless.{placeless_let, placeless_ns, placeless_phase, placeless_schema}
+use Rattle.sch_flat_reading.specs.Readable.{ReadableSchema}
 
 -- what a schema says of itself, its prefixes, its lets and its phases are the same but for places
 pub record SameFront (schema : FlatSchema) (raw : RawSchema) : Type 0 where
@@ -18,3 +20,8 @@ pub record SameFront (schema : FlatSchema) (raw : RawSchema) : Type 0 where
 
 abbrev pub FrontIsReadBack : Type 0
 FrontIsReadBack = (schema : FlatSchema) (T : Table) → Scoped (flat_events schema) T → SameFront schema (raw_schema T)
+
+-- the tree of a schema's document says the schema, and only the places of its parts differ
+abbrev pub FlatSchemasAreReadBack : Type 0
+FlatSchemasAreReadBack = (schema : FlatSchema) (T : Table) → Scoped (flat_events schema) T → ReadableSchema schema →
+    placeless_schema (raw_schema T) ≡ placeless_schema (raw_of schema)
