@@ -1,8 +1,0 @@
-//! Outside examples of trees, and of documents that are loaded and written.
-#![tactic(auto)]
-
-#[cfg(test)]
-mod loading;
-pub mod rows;
-#[cfg(test)]
-mod tree;
