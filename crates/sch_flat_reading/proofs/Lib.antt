@@ -1,3 +1,4 @@
+pub mod AgainLemmas
 pub mod Attributes
 pub mod Blocks
 pub mod Document

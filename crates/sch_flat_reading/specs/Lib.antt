@@ -1,3 +1,4 @@
+pub mod Again
 pub mod Placeless
 pub mod ReadBack
 pub mod Readable

@@ -3,4 +3,4 @@
 
 mod laws;
 
-pub use laws::{flat_schemas_are_read_back, front_is_read_back};
+pub use laws::{expansion_stays, flat_schemas_are_read_back, front_is_read_back};
