@@ -1,4 +1,5 @@
-use Rattle.xp_tool.proofs.matching.match_node.Given as goal
+-- The ledger of the run is that of the blank.
+use Rattle.xp_tool.proofs.asking.match_of.Given as goal
 
 abbrev pub ghosts-match_counted : goal.ghosts-match_counted
 ghosts-match_counted a = record { name = a.blank.name; parts = a.blank.parts }
