@@ -24,9 +24,10 @@ use Rattle.sch_model.specs.declared.parts.LetDecl.{LetDecl}
 use Rattle.sch_model.specs.declared.parts.Ns.{Ns}
 use Rattle.sch_model.specs.declared.parts.Phase.{Phase}
 use Rattle.sch_rules.specs.Attributes.{said as said_at}
-use Rattle.sch_rules.specs.Elements.{document_element, element_name, first_or, is_foreign, is_other_name}
+use Rattle.sch_rules.specs.Elements.{document_element, element_name, first_or, is_foreign, is_other_name, word_at}
+use Rattle.sch_rules.specs.Words.{word_of}
 use Rattle.sch_flat.specs.FlatDocument.{characters, diagnostic_events, diagnostics_events, element as sch_element, flat_events, held_events, let_events, ns_events, only_given, pattern_events, phase_events, title_events}
-use Rattle.sch_flat_reading.proofs.Attributes.{given_in, given_is, said_is, say_all, all_plain, are_plain}
+use Rattle.sch_flat_reading.proofs.Attributes.{SayAll, given_in, given_is, said_is, say_all, all_plain, are_plain}
 use Rattle.sch_flat_reading.proofs.Elements.{IsElement, is_element as is_flat_element}
 use Rattle.sch_flat_reading.proofs.EventBlocks.{Chunk, Holds, chunk_element, diagnostic_chunk, holds_all, holds_append, holds_characters, let_chunk, ns_chunk, pattern_chunk, phase_chunk, said, said_append}
 use Rattle.sch_flat_reading.proofs.Kids.{Items, Pairs, Taken, none_left, take_pairs}
@@ -107,9 +108,9 @@ plain-there None (Some phase) = refl
 plain-there (Some version) None = refl
 plain-there (Some version) (Some phase) = refl
 
-plain-names : (schema : FlatSchema) → are_plain (plain_attributes_of schema) ≡ true
+pub plain_names : (schema : FlatSchema) → are_plain (plain_attributes_of schema) ≡ true
 unfolding xmlns_prefix
-plain-names schema = refl
+plain_names schema = refl
 
 root-content : (content : Option Content) → kind_at content ≡ Some kind.Root → content ≡ Some root
 root-content None h = absurd (cc)
@@ -124,7 +125,10 @@ root-content (Some (instruction its body)) h = absurd (cc)
 pub record Found (T : Table) (schema : FlatSchema) : Type 0 where
   pub node : ℕ
   pub is : document_element T ≡ node
+  pub alone : kids_of T 0 ≡ node ∷ []
   pub place : Place T node
+  pub word : word_at T node ≡ word_of (codes "schema")
+  pub own : SayAll T (attrs_of T node) (only_given (plain_attributes_of schema))
   pub says : (name : List ℕ) → said_at T node name ≡ given_in (plain_attributes_of schema) name
   pub kids : flat_map (told T) (kids_of T node) ≡ said (held_events schema)
 
@@ -146,19 +150,19 @@ module _ (T : Table) (formed : WellFormed T) (ways : HasWaysUp T) (walks : Walks
   pub are_kids : (n : ℕ) → AreKids T n (kids_of T n)
   are_kids n = are-kids n (kids_of T n) (λ k h. h)
 
-  root-is : content_of T 0 ≡ Some root
-  root-is = root-content (content_of T 0) formed.root_kind
+  pub root_is : content_of T 0 ≡ Some root
+  root_is = root-content (content_of T 0) formed.root_kind
 
-  no-attributes : (ns : List ℕ) → ((a : ℕ) → mem a ns ≡ true → mem a (attrs_of T 0) ≡ true) → ns ≡ []
-  no-attributes [] within = refl
-  no-attributes (a ∷ ns) within =
+  pub no_attributes : (ns : List ℕ) → ((a : ℕ) → mem a ns ≡ true → mem a (attrs_of T 0) ≡ true) → ns ≡ []
+  no_attributes [] within = refl
+  no_attributes (a ∷ ns) within =
       let h : Some kind.Root ≡ Some kind.Element = sym formed.root_kind ∙ formed.owner_kind 0 a (within a (mem-head a ns)) in absurd (cc)
 
   root-told : told T 0 ≡ flat_map (told T) (kids_of T 0)
   root-told =
       told_at T formed ways walks 0
-      ∙ ap (λ l. (map unscoped (opens T 0) ++ map unscoped (flat_map (opens T) l)) ++ (flat_map (told T) (kids_of T 0) ++ map unscoped (lines_at last_lines (content_of T 0)))) (no-attributes (attrs_of T 0) (λ a h. h))
-      ∙ ap (λ (c : Option Content). (map unscoped (lines_at first_lines c) ++ []) ++ (flat_map (told T) (kids_of T 0) ++ map unscoped (lines_at last_lines c))) root-is
+      ∙ ap (λ l. (map unscoped (opens T 0) ++ map unscoped (flat_map (opens T) l)) ++ (flat_map (told T) (kids_of T 0) ++ map unscoped (lines_at last_lines (content_of T 0)))) (no_attributes (attrs_of T 0) (λ a h. h))
+      ∙ ap (λ (c : Option Content). (map unscoped (lines_at first_lines c) ++ []) ++ (flat_map (told T) (kids_of T 0) ++ map unscoped (lines_at last_lines c))) root_is
       ∙ append-nil (flat_map (told T) (kids_of T 0))
 
   found-element : (schema : FlatSchema) (d : ℕ) → kids_of T 0 ≡ d ∷ [] → told T d ≡ said (flat_events schema) → Found T schema
@@ -167,26 +171,30 @@ module _ (T : Table) (formed : WellFormed T) (ways : HasWaysUp T) (walks : Walks
       let up = formed.kid_parent 0 d member in
       let e = is_flat_element T formed ways walks d (codes "sch:schema") (schema_attrs schema) (held_events schema) (held_holds schema) (kid_items d) (formed.kid_kind 0 d member) same in
       let decls : decls_of T d ≡ sch_scope = ap decls_at e.content ∙ e.declared ∙ declared-there schema.head.schema_version schema.head.default_phase in
-      let above : scope_at T 0 ≡ [] = scopes.at_top 0 formed.root_parent ∙ ap decls_at root-is in
+      let above : scope_at T 0 ≡ [] = scopes.at_top 0 formed.root_parent ∙ ap decls_at root_is in
       let scope : scope_at T d ≡ sch_scope = scopes.under d 0 up ∙ ap (λ (l : List Decl). decls_of T d ++ l) above ∙ append-nil (decls_of T d) ∙ decls in
       let names = named_element T formed ways walks scopes in_scope d (codes "schema") (schema_attrs schema) (held_events schema) e scope in
       let word = word_named T formed ways walks scopes in_scope d (codes "schema") (schema_attrs schema) (held_events schema) e names in
+      let own : SayAll T (attrs_of T d) (only_given (plain_attributes_of schema)) =
+      say_all T (attrs_of T d) (formed.attribute_kind d) (only_given (plain_attributes_of schema))
+      (e.attributes ∙ ap (map attribute_line) (plain-there schema.head.schema_version schema.head.default_phase)) in
       record {
         node = d;
         is = ap (λ (l : List ℕ). first_or 0 (find (λ k. is_element (kind_of T k)) l)) kids
             ∙ ap (λ (b : Bool). first_or 0 (cond b (Some d) None)) (ap (λ (c : Option Content). is_element (kind_at c)) e.content);
+        alone = kids;
         place = record {
           scope = scope;
           counts = ap (list_any (is_foreign T)) (ways.ancestors_at d 0 up ∙ ap (λ l. 0 ∷ l) (ways.no_ancestors 0 formed.root_parent))
-              ∙ ap (λ (c : Option Content). is_other_name (element_name c) || false) root-is;
+              ∙ ap (λ (c : Option Content). is_other_name (element_name c) || false) root_is;
           own = word.1;
         };
+        word = word.0;
+        own = own;
         says = λ name.
-            said_is T in_scope (attrs_of T d) (only_given (plain_attributes_of schema))
-            (say_all T (attrs_of T d) (formed.attribute_kind d) (only_given (plain_attributes_of schema))
-            (e.attributes ∙ ap (map attribute_line) (plain-there schema.head.schema_version schema.head.default_phase)))
-            (all_plain (plain_attributes_of schema) (plain-names schema)).no_colons name
-            ∙ given_is (plain_attributes_of schema) (plain-names schema) name;
+            said_is T in_scope (attrs_of T d) (only_given (plain_attributes_of schema)) own
+            (all_plain (plain_attributes_of schema) (plain_names schema)).no_colons name
+            ∙ given_is (plain_attributes_of schema) (plain_names schema) name;
         kids = e.kids;
       }
 

@@ -22,7 +22,7 @@ use Rattle.sch_flat.specs.FlatDocument.{element as sch_element, only_given}
 use Rattle.sch_rules.specs.Attributes.{said as said_at}
 use Rattle.sch_rules.specs.Elements.{element_name, is_foreign, is_ignored, is_other_name, local_in, word_at}
 use Rattle.sch_rules.specs.Words.{schematron, word_of}
-use Rattle.sch_flat_reading.proofs.Attributes.{AllPlain, all_plain, are_plain, given_in, given_is, said_in, said_is, say_all}
+use Rattle.sch_flat_reading.proofs.Attributes.{AllPlain, SayAll, all_plain, are_plain, given_in, given_is, said_in, said_is, say_all}
 use Rattle.sch_flat_reading.proofs.Elements.{IsElement, is_element}
 use Rattle.sch_flat_reading.proofs.EventBlocks.{Holds, said}
 use Rattle.sch_flat_reading.proofs.Kids.{Items}
@@ -42,6 +42,8 @@ pub record Place (T : Table) (n : ℕ) : Type 0 where
 pub record Read (T : Table) (n : ℕ) (local : List ℕ) (attributes : List (List ℕ × Option (List ℕ))) (held : List Event) : Type 0 where
   pub place : Place T n
   pub word : word_at T n ≡ word_of local
+  pub own : SayAll T (attrs_of T n) (only_given attributes)
+  pub plain : are_plain attributes ≡ true
   pub says : (name : List ℕ) → said_at T n name ≡ given_in attributes name
   pub kids : flat_map (told T) (kids_of T n) ≡ said held
   pub blank : characters_in (content_of T n) ≡ []
@@ -89,14 +91,16 @@ module _ (T : Table) (formed : WellFormed T) (ways : HasWaysUp T) (walks : Walks
   )
 
   -- what an element's attributes say
-  says-of : (n : ℕ) (name : List ℕ) (attributes : List (List ℕ × Option (List ℕ))) (held : List Event) → are_plain attributes ≡ true →
-      IsElement T n name (only_given attributes) held → (wanted : List ℕ) → said_at T n wanted ≡ given_in attributes wanted
-  says-of n name attributes held plain e wanted =
-      let all = all_plain attributes plain in
-      said_is T in_scope (attrs_of T n) (only_given attributes)
-      (say_all T (attrs_of T n) (formed.attribute_kind n) (only_given attributes) (e.attributes ∙ ap (map attribute_line) all.all_kept))
-      all.no_colons wanted
-      ∙ given_is attributes plain wanted
+  own-of : (n : ℕ) (name : List ℕ) (attributes : List (List ℕ × Option (List ℕ))) (held : List Event) → are_plain attributes ≡ true →
+      IsElement T n name (only_given attributes) held → SayAll T (attrs_of T n) (only_given attributes)
+  own-of n name attributes held plain e =
+      say_all T (attrs_of T n) (formed.attribute_kind n) (only_given attributes)
+      (e.attributes ∙ ap (map attribute_line) (all_plain attributes plain).all_kept)
+
+  says-of : (n : ℕ) (attributes : List (List ℕ × Option (List ℕ))) → are_plain attributes ≡ true →
+      SayAll T (attrs_of T n) (only_given attributes) → (wanted : List ℕ) → said_at T n wanted ≡ given_in attributes wanted
+  says-of n attributes plain own wanted =
+      said_is T in_scope (attrs_of T n) (only_given attributes) own (all_plain attributes plain).no_colons wanted ∙ given_is attributes plain wanted
 
   -- an element in another
   pub read_element : (p n : ℕ) (local : List ℕ) (attributes : List (List ℕ × Option (List ℕ))) (held : List Event) → Place T p → parent_of T n ≡ Some p →
@@ -109,6 +113,7 @@ module _ (T : Table) (formed : WellFormed T) (ways : HasWaysUp T) (walks : Walks
       let scope : scope_at T n ≡ sch_scope = scopes.under n p up ∙ ap (λ (l : List Decl). l ++ scope_at T p) decls ∙ place.scope in
       let names = named_element n local (only_given attributes) held e scope in
       let word = word_named n local (only_given attributes) held e names in
+      let own = own-of n (codes "sch" ++ 58 ∷ local) attributes held plain e in
       record {
         place = record {
           scope = scope;
@@ -116,7 +121,9 @@ module _ (T : Table) (formed : WellFormed T) (ways : HasWaysUp T) (walks : Walks
           own = word.1;
         };
         word = word.0;
-        says = says-of n (codes "sch" ++ 58 ∷ local) attributes held plain e;
+        own = own;
+        plain = plain;
+        says = says-of n attributes plain own;
         kids = e.kids;
         blank = ap characters_in e.content;
       }

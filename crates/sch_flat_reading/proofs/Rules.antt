@@ -156,10 +156,10 @@ module _ (T : Table) (formed : WellFormed T) (ordered : Ordered T) (ways : HasWa
         same = rw (r.says (codes "abstract"), r.says (codes "id"), r.says (codes "context"), r.says (codes "role"), r.says (codes "flag"), items_are) refl;
       }
 
-  rule-word : (p : ℕ) → Place T p → (k : ℕ) (rule : FlatRule) → parent_of T k ≡ Some p → can_be_kid (kind_of T k) ≡ true → Items T (kids_of T k) →
+  pub rule_word : (p : ℕ) → Place T p → (k : ℕ) (rule : FlatRule) → parent_of T k ≡ Some p → can_be_kid (kind_of T k) ≡ true → Items T (kids_of T k) →
       told T k ≡ said (rule_events rule) → word_at T k ≡ Some word.Rule
   unfolding xmlns_prefix word_of
-  rule-word p place k rule up kid items same =
+  rule_word p place k rule up kid items same =
       (read_element T formed ways walks scopes in_scope p k (codes "rule")
       ((codes "id", rule.id) ∷ (codes "context", Some rule.context) ∷ (codes "role", rule.role) ∷ (codes "flag", rule.flag) ∷ [])
       (flat_map let_events rule.lets ++ flat_map assertion_events rule.assertions) place up kid items
@@ -179,7 +179,7 @@ module _ (T : Table) (formed : WellFormed T) (ordered : Ordered T) (ways : HasWa
       t1.parts ∙ ap (λ l. t1.front ++ l) (t2.parts ∙ ap (λ l. t2.front ++ l) (none_left T t2.back t2.items t2.left) ∙ append-nil t2.front) in
       let split = kids_parts T k t1.front t2.front (subst (AreKids T k) are (are_kids T formed ways walks scopes in_scope k)) in
       let let_words = all_words T word.Let let_events k (λ j x a b c e. (let_read T formed ways walks scopes in_scope k j x r.place a b c e).word) t1.front pattern.lets split.0 t1.pairs in
-      let rule_words = all_words T word.Rule rule_events k (rule-word k r.place) t2.front pattern.rules split.1 t2.pairs in
+      let rule_words = all_words T word.Rule rule_events k (rule_word k r.place) t2.front pattern.rules split.1 t2.pairs in
       let lets_are : map placeless_let (read_kids T word.Let (let_of T) k) ≡ map placeless_let pattern.lets =
       ap (λ l. map placeless_let (flat_map (read_if T word.Let (let_of T)) l)) are
       ∙ ap (map placeless_let) (stop (read_if T word.Let (let_of T)) t1.front t2.front (none_of T word.Let word.Rule (let_of T) refl t2.front rule_words))
