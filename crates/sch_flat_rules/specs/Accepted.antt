@@ -1,0 +1,50 @@
+-- The document of a flat schema is accepted as a schema.
+use Rattle.std.specs.Prelude.{◌≡◌, length, true, None}
+use Rattle.doc_tree.specs.Laws.{WellFormed}
+use Rattle.doc_tree.specs.Lists.{upto}
+use Rattle.doc_tree.specs.Table.{Table}
+use Rattle.doc_tree.specs.Walks.{order}
+use Rattle.name_scopes.specs.ScopedTree.{Scoped}
+use Rattle.name_scopes.specs.Scoping.{InScope}
+use Rattle.sch_model.specs.Concrete.{is_concrete}
+use Rattle.sch_model.specs.declared.flat.FlatSchema.{FlatSchema}
+use Rattle.sch_rules.specs.FirstBroken.{first_broken}
+use Rattle.sch_rules.specs.RawSchema.{raw_schema}
+use Rattle.sch_abstract.specs.FirstFault.{first_fault}
+use Rattle.sch_abstract.specs.Flat.{flat_schema}
+use Rattle.sch_flat.specs.FlatDocument.{flat_events}
+use Rattle.sch_flat_reading.specs.Again.{placeless_flat}
+use Rattle.sch_flat_reading.specs.Readable.{ReadableSchema}
+use Rattle.sch_flat_rules.specs.Allowed.{Allowed}
+
+-- the tree of a schema's document breaks no rule, where the names of the schema have their forms and differ
+abbrev pub FlatDocumentsBreakNoRule : Type 0
+FlatDocumentsBreakNoRule = (schema : FlatSchema) (T : Table) → Scoped (flat_events schema) T → ReadableSchema schema → Allowed schema →
+    first_broken T ≡ None
+
+-- a document that breaks no rule from 1 to 9, as its tree
+pub record IsSchema (T : Table) : Type 0 where
+  pub well_formed : WellFormed T
+  pub in_scope : InScope T
+  pub numbered : order T ≡ upto (length T)
+  pub unbroken : first_broken T ≡ None
+
+-- what is read of such a document can be said by one again
+abbrev pub ReadingsAreReadable : Type 0
+ReadingsAreReadable = (T : Table) → IsSchema T → ReadableSchema (flat_schema (raw_schema T)) × Allowed (flat_schema (raw_schema T))
+
+-- a document that is read and expanded: it breaks no rule from 1 to 9, and its schema, in which nothing is abstract, none from
+-- 13 to 19
+pub record IsAccepted (T : Table) : Type 0 where
+  pub schema : IsSchema T
+  pub concrete : is_concrete (raw_schema T) ≡ true
+  pub fits : first_fault (raw_schema T) ≡ None
+
+-- the second document is read and expanded too, to the schema of the first; only the places of its parts differ
+pub record StaysAccepted (T U : Table) : Type 0 where
+  pub accepted : IsAccepted U
+  pub same : placeless_flat (flat_schema (raw_schema U)) ≡ placeless_flat (flat_schema (raw_schema T))
+
+-- the document of what a document is expanded to stays so
+abbrev pub ExpansionIsAcceptedAgain : Type 0
+ExpansionIsAcceptedAgain = (T U : Table) → IsAccepted T → Scoped (flat_events (flat_schema (raw_schema T))) U → StaysAccepted T U

@@ -1,0 +1,6 @@
+//! The document that a flat schema is, by the rules of schemas.
+#![tactic(auto)]
+
+mod laws;
+
+pub use laws::{expansion_is_accepted_again, flat_documents_break_no_rule, readings_are_readable};
