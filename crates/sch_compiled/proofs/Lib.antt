@@ -1,0 +1,2 @@
+pub mod FindingsLemmas
+pub mod PatternLemmas

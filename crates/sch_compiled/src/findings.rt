@@ -1,0 +1,117 @@
+//! What validation found: the outcome of each node under each pattern.
+
+ghost use Rattle.std.specs.Prelude.{◌≡◌, ◌+◌, ◌*◌, ◌<◌, Some, None, IfOk, OnOk, OnErr};
+ghost use Rattle.std.specs.Option.{option_copied};
+ghost use Rattle.sch_compiled.specs.Findings.{outcome_at, IsEmptyFor, Puts};
+
+use doc_tree::NodeId;
+use sch_base::{ItemList, Text};
+use std::alloc::{AllocError, Global};
+use std::marker::Model;
+use xp_values::EvalFault;
+
+/// An assert that is false at a node, or a report that is true there.
+#[derive(Debug, Drop)]
+pub struct Finding {
+    /// Which assertion of the rule, counted from 0.
+    pub assertion: u32,
+    /// The texts of the diagnostics that the assertion names, in their order.
+    pub diagnostics: TextList,
+    /// The text of the assertion's message.
+    pub message: Text,
+}
+
+pub type TextList = ItemList<Text>;
+
+/// The findings at a node, in the order of the assertions.
+pub type FindingList = ItemList<Finding>;
+
+/// What a pattern says of a node (ISO/IEC 19757-3, clause 6): the first of its rules that the node matches fires alone.
+#[derive(Debug, Drop)]
+pub enum Outcome {
+    /// No rule of the pattern matches the node.
+    NoRule,
+    /// The rule, counted from 0, fires, and finds this.
+    Fired { rule: u32, findings: FindingList },
+    /// The evaluation met a fault.
+    Fault { kind: EvalFault },
+}
+
+/// A table of outcomes by pattern and node.
+#[derive(Debug, Drop)]
+pub struct Findings {
+    patterns: u32,
+    cells: Vec<Option<Outcome>>,
+}
+
+impl Model for Findings {
+    ghost use Rattle.std.specs.Coded.{codes};
+    ghost use Rattle.sch_compiled.specs.Findings.{OutcomeTable};
+    ghost use Rattle.sch_compiled.specs.inner.Cells.{table_code, shown};
+
+    ghost Value = { OutcomeTable };
+
+    ghost coded = { table_code (Prim.hlevel codes) };
+
+    ghost view = { λ f. shown f.patterns f.cells.items };
+}
+
+impl Findings {
+    /// A table without outcomes, for patterns counted from 0.
+    pub fn new(alloc: Global, patterns: u32) -> Result<Findings, AllocError>
+        ensures { IfOk result (λ table. IsEmptyFor table patterns) }
+    {
+        Ok(Findings {
+            patterns,
+            cells: Vec::new(alloc),
+        })
+    }
+
+    /// For how many patterns the table is.
+    pub fn patterns(&self) -> u32
+        ensures { result ≡ self.now.patterns }
+    {
+        self.patterns
+    }
+
+    /// Puts the outcome of the node under the pattern, in place of an old one.
+    pub fn put(&mut self, p: u32, n: NodeId, o: Outcome) -> Result<(), AllocError>
+        requires { p < self.old.patterns }
+        ensures puts { OnOk result (Puts self.old self.new p n (Some o)) }
+        ensures unchanged { OnErr result (self.new ≡ self.old) }
+    {
+        let place = place_of(self.patterns, p, n);
+        if place >= self.cells.len() {
+            self.cells.resize_with(place + 1, || None)?;
+        }
+        self.cells[place] = Some(o);
+        Ok(())
+    }
+
+    /// Takes the outcome of the node under the pattern away.
+    pub fn clear(&mut self, p: u32, n: NodeId)
+        requires { p < self.old.patterns }
+        ensures { Puts self.old self.new p n None }
+    {
+        let place = place_of(self.patterns, p, n);
+        if place < self.cells.len() {
+            self.cells[place] = None;
+        }
+    }
+
+    /// The outcome of the node under the pattern, or None where none was put or it was cleared since.
+    pub fn get(&self, p: u32, n: NodeId) -> Option<&Outcome>
+        requires { p < self.now.patterns }
+        ensures { option_copied result ≡ outcome_at self.now p n }
+    {
+        let place = place_of(self.patterns, p, n);
+        self.cells.get(place)?.as_ref()
+    }
+}
+
+/// Where in the table the outcome of the node under the pattern stands.
+fn place_of(patterns: u32, p: u32, n: NodeId) -> usize
+    ensures { result ≡ n * patterns + p }
+{
+    n.index() * patterns as usize + p as usize
+}
