@@ -1,0 +1,3 @@
+pub mod FirstMatches
+pub mod KeptReads
+pub mod LetsInOrder
