@@ -1,0 +1,5 @@
+pub mod CutReads
+pub mod Keeps
+pub mod Texts
+pub mod RuleLets
+pub mod Pairs

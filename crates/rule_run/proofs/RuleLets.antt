@@ -1,0 +1,64 @@
+-- The lets of a rule, and its rules, one after another.
+use Rattle.std.proofs.Common.{◌≡◌, ℕ, zero, suc, ◌+◌, ◌<◌, ◌≤◌, List, [], ◌∷◌, Result, Ok, Err, sym, ap, subst, drop, length, get_or, if◌then◌else◌, arith}
+use Rattle.std.specs.Prelude.{Some, slice_get}
+use Rattle.std.specs.Result.{IsErrAnd}
+use Rattle.doc_tree.specs.Table.{Table}
+use Rattle.xp_outcome.specs.Evaluation.{bind, done}
+use Rattle.xp_outcome.specs.Recorded.{Recorded}
+use Rattle.xp_outcome.specs.Running.{Ran}
+use Rattle.xp_outcome.specs.Slots.{with_slot}
+use Rattle.xp_outcome.proofs.Runs.{next_item, no_item}
+use Rattle.xp_values.specs.declared.values.EvalError.{EvalError}
+use Rattle.xp_meaning.specs.Evaluation.{Lets, meaning}
+use Rattle.xp_meaning.specs.Results.{stop_of}
+use Rattle.sch_compiled.specs.declared.parts.PlanLet.{PlanLet}
+use Rattle.sch_compiled.specs.declared.parts.PlanAssert.{PlanAssert}
+use Rattle.sch_compiled.specs.declared.parts.PlanRule.{PlanRule}
+use Rattle.sch_compiled.specs.declared.findings.Outcome.TheVariants.{NoRule, Fired}
+use Rattle.xslt_match.specs.Matching.{matching}
+use Rattle.sch_units.specs.Messages.{alone}
+use Rattle.sch_units.specs.Firing.{all_asserted, fired_by, first_rule}
+use Rattle.rule_run.specs.inner.Setting.{SetsLets}
+
+-- `?` hands on an error: the setting of lets stopped
+pub sets_stop : (T : Table) (n slot : ℕ) (items : List PlanLet) (L M : Lets) (r : Result (Unit {0}) EvalError) (e : EvalError) {held now : Recorded} {before after : ℕ} →
+    IsErrAnd r (λ d. d ≡ e) → ((assertions : List PlanAssert) → Ran (fired_by T L n slot items assertions) (Err (stop_of e)) held now before after) →
+    SetsLets T n slot items L M r held now before after
+sets_stop T n slot items L M (Ok v) e h go = absurd h
+sets_stop T n slot items L M (Err d) e {held} {now} {before} {after} h go =
+    λ assertions. subst (λ x. Ran (fired_by T L n slot items assertions) (Err (stop_of x)) held now before after) (sym h) (go assertions)
+
+-- the item of a list at a place
+pub item_there : {X : Type 0} (xs : List X) (i : ℕ) (x : X) → i < length xs → x ≡ get_or xs i x → slice_get xs i ≡ Some x
+item_there [] i x below is = absurd (omega (arith, below))
+item_there (y ∷ xs) zero x below is = ap Some (sym is)
+item_there (y ∷ xs) (suc i) x below is = item_there xs i x (omega (arith, below)) is
+
+-- the next let of a rule, and the end
+module _ (T : Table) (L : Lets) (n : ℕ) (items : List PlanLet) (i slot : ℕ) (assertions : List PlanAssert) where
+  pub lets-next : (item : PlanLet) → i < length items → item ≡ get_or items i item →
+      fired_by T L n slot (drop i items) assertions
+      ≡ bind (meaning T L item.expr (alone n)) (λ v. fired_by T (with_slot L slot (Ok v)) n (slot + 1) (drop (i + 1) items) assertions)
+  lets-next item below is = ap (λ ts. fired_by T L n slot ts assertions) (next_item items i item below is)
+
+  pub lets-end : length items ≤ i → fired_by T L n slot (drop i items) assertions ≡ all_asserted T L n assertions
+  lets-end past = ap (λ ts. fired_by T L n slot ts assertions) (no_item items i past)
+
+-- the next rule, and the end
+module _ (T : Table) (count : ℕ) (L : Lets) (n : ℕ) (rules : List PlanRule) (i : ℕ) where
+  pub rules-next : (rule : PlanRule) → i < length rules → rule ≡ get_or rules i rule →
+      first_rule T count L n i (drop i rules)
+      ≡ bind (matching T L rule.context n) (λ matches.
+      if matches then bind (fired_by T L n count rule.lets rule.assertions) (λ findings. done (Fired i findings))
+      else first_rule T count L n (i + 1) (drop (i + 1) rules))
+  rules-next rule below is = ap (first_rule T count L n i) (next_item rules i rule below is)
+
+  pub rules-end : length rules ≤ i → first_rule T count L n i (drop i rules) ≡ done NoRule
+  rules-end past = ap (first_rule T count L n i) (no_item rules i past)
+
+-- slots behind those of some lets
+pub next_slot : (count i : ℕ) → (count + i) + 1 ≡ count + (i + 1)
+next_slot count i = omega arith
+
+pub behind_count : (count i : ℕ) → count ≤ count + i
+behind_count count i = omega arith

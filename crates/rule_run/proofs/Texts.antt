@@ -1,0 +1,37 @@
+-- Texts of values, and texts that are joined.
+use Rattle.std.proofs.Common.{◌≡◌, ℕ, List, ◌+◌, sym, ◌∙◌, ap, drop, length, get_or, ◌<◌, ◌≤◌}
+use Rattle.xp_outcome.specs.Evaluation.{done, given, bind}
+use Rattle.xp_outcome.proofs.Outcomes.{bind_assoc, bind_alike, bind-done, bind-right}
+use Rattle.xp_outcome.proofs.Runs.{next_item, no_item}
+use Rattle.doc_tree.specs.Table.{Table}
+use Rattle.xp_values.specs.declared.values.Value.{Value}
+use Rattle.xp_values.specs.declared.values.Value.TheVariants.{Chars}
+use Rattle.xp_values.specs.declared.values.EvalFault.{EvalFault}
+use Rattle.xp_values.specs.Texts.{concat}
+use Rattle.xp_meaning.specs.Conversions.{as_wanted, text_in}
+use Rattle.xp_meaning.specs.declared.want.Want.TheVariants.{AsText}
+use Rattle.xp_meaning.specs.Evaluation.{Lets}
+use Rattle.xp_meaning.specs.Functions.{text_of}
+use Rattle.sch_compiled.specs.declared.parts.PlanPart.{PlanPart}
+use Rattle.sch_units.specs.Messages.{joined, part_text}
+
+-- the text that a value was converted to
+pub text_taken : (T : Table) (v : Value) → text_in T v ≡ bind (as_wanted T AsText v) (λ w. done (text_of w))
+text_taken T v =
+    sym (bind_assoc (text_in T v) (λ s. done (Chars s)) (λ w. done (text_of w))
+    ∙ bind_alike (text_in T v) _ _ (λ s. bind-done {F = EvalFault} (Chars s) (λ w. done (text_of w)))
+    ∙ bind-right (text_in T v))
+
+-- the text of a value that is one
+pub chars_taken : (s : List ℕ) → done {F = EvalFault} s ≡ bind (done (Chars s)) (λ w. done (text_of w))
+chars_taken s = sym (bind-done {F = EvalFault} (Chars s) (λ w. done (text_of w)))
+
+-- a loop that joins parts: the next part, and the end
+module _ (T : Table) (L : Lets) (n : ℕ) (parts : List PlanPart) (i : ℕ) (text : List ℕ) where
+  pub joined-next : (part : PlanPart) → i < length parts → part ≡ get_or parts i part →
+      joined T L n text (drop i parts)
+      ≡ bind (part_text T L n part) (λ s. bind (given (concat text s)) (λ more. joined T L n more (drop (i + 1) parts)))
+  joined-next part below is = ap (joined T L n text) (next_item parts i part below is)
+
+  pub joined-end : length parts ≤ i → joined T L n text (drop i parts) ≡ done text
+  joined-end past = ap (joined T L n text) (no_item parts i past)

@@ -1,0 +1,4 @@
+pub mod Counted
+pub mod Joining
+pub mod Keeping
+pub mod Setting

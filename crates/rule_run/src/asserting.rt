@@ -1,0 +1,102 @@
+//! The assertions of a rule at a node (ISO/IEC 19757-3, clause 5.4).
+
+ghost use Rattle.std.specs.Prelude.{◌≡◌, ◌<◌, ◌≤◌, ◌++◌, ◌^◌, length, OnOk, OnErr};
+ghost use Rattle.std.specs.Option.{option_to_list};
+ghost use Rattle.xp_outcome.specs.Running.{Ran};
+ghost use Rattle.xp_meaning.specs.Results.{shown};
+ghost use Rattle.sch_units.specs.Firing.{all_asserted, asserted, found, is_found};
+
+use crate::validator::Validator;
+use sch_base::ItemList;
+use sch_compiled::{Finding, FindingList, PlanAssert};
+use std::alloc::AllocError;
+use std::sync::ledger::Ledger;
+use xp_meaning::Lets;
+use xp_outcome::{Recorder, Steps};
+use xp_values::{EvalError, to_truth};
+
+impl Validator<'_> {
+    /// The findings of assertions, in order.
+    pub(crate) fn all_asserted<L: Ledger>(
+        &self,
+        assertions: &[PlanAssert],
+        lets: &Lets,
+        reads: &mut Recorder,
+        steps: &mut Steps<L>,
+    ) -> Result<FindingList, EvalError>
+        requires { length assertions.now < 2 ^ 32 }
+        ensures { Ran (all_asserted self.now.caller.tree.now.nodes lets.now self.now.node assertions.now)
+            (shown result) reads.old reads.new steps.old steps.new }
+    {
+        let mut findings = ItemList::new(self.caller.alloc);
+        for (i, assertion) in assertions.iter().enumerate() {
+            let finding = self.asserted(i as u32, assertion, lets, reads, steps)?;
+            push_found(&mut findings, finding)?;
+        }
+        Ok(findings)
+    }
+
+    /// The finding of an assertion, counted from 0, if there is one.
+    fn asserted<L: Ledger>(
+        &self,
+        i: u32,
+        assertion: &PlanAssert,
+        lets: &Lets,
+        reads: &mut Recorder,
+        steps: &mut Steps<L>,
+    ) -> Result<Option<Finding>, EvalError>
+        ensures { Ran (asserted self.now.caller.tree.now.nodes lets.now self.now.node i assertion.now)
+            (shown result) reads.old reads.new steps.old steps.new }
+    {
+        let value = self.value(&assertion.test, lets, reads, steps)?;
+        if is_found(assertion.report, to_truth(&value)) {
+            let finding = self.found(i, assertion, lets, reads, steps)?;
+            return Ok(Some(finding));
+        }
+        Ok(None)
+    }
+
+    /// The finding of an assertion: the texts of its diagnostics, then its message.
+    fn found<L: Ledger>(
+        &self,
+        i: u32,
+        assertion: &PlanAssert,
+        lets: &Lets,
+        reads: &mut Recorder,
+        steps: &mut Steps<L>,
+    ) -> Result<Finding, EvalError>
+        ensures { Ran (found self.now.caller.tree.now.nodes lets.now self.now.node i assertion.now)
+            (shown result) reads.old reads.new steps.old steps.new }
+    {
+        let diagnostics = self.diagnostic_texts(
+            assertion.diagnostics.as_slice(),
+            lets,
+            reads,
+            steps,
+        )?;
+        let message = self.message(assertion.message.as_slice(), lets, reads, steps)?;
+        Ok(Finding {
+            assertion: i,
+            diagnostics,
+            message,
+        })
+    }
+}
+
+/// Whether a test's truth is a finding: of a report where it is true, of an assert where it is false.
+fn is_found(report: bool, truth: bool) -> bool
+    ensures { result ≡ is_found report truth }
+{
+    if report { truth } else { !truth }
+}
+
+/// Puts a finding, if there is one, at the end.
+fn push_found(findings: &mut FindingList, finding: Option<Finding>) -> Result<(), AllocError>
+    ensures pushed { OnOk result (findings.new ≡ findings.old ++ option_to_list finding) }
+    ensures unchanged { OnErr result (findings.new ≡ findings.old) }
+{
+    match finding {
+        Some(finding) => findings.push(finding),
+        None => Ok(()),
+    }
+}

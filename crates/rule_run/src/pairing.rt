@@ -1,0 +1,65 @@
+//! The evaluation of nodes under patterns.
+
+ghost use Rattle.std.specs.Prelude.{◌≡◌, ◌<◌, ◌≤◌, true, length};
+ghost use Rattle.doc_tree.specs.Table.{is_live};
+ghost use Rattle.xp_outcome.specs.Recorded.{nothing_read};
+ghost use Rattle.xp_outcome.specs.Running.{Ran};
+ghost use Rattle.sch_compiled.specs.Soundness.{IsCounted};
+ghost use Rattle.sch_units.specs.Units.{unit_pair};
+ghost use Rattle.rule_run.specs.Kept.{pair_reads, pair_shown};
+
+use crate::kept::{Kept, keep_pair};
+use crate::validator::Validator;
+use doc_tree::{NodeId, Tree};
+use sch_compiled::Plan;
+use sch_units::first_match_fires;
+use std::alloc::{AllocError, Global};
+use std::sync::ledger::Ledger;
+use xp_eval::Caller;
+use xp_meaning::Lets;
+use xp_outcome::{Recorder, Steps};
+
+/// Evaluates a live node under the active pattern `p` and under the given lets in force: the first of the pattern's rules
+/// that matches the node fires alone, and its lets and assertions are evaluated at the node.
+///
+/// A fault of the evaluation is kept as the outcome. The only error is want of memory, after which the count has risen by
+/// at most the visits. The slots after those of the lets in force hold the rule's lets while it runs; what is read of these
+/// isn't kept.
+///
+/// A rule that doesn't match costs what `matches` does, and no memory beside; a message costs its length and that of its
+/// parts.
+#[tactic(auto, using(xp_outcome::proofs::SlotLemmas::kept_whole))]
+pub fn run_pair<L: Ledger>(
+    alloc: Global,
+    plan: &Plan,
+    tree: &Tree,
+    p: u32,
+    n: NodeId,
+    lets: &mut Lets,
+    steps: &mut Steps<L>,
+) -> Result<Kept, AllocError>
+    requires counted { IsCounted plan.now }
+    requires active { p < length plan.now.patterns }
+    requires live { is_live tree.now.nodes n ≡ true }
+    requires room { length lets.old ≤ length plan.now.lets }
+    ensures ran { Ran (unit_pair plan.now tree.now.nodes lets.old p n)
+        (pair_shown result) nothing_read (pair_reads result) steps.old steps.new }
+    ensures counted { steps.old < steps.new }
+    ensures slots { lets.new ≡ lets.old }
+{
+    first_match_fires();
+    lets.laws();
+    let mut reads = Recorder::new(alloc);
+    steps.tick();
+    let count = plan.let_count();
+    let validator = Validator {
+        caller: Caller { alloc, tree },
+        node: n,
+        count,
+    };
+    let pattern = &plan.patterns.as_slice()[p as usize];
+    let outcome = validator.first_rule(pattern.rules.as_slice(), lets, &mut reads, steps);
+    lets.cut(count);
+    reads.cut_lets(count);
+    keep_pair(outcome, reads)
+}

@@ -1,0 +1,88 @@
+//! The rules of a pattern at a node (ISO/IEC 19757-3, clause 6).
+
+ghost use Rattle.std.specs.Prelude.{◌≡◌, ◌<◌, ◌≤◌, ◌+◌, ◌^◌, true, length};
+ghost use Rattle.doc_tree.specs.Table.{is_live};
+ghost use Rattle.xp_outcome.specs.Evaluation.{bind, done};
+ghost use Rattle.xp_outcome.specs.Running.{Ran};
+ghost use Rattle.xp_outcome.specs.Slots.{slots_below};
+ghost use Rattle.xp_meaning.specs.Results.{shown};
+ghost use Rattle.sch_compiled.specs.declared.findings.Outcome.TheVariants as outcomes;
+ghost use Rattle.sch_units.specs.Firing.{fired_by, first_rule};
+ghost use Rattle.rule_run.specs.inner.Counted.{IsRuleCounted, AreRulesCounted};
+ghost use Rattle.rule_run.specs.inner.Setting.{SetsLets};
+
+use crate::validator::Validator;
+use sch_compiled::{Outcome, PlanLet, PlanRule};
+use std::sync::ledger::Ledger;
+use xp_eval::Caller;
+use xp_meaning::Lets;
+use xp_outcome::{Recorder, Steps};
+use xp_values::EvalError;
+use xslt_match::matches;
+
+impl Validator<'_> {
+    /// The outcome of the first rule that matches the node; the rules after it aren't tried.
+    pub(crate) fn first_rule<L: Ledger>(
+        &self,
+        rules: &[PlanRule],
+        lets: &mut Lets,
+        reads: &mut Recorder,
+        steps: &mut Steps<L>,
+    ) -> Result<Outcome, EvalError>
+        requires live { is_live self.now.caller.tree.now.nodes self.now.node ≡ true }
+        requires few { length rules.now < 2 ^ 32 }
+        requires counted { AreRulesCounted self.now.count rules.now }
+        ensures ran { Ran (first_rule self.now.caller.tree.now.nodes self.now.count lets.old self.now.node 0 rules.now)
+            (shown result) reads.old reads.new steps.old steps.new }
+        ensures below { slots_below self.now.count lets.new ≡ slots_below self.now.count lets.old }
+    {
+        let Caller { alloc, tree } = self.caller;
+        for (r, rule) in rules.iter().enumerate() {
+            let matched = matches(alloc, tree, &rule.context, self.node, lets, reads, steps)?;
+            if matched {
+                return self.fired(r as u32, rule, lets, reads, steps);
+            }
+        }
+        Ok(Outcome::NoRule)
+    }
+
+    /// The outcome of a rule, counted from 0, that fires.
+    fn fired<L: Ledger>(
+        &self,
+        r: u32,
+        rule: &PlanRule,
+        lets: &mut Lets,
+        reads: &mut Recorder,
+        steps: &mut Steps<L>,
+    ) -> Result<Outcome, EvalError>
+        requires { IsRuleCounted self.now.count rule.now }
+        ensures ran { Ran (bind (fired_by self.now.caller.tree.now.nodes lets.old self.now.node self.now.count rule.now.lets rule.now.assertions)
+            (λ findings. done (outcomes.Fired r findings)))
+            (shown result) reads.old reads.new steps.old steps.new }
+        ensures below { slots_below self.now.count lets.new ≡ slots_below self.now.count lets.old }
+    {
+        self.set_lets(rule.lets.as_slice(), lets, reads, steps)?;
+        let findings = self.all_asserted(rule.assertions.as_slice(), lets, reads, steps)?;
+        Ok(Outcome::Fired { rule: r, findings })
+    }
+
+    /// Evaluates the lets of a rule in order, and puts the value of each into the next slot.
+    fn set_lets<L: Ledger>(
+        &self,
+        items: &[PlanLet],
+        lets: &mut Lets,
+        reads: &mut Recorder,
+        steps: &mut Steps<L>,
+    ) -> Result<(), EvalError>
+        requires { self.now.count + length items.now < 2 ^ 32 }
+        ensures ran { SetsLets self.now.caller.tree.now.nodes self.now.node self.now.count items.now lets.old lets.new
+            result reads.old reads.new steps.old steps.new }
+        ensures below { slots_below self.now.count lets.new ≡ slots_below self.now.count lets.old }
+    {
+        for (i, item) in items.iter().enumerate() {
+            let value = self.value(&item.expr, lets, reads, steps)?;
+            lets.set(self.count + i as u32, Ok(value))?;
+        }
+        Ok(())
+    }
+}
