@@ -1,4 +1,5 @@
 pub mod AcceptedAgain
+pub mod AllowedAlike
 pub mod AllowedNames
 pub mod AllowedParts
 pub mod Counting

@@ -25,9 +25,9 @@ each_map P f [] h = tt
 each_map P f (x ∷ xs) h = (h.0, each_map P f xs h.1)
 
 -- what is read of each kid
-each-read : {A : Type 0} (T : Table) (w : Word) (read : ℕ → A) (P : A → Type 0) → ((k : ℕ) → P (read k)) → (ks : List ℕ) → Each P (flat_map (read_if T w read) ks)
-each-read T w read P each [] = tt
-each-read T w read P each (k ∷ ks) = by (is_word w (word_at T k)) (each-read T w read P each ks)
+pub each_read : {A : Type 0} (T : Table) (w : Word) (read : ℕ → A) (P : A → Type 0) → ((k : ℕ) → P (read k)) → (ks : List ℕ) → Each P (flat_map (read_if T w read) ks)
+each_read T w read P each [] = tt
+each_read T w read P each (k ∷ ks) = by (is_word w (word_at T k)) (each_read T w read P each ks)
   where
     by : (b : Bool) → Each P (flat_map (read_if T w read) ks) → Each P (cond b (read k ∷ []) [] ++ flat_map (read_if T w read) ks)
     by true rest = (each k, rest)
@@ -60,7 +60,7 @@ module _ (T : Table) (in_scope : InScope T) (ids : IdsAreReadBack) (apart : Text
   pattern-readable : (n : ℕ) → ReadablePattern (flat_pattern (pattern_of T n))
   pattern-readable n =
       each_map ReadableRule flat_rule (read_kids T word.Rule (rule_of T) n)
-      (each-read T word.Rule (rule_of T) (λ (rule : RawRule). ReadableRule (flat_rule rule)) (λ k. items-readable (kids_of T k)) (kids_of T n))
+      (each_read T word.Rule (rule_of T) (λ (rule : RawRule). ReadableRule (flat_rule rule)) (λ k. items-readable (kids_of T k)) (kids_of T n))
 
   diagnostics-readable : (ks : List ℕ) → Each ReadableDiagnostic (flat_map (diagnostics_at T) ks)
   diagnostics-readable [] = tt
@@ -68,7 +68,7 @@ module _ (T : Table) (in_scope : InScope T) (ids : IdsAreReadBack) (apart : Text
       each_append ReadableDiagnostic (diagnostics_at T k) (flat_map (diagnostics_at T) ks) (by (is_word word.Diagnostics (word_at T k))) (diagnostics-readable ks)
     where
       by : (b : Bool) → Each ReadableDiagnostic (cond b (read_kids T word.Diagnostic (diagnostic_of T) k) [])
-      by true = each-read T word.Diagnostic (diagnostic_of T) ReadableDiagnostic diagnostic-readable (kids_of T k)
+      by true = each_read T word.Diagnostic (diagnostic_of T) ReadableDiagnostic diagnostic-readable (kids_of T k)
       by false = tt
 
   pub readable : ReadableSchema (flat_schema (raw_schema T))
@@ -76,6 +76,6 @@ module _ (T : Table) (in_scope : InScope T) (ids : IdsAreReadBack) (apart : Text
       let d = document_element T in
       record {
         patterns = each_map ReadablePattern flat_pattern (read_kids T word.Pattern (pattern_of T) d)
-            (each-read T word.Pattern (pattern_of T) (λ (pattern : RawPattern). ReadablePattern (flat_pattern pattern)) pattern-readable (kids_of T d));
+            (each_read T word.Pattern (pattern_of T) (λ (pattern : RawPattern). ReadablePattern (flat_pattern pattern)) pattern-readable (kids_of T d));
         diagnostics = diagnostics-readable (kids_of T d);
       }

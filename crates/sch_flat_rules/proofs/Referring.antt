@@ -73,9 +73,9 @@ rules-each : {A B : Type 0} (f : A → Place) (g : B → Place) (forget : B → 
 rules-each f g forget same [] = refl
 rules-each f g forget same (x ∷ xs) = ap₂ (λ l m. l ∷ m) (same x) (rules-each f g forget same xs)
 
-names-over : {A B : Type 0} (f : A → List ℕ) (g : B → List ℕ) (forget : B → A) → ((x : B) → f (forget x) ≡ g x) → (xs : List B) → map f (map forget xs) ≡ map g xs
-names-over f g forget same [] = refl
-names-over f g forget same (x ∷ xs) = ap₂ (λ l m. l ∷ m) (same x) (names-over f g forget same xs)
+pub names_over : {A B : Type 0} (f : A → List ℕ) (g : B → List ℕ) (forget : B → A) → ((x : B) → f (forget x) ≡ g x) → (xs : List B) → map f (map forget xs) ≡ map g xs
+names_over f g forget same [] = refl
+names_over f g forget same (x ∷ xs) = ap₂ (λ l m. l ∷ m) (same x) (names_over f g forget same xs)
 
 known-by : List (List ℕ) → List (List ℕ) → List (List ℕ) → Known
 known-by patterns phases diagnostics = record { is_pattern = is_among patterns; is_phase = is_among phases; is_diagnostic = is_among diagnostics }
@@ -87,9 +87,9 @@ known-forgets schema =
     ap (λ l. known-by l (map (λ (x : Phase). x.id) (map placeless_phase schema.phases)) (map (λ (x : Diagnostic). x.id) (map placeless_diagnostic schema.diagnostics)))
     (same_over concrete_id placeless_pattern (λ x. refl) schema.patterns)
     ∙ ap (λ l. known-by (flat_map concrete_id schema.patterns) l (map (λ (x : Diagnostic). x.id) (map placeless_diagnostic schema.diagnostics)))
-    (names-over (λ (x : Phase). x.id) (λ (x : Phase). x.id) placeless_phase (λ x. refl) schema.phases)
+    (names_over (λ (x : Phase). x.id) (λ (x : Phase). x.id) placeless_phase (λ x. refl) schema.phases)
     ∙ ap (known-by (flat_map concrete_id schema.patterns) (map (λ (x : Phase). x.id) schema.phases))
-    (names-over (λ (x : Diagnostic). x.id) (λ (x : Diagnostic). x.id) placeless_diagnostic (λ x. refl) schema.diagnostics)
+    (names_over (λ (x : Diagnostic). x.id) (λ (x : Diagnostic). x.id) placeless_diagnostic (λ x. refl) schema.diagnostics)
 
 item-rules : (known : Known) (x : RawItem) → rules_at (item_places known (placeless_item x)) ≡ rules_at (item_places known x)
 item-rules known (item.Let decl) = refl

@@ -22,6 +22,11 @@ abbrev pub FlatDocumentsBreakNoRule : Type 0
 FlatDocumentsBreakNoRule = (schema : FlatSchema) (T : Table) → Scoped (flat_events schema) T → ReadableSchema schema → Allowed schema →
     first_broken T ≡ None
 
+-- no other schema has such a document
+abbrev pub FlatDocumentsAreAllowed : Type 0
+FlatDocumentsAreAllowed = (schema : FlatSchema) (T : Table) → Scoped (flat_events schema) T → ReadableSchema schema → first_broken T ≡ None →
+    Allowed schema
+
 -- a document that breaks no rule from 1 to 9, as its tree
 pub record IsSchema (T : Table) : Type 0 where
   pub well_formed : WellFormed T

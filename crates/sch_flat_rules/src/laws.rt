@@ -1,6 +1,6 @@
 //! Laws of the definitions, for the proofs of callers.
 
-ghost use Rattle.sch_flat_rules.specs.Accepted.{ExpansionIsAcceptedAgain, FlatDocumentsBreakNoRule, ReadingsAreReadable};
+ghost use Rattle.sch_flat_rules.specs.Accepted.{ExpansionIsAcceptedAgain, FlatDocumentsAreAllowed, FlatDocumentsBreakNoRule, ReadingsAreReadable};
 
 /// The document that a flat schema is breaks no rule, where the schema's names have the forms that the rules want, and no
 /// name is used twice.
@@ -18,6 +18,15 @@ pub fn readings_are_readable()
     doc_tree::laws_from_order();
     sch_flat_laws::ids_are_read_back();
     sch_flat_laws::texts_stand_apart();
+}
+
+/// Where the document that a flat schema is breaks no rule, the schema's names have the forms that the rules want, and no name
+/// is used twice.
+pub fn flat_documents_are_allowed()
+    ensures { FlatDocumentsAreAllowed }
+{
+    sch_flat_reading::expansion_stays();
+    readings_are_readable();
 }
 
 /// What a schema that breaks no rule is expanded to is, as a document, a schema that breaks no rule, and is read and expanded

@@ -3,4 +3,7 @@
 
 mod laws;
 
-pub use laws::{expansion_is_accepted_again, flat_documents_break_no_rule, readings_are_readable};
+pub use laws::{
+    expansion_is_accepted_again, flat_documents_are_allowed, flat_documents_break_no_rule,
+    readings_are_readable,
+};
