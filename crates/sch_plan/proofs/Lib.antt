@@ -1,0 +1,16 @@
+pub mod CountLemmas
+pub mod ForceLemmas
+pub mod GrownLemmas
+pub mod IdLemmas
+pub mod Inversions
+pub mod LetLemmas
+pub mod Loops
+pub mod One
+pub mod OneMore
+pub mod PatternSlots
+pub mod PlanLemmas
+pub mod RuleSlots
+pub mod ScopeLemmas
+pub mod SlotLemmas
+pub mod SoundPlan
+pub mod Walking

@@ -1,0 +1,6 @@
+use Rattle.std.proofs.Common.{◌≡◌, ◌∷◌, [], ◌++◌, refl, sym, ap, subst, ◌∙◌, arith}
+use Rattle.std.proofs.lemmas.Result.{err_from_is_err_and}
+use Rattle.sch_plan.proofs.scopes.Scopes.one_part.Goals as goal
+
+pub returns-in-ValueOf : goal.returns-in-ValueOf
+returns-in-ValueOf c = rw c.in-ValueOf.is (rw c.as_str.ensures at c.value_part.ensures)

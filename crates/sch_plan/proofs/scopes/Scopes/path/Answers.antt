@@ -1,0 +1,10 @@
+use Rattle.std.proofs.Common.{◌≡◌, ◌∷◌, [], ◌++◌, refl, sym, ap, subst, ◌∙◌, arith}
+use Rattle.std.proofs.lemmas.Result.{err_from_is_err_and}
+use Rattle.sch_plan.specs.Expressions.{path}
+use Rattle.sch_plan.specs.Walk.{Answers}
+use Rattle.sch_plan.proofs.ScopeLemmas.{scope-of}
+use Rattle.sch_plan.proofs.scopes.Scopes.path.Goals as goal
+
+pub returns : goal.returns
+returns c =
+    subst (λ S. Answers (path S c.args.node c.args.text.now) c.path.result) (scope-of c.self.inside.expressions _ _ c.self.view_is c.self.invariant.0) c.path.ensures
