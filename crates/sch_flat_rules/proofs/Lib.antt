@@ -7,7 +7,10 @@ pub mod DocumentRules
 pub mod Elements
 pub mod Forgotten
 pub mod Forms
+pub mod JoinedAgain
 pub mod KeyLemmas
+pub mod MadeParts
+pub mod MadeTexts
 pub mod Messages
 pub mod Parts
 pub mod PatternRules

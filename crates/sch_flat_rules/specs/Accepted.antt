@@ -6,6 +6,8 @@ use Rattle.doc_tree.specs.Table.{Table}
 use Rattle.doc_tree.specs.Walks.{order}
 use Rattle.name_scopes.specs.ScopedTree.{Scoped}
 use Rattle.name_scopes.specs.Scoping.{InScope}
+use Rattle.pyx_core.specs.declared.mode.Mode.TheVariants.{Document}
+use Rattle.pyx_core.specs.Written.{Gives, text_of}
 use Rattle.sch_model.specs.Concrete.{is_concrete}
 use Rattle.sch_model.specs.declared.flat.FlatSchema.{FlatSchema}
 use Rattle.sch_rules.specs.FirstBroken.{first_broken}
@@ -53,3 +55,8 @@ pub record StaysAccepted (T U : Table) : Type 0 where
 -- the document of what a document is expanded to stays so
 abbrev pub ExpansionIsAcceptedAgain : Type 0
 ExpansionIsAcceptedAgain = (T U : Table) → IsAccepted T → Scoped (flat_events (flat_schema (raw_schema T))) U → StaysAccepted T U
+
+-- the document of what is read is written as lines that are read as that document again
+abbrev pub ExpansionsAreDocuments : Type 0
+ExpansionsAreDocuments = (T : Table) → InScope T →
+    Gives Document (text_of (flat_events (flat_schema (raw_schema T)))) (flat_events (flat_schema (raw_schema T)))

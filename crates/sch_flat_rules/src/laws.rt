@@ -1,6 +1,6 @@
 //! Laws of the definitions, for the proofs of callers.
 
-ghost use Rattle.sch_flat_rules.specs.Accepted.{ExpansionIsAcceptedAgain, FlatDocumentsAreAllowed, FlatDocumentsBreakNoRule, ReadingsAreReadable};
+ghost use Rattle.sch_flat_rules.specs.Accepted.{ExpansionIsAcceptedAgain, ExpansionsAreDocuments, FlatDocumentsAreAllowed, FlatDocumentsBreakNoRule, ReadingsAreReadable};
 
 /// The document that a flat schema is breaks no rule, where the schema's names have the forms that the rules want, and no
 /// name is used twice.
@@ -39,4 +39,13 @@ pub fn expansion_is_accepted_again()
     sch_flat_reading::expansion_stays();
     flat_documents_break_no_rule();
     readings_are_readable();
+}
+
+/// The lines of what a document is read as and expanded to have no fault, and give its events.
+pub fn expansions_are_documents()
+    ensures { ExpansionsAreDocuments }
+{
+    sch_flat_laws::flat_text_is_read_back();
+    sch_flat_laws::texts_stand_apart();
+    sch_flat_laws::ids_are_read_back();
 }
