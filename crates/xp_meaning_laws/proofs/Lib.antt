@@ -8,3 +8,4 @@ pub mod TextBounds
 pub mod Bounding
 pub mod Bounded
 pub mod StringLengths
+pub mod Current

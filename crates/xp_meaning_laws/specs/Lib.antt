@@ -3,3 +3,4 @@ pub mod Types
 pub mod Agreeing
 pub mod KnownReads
 pub mod Bounds
+pub mod Current

@@ -3,6 +3,7 @@
 
 ghost use Rattle.xp_meaning_laws.specs.Types.{ValuesHaveTypes};
 ghost use Rattle.xp_meaning_laws.specs.Agreeing.{MeaningNeedsSlotsAlone};
+ghost use Rattle.xp_meaning_laws.specs.Current.{PatternsNeedNoCurrent, StepsNeedNoCurrent};
 ghost use Rattle.xp_meaning_laws.specs.KnownReads.{LetsReadAreNamed, CellsReadAreLive};
 ghost use Rattle.xp_meaning_laws.specs.Bounds.{ValuesAreBounded};
 ghost use Rattle.xp_meaning.specs.Laws.{ValuesAreProper};
@@ -24,6 +25,13 @@ pub fn values_have_types(tree: &Tree)
 /// What an expression gives, reads and costs depends on the slots that it names, and on no other let.
 pub fn meaning_needs_slots_alone()
     ensures { MeaningNeedsSlotsAlone }
+{}
+
+/// What an expression of a pattern gives, reads and costs doesn't depend on the node that `current()` would give, nor does
+/// what a step with such predicates gives, reads and costs: a pattern calls no `current` (XSLT 1.0, section 12.4).
+pub fn patterns_need_no_current()
+    ensures expressions { PatternsNeedNoCurrent }
+    ensures steps { StepsNeedNoCurrent }
 {}
 
 /// The lets that are read are those in slots that the expression names.
