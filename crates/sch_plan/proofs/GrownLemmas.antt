@@ -1,5 +1,5 @@
 -- What lets change of what is seen.
-use Rattle.std.proofs.Common.{◌≡◌, ℕ, List, [], ◌∷◌, ◌++◌, length, take, Ok, refl, sym, ap, ◌∙◌, subst, append_assoc, append-nil}
+use Rattle.std.proofs.Common.{◌≡◌, ℕ, List, [], ◌∷◌, ◌++◌, length, take, Ok, sym, ap, ◌∙◌, subst, append_assoc, append-nil}
 use Rattle.sch_compiled.specs.declared.parts.PlanLet.{PlanLet}
 use Rattle.sch_model.specs.declared.parts.LetDecl.{LetDecl}
 use Rattle.xp_typed_tree.specs.TypedTree.{TypedTree}

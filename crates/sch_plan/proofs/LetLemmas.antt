@@ -1,5 +1,5 @@
 -- What is seen after lets.
-use Rattle.std.proofs.Common.{◌≡◌, ℕ, ◌+◌, suc, List, [], ◌∷◌, ◌++◌, length, take, Ok, refl, sym, ap, ◌∙◌, subst, append_assoc, append-nil, arith}
+use Rattle.std.proofs.Common.{◌≡◌, ℕ, ◌+◌, suc, List, [], ◌∷◌, ◌++◌, length, Ok, refl, sym, ap, ◌∙◌, subst, append_assoc, append-nil, arith}
 use Rattle.sch_compiled.specs.declared.parts.PlanLet.{PlanLet}
 use Rattle.sch_compiled.specs.Soundness.{AreSeen, slots_from}
 use Rattle.sch_model.specs.declared.parts.LetDecl.{LetDecl}
@@ -9,12 +9,9 @@ use Rattle.xp_typed_tree.specs.Slots.{slots_in}
 use Rattle.xp_typed_tree.specs.WellTyped.{type_of}
 use Rattle.xp_types.specs.Scope.{Named}
 use Rattle.xp_types.specs.Laws.{SlotsAreInScope}
-use Rattle.sch_plan.specs.Broken.{second_let}
-use Rattle.sch_plan.specs.Expressions.{expression}
-use Rattle.sch_plan.specs.Lets.{Seen, all_lets, is_seen, one_let, scope, seen_after}
-use Rattle.sch_plan.specs.Walk.{Then, each, goes}
+use Rattle.sch_plan.specs.Lets.{Seen, all_lets, seen_after}
 use Rattle.sch_plan.proofs.GrownLemmas.{MoreLets, OneLet, more-lets, one-let}
-use Rattle.sch_plan.proofs.Inversions.{same-value, then-ok, unless-ok}
+use Rattle.sch_plan.proofs.Inversions.{same-value}
 use Rattle.sch_plan.proofs.SlotLemmas.{expression-seen, places, places-append}
 
 -- each let names slots that are seen before it

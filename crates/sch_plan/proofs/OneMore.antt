@@ -1,8 +1,6 @@
 -- The parts of the walk have one outcome each.
-use Rattle.std.proofs.Common.{◌≡◌, ℕ, Bool, true, false, not, List, Option, None, Some, Result, Ok, Err, refl, sym, ap, ap₂, ◌∙◌, map, ◌++◌}
+use Rattle.std.proofs.Common.{◌≡◌, ℕ, Bool, true, false, not, List, Option, None, Some, Result, Ok, Err, sym, ap, ap₂, ◌∙◌}
 use Rattle.sch_base.specs.declared.limits.TheConstants.{MAX_NESTING}
-use Rattle.sch_compiled.specs.declared.parts.PlanLet.{PlanLet}
-use Rattle.sch_compiled.specs.declared.parts.PlanAssert.{PlanAssert}
 use Rattle.sch_model.specs.declared.fault.SchemaFault.{SchemaFault}
 use Rattle.sch_model.specs.declared.flat.FlatPattern.{FlatPattern}
 use Rattle.sch_model.specs.declared.flat.FlatRule.{FlatRule}
@@ -23,13 +21,13 @@ use Rattle.xp_syntax.specs.Laws.{OneSpelling, OnePatternSpelling, FirstFaultsAre
 use Rattle.xp_types.specs.Scope.{Scope}
 use Rattle.xp_types.specs.Laws.{TypesAreUnique, TypedHaveNoFault, FirstTypeFaultsAreUnique, PatternTypesAreUnique, TypedPatternsHaveNoFault, FirstPatternTypeFaultsAreUnique}
 use Rattle.sch_plan.specs.declared.phases.Choice.{Choice}
-use Rattle.sch_plan.specs.Broken.{no_path, no_phase, second_let, syntax_fault, too_long, too_many_patterns, type_fault}
-use Rattle.sch_plan.specs.Compiled.{are_too_many, compiled, global_lets, in_force, let_count, plan_of, walk}
+use Rattle.sch_plan.specs.Broken.{no_path, second_let, syntax_fault, too_long, too_many_patterns, type_fault}
+use Rattle.sch_plan.specs.Compiled.{are_too_many, compiled, global_lets, let_count, walk}
 use Rattle.sch_plan.specs.Expressions.{expression, is_node_set, is_too_long, match_pattern, path, pattern_spelled, pattern_typed_in, short_expression, short_pattern, spelled, typed_in}
-use Rattle.sch_plan.specs.Lets.{Seen, all_lets, is_seen, nothing_before, one_let, pattern_scope, scope, seen_after}
+use Rattle.sch_plan.specs.Lets.{Seen, all_lets, is_seen, nothing_before, one_let, pattern_scope, scope}
 use Rattle.sch_plan.specs.Phases.{chosen, chosen_by, chosen_name, of_phase, phase_of}
-use Rattle.sch_plan.specs.Rules.{all_patterns, diagnostic_of, diagnostics_of, message, name_part, one_assertion, one_diagnostic, one_part, one_pattern, one_rule, value_part}
-use Rattle.sch_plan.specs.Walk.{Then, Unless, every, goes}
+use Rattle.sch_plan.specs.Rules.{all_patterns, diagnostic_of, diagnostics_of, message, one_assertion, one_diagnostic, one_part, one_pattern, one_rule}
+use Rattle.sch_plan.specs.Walk.{Unless, every, goes}
 use Rattle.sch_plan.proofs.One.{IsOne, each-one, every-one, goes-one, stops-one, then-one, unless-one}
 
 -- the laws of the lower floors

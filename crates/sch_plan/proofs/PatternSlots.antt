@@ -1,5 +1,5 @@
 -- The slots that patterns name are those of lets that they see.
-use Rattle.std.proofs.Common.{◌≡◌, ℕ, ◌+◌, suc, List, [], ◌∷◌, ◌++◌, Option, length, Ok, refl, sym, ap, ◌∙◌, subst, append-nil, arith}
+use Rattle.std.proofs.Common.{◌≡◌, ℕ, ◌+◌, List, [], ◌∷◌, ◌++◌, Option, length, Ok, sym, ap, ◌∙◌, subst}
 use Rattle.std.specs.List.{All}
 use Rattle.sch_compiled.specs.declared.parts.PlanLet.{PlanLet}
 use Rattle.sch_compiled.specs.declared.parts.PlanRule.{PlanRule}

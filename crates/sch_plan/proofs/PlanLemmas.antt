@@ -1,5 +1,5 @@
 -- A rule more of the last pattern.
-use Rattle.std.proofs.Common.{◌≡◌, ℕ, List, [], ◌∷◌, ◌++◌, Option, refl, ap, ◌∙◌}
+use Rattle.std.proofs.Common.{◌≡◌, ℕ, List, [], ◌∷◌, ◌++◌, Option, refl, ap}
 use Rattle.sch_compiled.specs.declared.parts.PlanPattern.{PlanPattern}
 use Rattle.sch_compiled.specs.declared.parts.PlanRule.{PlanRule}
 use Rattle.sch_compiled.specs.Patterns.{with_last_rule}

@@ -1,7 +1,6 @@
 -- The slots that rules name are those of lets that they see.
-use Rattle.std.proofs.Common.{◌≡◌, ℕ, List, [], ◌∷◌, ◌++◌, Option, None, Some, Ok, refl, sym, ap, subst}
+use Rattle.std.proofs.Common.{ℕ, List, [], ◌∷◌, ◌++◌, Option, None, Some, Ok, sym, subst}
 use Rattle.std.specs.List.{All, Contains, flat_map}
-use Rattle.std.specs.Option.{option_to_list}
 use Rattle.std.proofs.lemmas.List.Elements.{All-nil, All-cons, All-append, All-weaker}
 use Rattle.sch_compiled.specs.declared.parts.PlanPart.{PlanPart}
 use Rattle.sch_compiled.specs.declared.parts.PlanPart.TheVariants as planned
@@ -21,7 +20,7 @@ use Rattle.xp_typed_tree.specs.Slots.{slots_in, slots_in_paths}
 use Rattle.xp_types.specs.Laws.{PatternSlotsAreInScope, SlotsAreInScope}
 use Rattle.sch_plan.specs.Expressions.{expression, match_pattern, path}
 use Rattle.sch_plan.specs.Lets.{Seen, all_lets, pattern_scope, scope}
-use Rattle.sch_plan.specs.Rules.{diagnostics_of, message, name_part, one_assertion, one_diagnostic, one_part, one_rule, value_part}
+use Rattle.sch_plan.specs.Rules.{diagnostics_of, message, one_assertion, one_diagnostic, one_part, one_rule}
 use Rattle.sch_plan.specs.Walk.{Then, every, goes}
 use Rattle.sch_plan.proofs.Inversions.{every-all, same-value, then-ok}
 use Rattle.sch_plan.proofs.LetLemmas.{AfterLets, LetsSeen, after-lets}

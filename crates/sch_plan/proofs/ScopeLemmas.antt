@@ -1,5 +1,5 @@
 -- Two scopes that are kept side by side.
-use Rattle.std.proofs.Common.{◌≡◌, ℕ, Bool, true, false, suc, List, [], ◌∷◌, ◌++◌, Option, None, Some, is_some, length, take, refl, sym, ap, ◌∙◌}
+use Rattle.std.proofs.Common.{◌≡◌, ℕ, false, List, [], ◌∷◌, ◌++◌, Option, None, Some, is_some, length, take, refl, ap}
 use Rattle.xp_types.specs.Scope.{Scope}
 use Rattle.sch_plan.specs.Lets.{Seen, scope}
 

@@ -1,5 +1,5 @@
 -- The slots that expressions name are those of variables that are seen.
-use Rattle.std.proofs.Common.{◌≡◌, ℕ, Bool, true, false, not, cond, suc, List, [], ◌∷◌, ◌++◌, Option, None, Some, Ok, Err, unwrap_or, option_map, refl, sym, ap, ◌∙◌, subst, append_assoc}
+use Rattle.std.proofs.Common.{◌≡◌, ℕ, Bool, true, false, not, cond, List, [], ◌∷◌, ◌++◌, Some, Ok, unwrap_or, option_map, refl, sym, ap, ◌∙◌, subst, append_assoc}
 use Rattle.std.specs.List.{All, Contains, flat_map}
 use Rattle.std.specs.Str.{bytes_eq}
 use Rattle.std.proofs.lemmas.List.Elements.{All-nil, All-cons, All-append, All-head, All-tail, All-same, Contains-append_left, Contains-append_right, Contains-push}

@@ -2,14 +2,12 @@
 use Rattle.std.proofs.Common.{◌≡◌, ℕ, ◌+◌, ◌<◌, ◌≤◌, zero, suc, List, [], ◌∷◌, ◌++◌, map, length, take, slice_get, Option, None, Some, IfSome, Ok, refl, sym, ap, ◌∙◌, subst, append_assoc, append-nil, length-append, zero-add, arith}
 use Rattle.std.proofs.lemmas.List.{length-map}
 use Rattle.std.specs.List.{All}
-use Rattle.std.specs.Option.{option_map_or}
-use Rattle.std.proofs.lemmas.List.Elements.{All-nil, All-cons, All-append, All-head, All-tail, All-map}
+use Rattle.std.proofs.lemmas.List.Elements.{All-nil, All-cons, All-append, All-head, All-tail}
 use Rattle.sch_compiled.specs.declared.parts.LetInForce.{LetInForce}
 use Rattle.sch_compiled.specs.declared.parts.PlanLet.{PlanLet}
-use Rattle.sch_compiled.specs.declared.parts.PlanPattern.{PlanPattern}
 use Rattle.sch_compiled.specs.declared.parts.PlanRule.{PlanRule}
 use Rattle.sch_compiled.specs.declared.plan.Plan.{Plan}
-use Rattle.sch_compiled.specs.Soundness.{AreSeen, HasRule, IsCounted, IsOwned, IsSound, seen_behind, seen_in, slots_from}
+use Rattle.sch_compiled.specs.Soundness.{AreSeen, HasRule, IsCounted, IsOwned, IsSound, seen_in, slots_from}
 use Rattle.sch_compiled.specs.Patterns.{rules_at}
 use Rattle.sch_model.specs.declared.flat.FlatSchema.{FlatSchema}
 use Rattle.sch_model.specs.declared.parts.LetDecl.{LetDecl}
@@ -23,7 +21,7 @@ use Rattle.xp_types.specs.Laws.{PatternSlotsAreInScope, SlotsAreInScope}
 use Rattle.sch_plan.specs.declared.phases.Choice.{Choice}
 use Rattle.sch_plan.specs.declared.walker.PatternParts.{PatternParts}
 use Rattle.sch_plan.specs.Broken.{too_many_patterns}
-use Rattle.sch_plan.specs.Compiled.{are_too_many, compiled, global_lets, in_force, let_count, lets_of_patterns, pattern_lets, plan_of, plan_pattern, walk}
+use Rattle.sch_plan.specs.Compiled.{are_too_many, compiled, global_lets, in_force, let_count, pattern_lets, plan_of, plan_pattern, walk}
 use Rattle.sch_plan.specs.Lets.{Seen, all_lets, nothing_before}
 use Rattle.sch_plan.specs.Phases.{chosen}
 use Rattle.sch_plan.specs.Rules.{all_patterns, diagnostic_of}
@@ -31,7 +29,7 @@ use Rattle.sch_plan.specs.Walk.{Then, Unless, goes}
 use Rattle.sch_plan.proofs.Inversions.{same-value, then-ok, unless-ok}
 use Rattle.sch_plan.proofs.LetLemmas.{AfterLets, LetsSeen, after-lets}
 use Rattle.sch_plan.proofs.RuleSlots.{RuleSeen}
-use Rattle.sch_plan.proofs.PatternSlots.{PatternSeen, PatternsSeen, all-patterns, lets-counted, lets_of_parts}
+use Rattle.sch_plan.proofs.PatternSlots.{PatternsSeen, all-patterns, lets-counted, lets_of_parts}
 use Rattle.sch_plan.proofs.SlotLemmas.{places}
 use Rattle.sch_plan.proofs.ForceLemmas.{EachBehind, behind-append, behind-at, lets-behind, seen-behind, seen-global, seen-later, seen-past, seen_from-append, sees-own}
 

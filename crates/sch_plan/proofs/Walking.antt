@@ -1,9 +1,9 @@
 -- Stretches of the walk one after another, as the program answers them.
-use Rattle.std.proofs.Common.{◌≡◌, Bool, true, false, List, [], ◌∷◌, ◌++◌, Result, Ok, Err, refl, sym, subst, inl, inr}
+use Rattle.std.proofs.Common.{◌≡◌, Bool, true, false, Result, Ok, Err, refl, sym, subst, inl, inr}
 use Rattle.sch_model.specs.declared.fault.SchemaError.{SchemaError}
 use Rattle.sch_model.specs.declared.fault.SchemaError.TheVariants.{Fault, Memory}
 use Rattle.sch_model.specs.declared.fault.SchemaFault.{SchemaFault}
-use Rattle.sch_plan.specs.Walk.{Answers, Stretch, Then, Unless, goes, stops}
+use Rattle.sch_plan.specs.Walk.{Answers, Stretch, Then, Unless, goes}
 
 -- want of memory may be answered always
 pub answers_memory : {A : Type 0} (m : Stretch A) → Answers m (Err Memory)

@@ -2,7 +2,6 @@
 -- typed tree, or the first broken rule.
 use Rattle.std.specs.Prelude.{◌≡◌, ℕ, Bool, true, false, not, nat_lt, List, length, Ok, Err}
 use Rattle.sch_base.specs.declared.limits.TheConstants.{MAX_EXPRESSION_BYTES, MAX_NESTING}
-use Rattle.sch_model.specs.declared.fault.SchemaFault.{SchemaFault}
 use Rattle.xp_tree.specs.Tree.{Tree}
 use Rattle.xp_tree.specs.PatternTree.{PathTree}
 use Rattle.xp_grammar.specs.declared.fault.SyntaxKind.{SyntaxKind}

@@ -1,4 +1,4 @@
-use Rattle.std.proofs.Common.{arith, rules}
+use Rattle.std.proofs.Common.{arith}
 use Rattle.sch_plan.proofs.CountLemmas.{counted-from}
 use Rattle.sch_plan.proofs.counts.is_counted.Goals as goal
 

@@ -1,5 +1,4 @@
-use Rattle.std.proofs.Common.{◌≡◌, ◌∷◌, [], ◌++◌, refl, sym, ap, subst, ◌∙◌, arith, append_assoc}
-use Rattle.std.proofs.lemmas.Result.{err_from_is_err_and}
+use Rattle.std.proofs.Common.{◌∷◌, [], ◌++◌, sym, ap, ◌∙◌, append_assoc}
 use Rattle.sch_compiled.specs.Patterns.{with_last_rule}
 use Rattle.sch_plan.proofs.Loops.{one-fewer}
 use Rattle.sch_plan.proofs.PlanLemmas.{with-last}

@@ -1,6 +1,6 @@
-use Rattle.std.proofs.Common.{◌≡◌, ◌∷◌, [], ◌++◌, refl, sym, ap, subst, ◌∙◌, arith}
+use Rattle.std.proofs.Common.{sym, ◌∙◌}
 use Rattle.std.proofs.lemmas.Result.{err_from_is_err_and}
-use Rattle.sch_plan.proofs.Walking.{answers_goes, answers_memory, answers_refused, answers_stop, answers_then, answers_unless}
+use Rattle.sch_plan.proofs.Walking.{answers_stop, answers_unless}
 use Rattle.sch_plan.proofs.scopes.Scopes.one_let.Goals as goal
 
 pub returns-in_err-expr : goal.returns-in_err-expr

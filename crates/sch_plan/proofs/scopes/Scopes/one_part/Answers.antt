@@ -1,5 +1,3 @@
-use Rattle.std.proofs.Common.{◌≡◌, ◌∷◌, [], ◌++◌, refl, sym, ap, subst, ◌∙◌, arith}
-use Rattle.std.proofs.lemmas.Result.{err_from_is_err_and}
 use Rattle.sch_plan.proofs.scopes.Scopes.one_part.Goals as goal
 
 pub returns-in-ValueOf : goal.returns-in-ValueOf

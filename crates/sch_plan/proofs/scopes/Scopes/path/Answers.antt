@@ -1,5 +1,4 @@
-use Rattle.std.proofs.Common.{◌≡◌, ◌∷◌, [], ◌++◌, refl, sym, ap, subst, ◌∙◌, arith}
-use Rattle.std.proofs.lemmas.Result.{err_from_is_err_and}
+use Rattle.std.proofs.Common.{subst}
 use Rattle.sch_plan.specs.Expressions.{path}
 use Rattle.sch_plan.specs.Walk.{Answers}
 use Rattle.sch_plan.proofs.ScopeLemmas.{scope-of}

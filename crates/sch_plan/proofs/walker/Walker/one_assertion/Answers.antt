@@ -1,6 +1,5 @@
-use Rattle.std.proofs.Common.{◌≡◌, ◌∷◌, [], ◌++◌, refl, sym, ap, subst, ◌∙◌, arith}
 use Rattle.std.proofs.lemmas.Result.{err_from_is_err_and}
-use Rattle.sch_plan.proofs.Walking.{answers_goes, answers_memory, answers_refused, answers_stop, answers_then, answers_unless}
+use Rattle.sch_plan.proofs.Walking.{answers_goes, answers_stop, answers_then}
 use Rattle.sch_plan.proofs.walker.Walker.one_assertion.Goals as goal
 
 pub returns-in_err-test : goal.returns-in_err-test

@@ -1,6 +1,4 @@
-use Rattle.std.proofs.Common.{◌≡◌, ◌∷◌, [], ◌++◌, refl, sym, ap, subst, ◌∙◌, arith}
-use Rattle.std.proofs.lemmas.Result.{err_from_is_err_and}
-use Rattle.sch_plan.proofs.Walking.{answers_goes, answers_memory, answers_refused, answers_stop, answers_then, answers_unless}
+use Rattle.sch_plan.proofs.Walking.{answers_goes, answers_then}
 use Rattle.sch_plan.proofs.GrownLemmas.{cut-seen}
 use Rattle.sch_plan.proofs.walker.Walker.one_pattern.Goals as goal
 
