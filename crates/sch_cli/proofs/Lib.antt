@@ -1,10 +1,6 @@
 pub mod SchemaLemmas
-pub mod SchemaWalkLemmas
-pub mod FirstSchemaLemmas
-pub mod FirstSchemaBack
-pub mod FirstSchemaRead
 pub mod EndLemmas
-pub mod OutcomeLemmas
 pub mod RunLemmas
-pub mod PlanLemmas
+pub mod EvaluationLemmas
+pub mod StateLemmas
 pub mod OneOutput

@@ -1,15 +1,122 @@
--- What the tests of a schema's reader find.
-use Rattle.std.proofs.Common.{◌≡◌, ◌≢◌, ℕ, Bool, true, false, ◌==◌, List, [], ◌∷◌, refl, ap}
+-- The reading of a schema's tree: where it stops and where it goes on.
+use Rattle.std.proofs.Common.{◌≡◌, ◌∙◌, ℕ, ◌==◌, Bool, true, false, not, List, [], ◌∷◌, Option, None, Some, is_some, Result, Ok, Err, inl, inr, refl, sym, ap, subst, if◌then◌else◌, codes}
 use Rattle.std.proofs.lemmas.Bool.{eqb-true}
-use Rattle.std.proofs.lemmas.Str.{chars-nil}
-use Rattle.sch_base.specs.Names.{is_ncname}
-use Rattle.sch_cli.specs.FirstSchema.{is_test}
+use Rattle.doc_tree.specs.Table.{Table, Facts, entry_at, content_at, kind_at, parent_at, is_live, kind_of}
+use Rattle.doc_tree.specs.Walks.{above, ancestors}
+use Rattle.doc_tree.specs.kind.Kind.TheVariants.{Root}
+use Rattle.doc_tree.specs.Laws.{WellFormed, HasWaysUp}
+use Rattle.sch_model.specs.Concrete.{is_concrete}
+use Rattle.sch_model.specs.declared.fault.SchemaError.{SchemaError}
+use Rattle.sch_model.specs.declared.fault.SchemaError.TheVariants as error
+use Rattle.sch_model.specs.declared.fault.SchemaFault.{SchemaFault}
+use Rattle.sch_model.specs.declared.flat.FlatSchema.{FlatSchema}
+use Rattle.sch_model.specs.declared.raw.RawSchema.{RawSchema}
+use Rattle.sch_rules.specs.FirstBroken.{first_broken}
+use Rattle.sch_rules.specs.RawSchema.{raw_schema}
+use Rattle.sch_abstract.specs.FirstFault.{first_fault}
+use Rattle.sch_abstract.specs.FirstFault as abstract
+use Rattle.sch_read.specs.Refused.{Refused}
+use Rattle.sch_abstract.specs.Flat.{flat_schema}
+use Rattle.svrl_out.specs.Locations.{location_of, steps_of, step_by}
+use Rattle.sch_cli.specs.Includes.{has_include}
+use Rattle.sch_cli.specs.Output.{Output}
+use Rattle.sch_cli.specs.Output.{stopped}
+use Rattle.sch_cli.specs.Refusals.{schema_rule_line}
+use Rattle.sch_cli.specs.Stages.{Flattening, Reading, not_yet, refused_rule, stop_at, stop_if}
+use Rattle.sch_cli.specs.declared.refusal.SchemaRefusal.TheVariants.{Rule}
+use Rattle.sch_cli.specs.declared.status.Status.TheVariants as status
+use Rattle.sch_cli.specs.declared.stop.Stop.{Stop}
+use Rattle.sch_cli.specs.declared.stop.Stop.TheVariants.{SchemaRefused}
+use Rattle.sch_cli.specs.inner.Stops.{ByCause, Gives, IsRefusal, stopped_by}
+use Rattle.sch_cli.proofs.EndLemmas.{by_cause, refusal_stops}
 
--- a text that doesn't begin with `@` is a test exactly where it is a name
-pub is_test-no_at : (bytes : List ℕ) → ((rest : List ℕ) → bytes ≢ 64 ∷ rest) → is_ncname bytes ≡ is_test bytes
-is_test-no_at [] bare = rw chars-nil refl
-is_test-no_at (b ∷ bytes) bare = by_first b bytes (b == 64) refl bare
+-- a number that no node has has no location
+dead_entry : (entry : Option Facts) → is_some entry ≡ false → entry ≡ None
+dead_entry None dead = refl
+dead_entry (Some facts) dead = absurd (cc)
+
+pub no_location : (T : Table) → WellFormed T → HasWaysUp T → (n : ℕ) → is_live T n ≡ false → location_of T n ≡ []
+no_location T formed ways n dead = by_root (n == 0) refl
   where
-    by_first : (b : ℕ) (bytes : List ℕ) (at : Bool) → (b == 64) ≡ at → ((rest : List ℕ) → (b ∷ bytes) ≢ 64 ∷ rest) → is_ncname (b ∷ bytes) ≡ is_test (b ∷ bytes)
-    by_first b bytes true is bare = absurd (bare bytes (ap (λ (n : ℕ). n ∷ bytes) (eqb-true b 64 is)))
-    by_first b bytes false is bare = rw is refl
+    none : entry_at T n ≡ None
+    none = dead_entry (entry_at T n) dead
+
+    up : ancestors T n ≡ []
+    up = ways.no_ancestors n (ap parent_at none)
+
+    kind : kind_of T n ≡ None
+    kind = ap (λ (entry : Option Facts). kind_at (content_at entry)) none
+
+    by_root : (at_root : Bool) → (n == 0) ≡ at_root → (if at_root then codes "/" else steps_of T (above T n)) ≡ []
+    by_root true is = absurd (let same : kind_of T n ≡ kind_of T 0 = ap (kind_of T) (eqb-true n 0 is) in let root : kind_of T 0 ≡ Some Root = formed.root_kind in let gone : kind_of T n ≡ None = kind in let clash : Some Root ≡ None = sym root ∙ sym same ∙ gone in cc)
+    by_root false is = ap (λ (ns : List ℕ). steps_of T (n ∷ ns)) up ∙ ap (step_by T n) kind
+
+-- a decided stage goes on, or stops
+pub passed : {A : Type 0} (test : Bool) (output : Output) (value : A) → test ≡ false → Ok value ≡ stop_if test output value
+passed test output value is = ap (λ (b : Bool). stop_if b output value) (sym is)
+
+pub stopped_there : {A : Type 0} (test : Bool) (output : Output) (value : A) → test ≡ true → Err output ≡ stop_if test output value
+stopped_there test output value is = ap (λ (b : Bool). stop_if b output value) (sym is)
+
+pub unbroken : {A : Type 0} (fault : Option SchemaFault) (output : SchemaFault → Output) (value : A) → fault ≡ None → Ok value ≡ stop_at fault output value
+unbroken fault output value is = ap (λ (f : Option SchemaFault). stop_at f output value) (sym is)
+
+pub broken_there : {A : Type 0} (fault : Option SchemaFault) (output : SchemaFault → Output) (value : A) (first : SchemaFault) → fault ≡ Some first → Err (output first) ≡ stop_at fault output value
+broken_there fault output value first is = ap (λ (f : Option SchemaFault). stop_at f output value) (sym is)
+
+-- a refusal tells the broken rule with its location
+pub refusal_told : (T : Table) (e : SchemaError) (fault : SchemaFault) (location : List ℕ) → e ≡ error.Fault fault → location ≡ location_of T fault.node →
+    IsRefusal T e (SchemaRefused (Rule fault location))
+refusal_told T e fault location is at = subst (λ (x : SchemaError). IsRefusal T x (SchemaRefused (Rule fault location))) (sym is)
+    (ap (λ (l : List ℕ). stopped status.SchemaRefused (schema_rule_line l fault)) at)
+
+-- the reading of a schema's tree stops at an include
+pub stops_at_include : (T : Table) → has_include T ≡ true → Reading T (Err not_yet)
+stops_at_include T is = inl (not_yet, stopped_there (has_include T) not_yet T is, refl)
+
+-- at the first broken rule
+pub stops_at_rule : (T : Table) → has_include T ≡ false → (e : SchemaError) → Refused T e → (stop : Stop) → IsRefusal T e stop →
+    ByCause (λ output. Reading T (Err output)) (λ _. ⊥) ⊥ (Unit {0}) stop
+stops_at_rule T no_include e first stop = refusal_stops (Reading T) T e stop (λ fault is. inr (
+  T,
+  passed (has_include T) not_yet T no_include,
+  inl (refused_rule T fault, broken_there (first_broken T) (refused_rule T) (raw_schema T) fault (subst (Refused T) is first), refl),
+))
+
+-- and else it comes to the schema as it is read
+pub comes_to_raw : (T : Table) (raw : RawSchema) → has_include T ≡ false → first_broken T ≡ None → raw ≡ raw_schema T → (result : Result FlatSchema Stop) →
+    Gives (λ flat. Flattening T raw (Ok flat)) (λ output. Flattening T raw (Err output)) (λ _. ⊥) result →
+    Gives (λ flat. Reading T (Ok flat)) (λ output. Reading T (Err output)) (λ _. ⊥) result
+comes_to_raw T raw no_include none is (Ok flat) gives = inr (
+  T,
+  passed (has_include T) not_yet T no_include,
+  inr (raw_schema T, unbroken (first_broken T) (refused_rule T) (raw_schema T) none, subst (λ (r : RawSchema). Flattening T r (Ok flat)) is gives),
+)
+comes_to_raw T raw no_include none is (Err stop) gives = by_cause (λ output. Flattening T raw (Err output)) (λ output. Reading T (Err output)) (λ _. ⊥) (λ _. ⊥) ⊥ ⊥ (Unit {0}) (Unit {0})
+    (λ s stops. inr (
+      T,
+      passed (has_include T) not_yet T no_include,
+      inr (raw_schema T, unbroken (first_broken T) (refused_rule T) (raw_schema T) none, subst (λ (r : RawSchema). Flattening T r (Err (stopped_by s))) is stops),
+    ))
+    (λ name no. no) (λ w. w) (λ m. m) stop gives
+
+-- which stops at an abstract part
+pub stops_at_abstract : (T : Table) (raw : RawSchema) → is_concrete raw ≡ false → Flattening T raw (Err not_yet)
+stops_at_abstract T raw is = inl (not_yet, stopped_there (not (is_concrete raw)) not_yet raw (ap not is), refl)
+
+-- at the first rule broken by references or sizes
+pub stops_at_reference : (T : Table) (raw : RawSchema) → is_concrete raw ≡ true → (e : SchemaError) → abstract.Refused raw e → (stop : Stop) → IsRefusal T e stop →
+    ByCause (λ output. Flattening T raw (Err output)) (λ _. ⊥) ⊥ (Unit {0}) stop
+stops_at_reference T raw concrete e first stop = refusal_stops (Flattening T raw) T e stop (λ fault is. inr (
+  raw,
+  passed (not (is_concrete raw)) not_yet raw (ap not concrete),
+  broken_there (first_fault raw) (refused_rule T) (flat_schema raw) fault (subst (abstract.Refused raw) is first),
+))
+
+-- and else goes on with the schema without abstract parts
+pub goes_on : (T : Table) (raw : RawSchema) (flat : FlatSchema) → is_concrete raw ≡ true → first_fault raw ≡ None → flat ≡ flat_schema raw → Flattening T raw (Ok flat)
+goes_on T raw flat concrete none is = inr (
+  raw,
+  passed (not (is_concrete raw)) not_yet raw (ap not concrete),
+  ap (λ (f : FlatSchema). Ok f) is ∙ unbroken (first_fault raw) (refused_rule T) (flat_schema raw) none,
+)

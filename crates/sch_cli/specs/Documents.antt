@@ -1,4 +1,4 @@
--- The documents that are read, and those that are refused.
+-- Files as trees: those that are read, and those that are refused.
 use Rattle.std.specs.Prelude.{◌≡◌, ℕ, ◌<◌, ◌≤◌, List, length, None, Some}
 use Rattle.sch_io.specs.declared.reading.TheConstants.{MAX_FILE_BYTES}
 use Rattle.doc_tree.specs.Table.{Table}
@@ -7,8 +7,8 @@ use Rattle.pyx_core.specs.Reading.{events_of}
 use Rattle.pyx_core.specs.Nesting.{bare}
 use Rattle.name_scopes.specs.ScopedTree.{Scoped}
 use Rattle.name_scopes.specs.DocFaults.{doc_fault}
-use Rattle.sch_cli.specs.declared.refusal.Refusal.{Refusal}
-use Rattle.sch_cli.specs.declared.refusal.Refusal.TheVariants.{TooLarge, Faulted}
+use Rattle.sch_cli.specs.declared.refusal.FileRefusal.{FileRefusal}
+use Rattle.sch_cli.specs.declared.refusal.FileRefusal.TheVariants.{TooLarge, Faulted}
 
 -- the bytes are a document with this tree
 pub record IsDocument (bytes : List ℕ) (T : Table) : Type 0 where
@@ -16,7 +16,7 @@ pub record IsDocument (bytes : List ℕ) (T : Table) : Type 0 where
   pub sound : doc_fault bytes ≡ None
   pub scoped : Scoped (bare (events_of Document bytes)) T
 
--- the bytes are a refused document: there are too many, or this is the first fault of the text and its names
-abbrev pub IsRefused : List ℕ → Refusal → Type 0
+-- the bytes are no document: there are too many, or this is the first fault of the text and its names
+abbrev pub IsRefused : List ℕ → FileRefusal → Type 0
 IsRefused bytes TooLarge = MAX_FILE_BYTES < length bytes
 IsRefused bytes (Faulted fault) = (length bytes ≤ MAX_FILE_BYTES) × (doc_fault bytes ≡ Some fault)

@@ -1,11 +1,11 @@
 pub mod Commands
 pub mod Documents
-pub mod FirstSchema
-pub mod Found
-pub mod OneOutput
-pub mod Outcomes
-pub mod Output
+pub mod Includes
 pub mod Refusals
+pub mod Output
+pub mod Stages
+pub mod CommandOutput
+pub mod OneOutput
 pub mod Runs
 pub mod Status
 pub mod inner

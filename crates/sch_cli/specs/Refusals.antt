@@ -1,13 +1,19 @@
--- The line that tells why a document is refused.
-use Rattle.std.specs.Prelude.{ℕ, List, ◌++◌, codes}
+-- The lines that tell why a schema or a document is refused.
+use Rattle.std.specs.Prelude.{ℕ, List, ◌++◌, Option, None, Some, codes}
 use Rattle.std.specs.Fmt.{decimal}
 use Rattle.pyx_core.specs.declared.fault.PyxKind.{PyxKind}
 use Rattle.pyx_core.specs.declared.fault.PyxKind.TheVariants.{NotUtf8, BadChar, UnknownLine, EntityLine, BadName, AttributePlace, WrongEnd, TextOutside, SecondRoot, NoRoot, Unfinished}
 use Rattle.name_scopes.specs.declared.fault.DocKind.{DocKind}
 use Rattle.name_scopes.specs.declared.fault.DocKind.TheVariants.{Pyx, NoPrefix, SameAttribute, BadDeclaration, BothQuotes, TooManyNodes, TooDeep}
 use Rattle.name_scopes.specs.declared.fault.DocFault.{DocFault}
-use Rattle.sch_cli.specs.declared.refusal.Refusal.{Refusal}
-use Rattle.sch_cli.specs.declared.refusal.Refusal.TheVariants.{TooLarge, Faulted}
+use Rattle.pyx_core.specs.Escapes.{escaped}
+use Rattle.sch_model.specs.declared.fault.SchemaFault.{SchemaFault}
+use Rattle.sch_cli.specs.declared.refusal.FileRefusal.{FileRefusal}
+use Rattle.sch_cli.specs.declared.refusal.FileRefusal.TheVariants.{TooLarge, Faulted}
+use Rattle.sch_cli.specs.declared.refusal.DocumentRefusal.{DocumentRefusal}
+use Rattle.sch_cli.specs.declared.refusal.DocumentRefusal.TheVariants as document
+use Rattle.sch_cli.specs.declared.refusal.SchemaRefusal.{SchemaRefusal}
+use Rattle.sch_cli.specs.declared.refusal.SchemaRefusal.TheVariants as schema
 
 -- the names of the kinds of faults of a line
 abbrev pub pyx_words : PyxKind → List ℕ
@@ -33,12 +39,43 @@ kind_words BothQuotes = codes "BothQuotes"
 kind_words TooManyNodes = codes "TooManyNodes"
 kind_words TooDeep = codes "TooDeep"
 
--- the line of a document with a fault: its number, counted from 1, and the kind
-unfoldable pub fault_line : DocFault → List ℕ
-fault_line fault =
-    codes "sch: document refused: line " ++ (decimal fault.line ++ (codes " " ++ (kind_words fault.kind ++ codes "\n")))
+-- a fault of a text: the number of its line, counted from 1, and the kind
+unfoldable pub fault_text : DocFault → List ℕ
+fault_text fault = codes "line " ++ (decimal fault.line ++ (codes " " ++ kind_words fault.kind))
+
+-- why a file is not read as a tree
+unfoldable pub reason_text : FileRefusal → List ℕ
+reason_text TooLarge = codes "TooLarge"
+reason_text (Faulted fault) = fault_text fault
+
+-- the line of a document whose file is not read as a tree
+abbrev pub document_file_line : FileRefusal → List ℕ
+document_file_line refusal = codes "sch: document refused: " ++ (reason_text refusal ++ codes "\n")
 
 -- the line of a refused document
-unfoldable pub document_refused_line : Refusal → List ℕ
-document_refused_line TooLarge = codes "sch: document refused: TooLarge\n"
-document_refused_line (Faulted fault) = fault_line fault
+abbrev pub document_refused_line : DocumentRefusal → List ℕ
+document_refused_line (document.File refusal) = document_file_line refusal
+document_refused_line document.TooManyPairs = codes "sch: document refused: TooManyPairs\n"
+
+-- the line of a schema whose file is not read as a tree; the file's name has the escapes of PYX
+abbrev pub schema_file_line : List ℕ → FileRefusal → List ℕ
+schema_file_line name refusal =
+    codes "sch: schema refused: " ++ (escaped name ++ (codes " " ++ (reason_text refusal ++ codes "\n")))
+
+-- which rule a schema breaks, by its number, and at which location
+unfoldable pub rule_text : ℕ → List ℕ → List ℕ
+rule_text rule location = codes "sch: schema refused: rule " ++ (decimal rule ++ (codes " at " ++ (location ++ codes ": ")))
+
+-- the line of a schema that breaks a rule, with the name that is told, which has the escapes of PYX
+abbrev pub schema_rule_line : List ℕ → SchemaFault → List ℕ
+schema_rule_line location fault = rule_text fault.rule location ++ (escaped fault.name ++ codes "\n")
+
+-- the line of a refused schema
+abbrev pub schema_refused_line : SchemaRefusal → List ℕ
+schema_refused_line (schema.File name refusal) = schema_file_line name.now refusal
+schema_refused_line (schema.Rule fault location) = schema_rule_line location fault
+
+-- the file that the line of a refused schema names
+abbrev pub file_in : SchemaRefusal → Option (List ℕ)
+file_in (schema.File name refusal) = Some name.now
+file_in (schema.Rule fault location) = None

@@ -1,5 +1,5 @@
 -- What `run` promises of its outside, for each status.
-use Rattle.std.specs.Prelude.{◌≡◌, ℕ, ◌⊎◌, ◌==◌, Bool, true, false, List, [], ◌∷◌, ◌++◌, Option, None, Some, Result, if◌then◌else◌}
+use Rattle.std.specs.Prelude.{◌≡◌, ℕ, ◌⊎◌, ◌==◌, Bool, true, false, List, [], ◌∷◌, ◌++◌, Option, None, Some, IfSome, Result, if◌then◌else◌}
 use Rattle.sch_io.specs.Counts.{one_more}
 use Rattle.sch_io.specs.Files.{Files}
 use Rattle.sch_io.specs.SinkLog.{SinkLog}
@@ -8,10 +8,12 @@ use Rattle.sch_io.specs.declared.error.Failed.{Failed}
 use Rattle.sch_cli.specs.Status.{code_of}
 use Rattle.sch_cli.specs.declared.status.Status.{Status}
 use Rattle.sch_cli.specs.declared.status.Status.TheVariants.{Clean, Findings, Usage, SchemaRefused, DocumentRefused, ScriptRefused, Faulted, Missing, ReadFault, WriteFault, Memory, NotYet}
-use Rattle.sch_cli.specs.declared.refusal.Refusal.{Refusal}
-use Rattle.sch_cli.specs.Refusals.{document_refused_line}
+use Rattle.sch_cli.specs.declared.refusal.DocumentRefusal.{DocumentRefusal}
+use Rattle.sch_cli.specs.declared.refusal.SchemaRefusal.{SchemaRefusal}
+use Rattle.sch_cli.specs.Refusals.{document_refused_line, file_in, schema_refused_line}
 use Rattle.sch_cli.specs.Commands.{Command, expand, validate, command_of}
-use Rattle.sch_cli.specs.Output.{Output, IsOutput, ComesTo, IsNamedIn, usage_line, not_yet_line, missing_line, read_fault_line, write_fault_line, memory_line}
+use Rattle.sch_cli.specs.Output.{Output, usage_line, not_yet_line, faulted_line, missing_line, read_fault_line, write_fault_line, memory_line}
+use Rattle.sch_cli.specs.CommandOutput.{IsOutput, ComesTo, IsNamedIn}
 
 -- a front of the text was appended
 abbrev pub AppendsFront : Option (List ℕ) → Option (List ℕ) → List ℕ → Type 0
@@ -37,11 +39,26 @@ pub record Decided (is_output : Output → Type 0) (written told : List ℕ → 
   pub out : written output.out
   pub err : told output.err
 
+-- whether a run that ends so came to its end
+abbrev pub comes_to_end : Status → Bool
+comes_to_end Clean = true
+comes_to_end Findings = true
+comes_to_end Usage = false
+comes_to_end SchemaRefused = false
+comes_to_end DocumentRefused = false
+comes_to_end ScriptRefused = false
+comes_to_end Faulted = true
+comes_to_end Missing = false
+comes_to_end ReadFault = false
+comes_to_end WriteFault = false
+comes_to_end Memory = false
+comes_to_end NotYet = false
+
 -- a front was written of an output that may be and that comes to its end
 pub record Fronted (is_output : Output → Type 0) (written : List ℕ → Type 0) : Type 0 where
   pub output : Output
   pub may_be : is_output output
-  pub whole : (output.ends ≡ Clean) ⊎ (output.ends ≡ Findings)
+  pub whole : comes_to_end output.ends ≡ true
   pub done : List ℕ
   pub left : List ℕ
   pub is_front : output.out ≡ done ++ left
@@ -80,10 +97,11 @@ abbrev pub IsLineOf : Option Command → List (List ℕ) → Status → List ℕ
 IsLineOf command opened Clean line = line ≡ []
 IsLineOf command opened Findings line = line ≡ []
 IsLineOf command opened Usage line = line ≡ usage_line
-IsLineOf command opened SchemaRefused line = ⊥
-IsLineOf command opened DocumentRefused line = (refusal : Refusal) × (line ≡ document_refused_line refusal)
+IsLineOf command opened SchemaRefused line = (refusal : SchemaRefusal)
+    × IfSome (file_in refusal) (λ name. IsNamedIn command name × IsLast name opened) × (line ≡ schema_refused_line refusal)
+IsLineOf command opened DocumentRefused line = (refusal : DocumentRefusal) × (line ≡ document_refused_line refusal)
 IsLineOf command opened ScriptRefused line = ⊥
-IsLineOf command opened Faulted line = ⊥
+IsLineOf command opened Faulted line = line ≡ faulted_line
 IsLineOf command opened Missing line = (name : List ℕ) × IsNamedIn command name × IsLast name opened × (line ≡ missing_line name)
 IsLineOf command opened ReadFault line = (name : List ℕ) × IsNamedIn command name × IsLast name opened × (line ≡ read_fault_line name)
 IsLineOf command opened WriteFault line = line ≡ write_fault_line
@@ -106,16 +124,15 @@ may_write Usage = false
 may_write SchemaRefused = false
 may_write DocumentRefused = false
 may_write ScriptRefused = false
-may_write Faulted = false
+may_write Faulted = true
 may_write Missing = false
 may_write ReadFault = false
 may_write WriteFault = true
 may_write Memory = true
 may_write NotYet = false
 
--- the command is one that this program does not carry out yet
+-- the command is one that this program does not carry out yet, whatever the files are
 abbrev pub IsNotBuilt : Option Command → Type 0
 IsNotBuilt None = ⊥
 IsNotBuilt (Some (expand schema)) = Unit {0}
-IsNotBuilt (Some (validate None schema document)) = ⊥
-IsNotBuilt (Some (validate (Some phase) schema document)) = Unit {0}
+IsNotBuilt (Some (validate phase schema document)) = ⊥

@@ -1,3 +1,2 @@
-pub mod Judged
-pub mod SchemaWalk
+pub mod Evaluated
 pub mod Stops

@@ -5,19 +5,24 @@ ghost use Rattle.sch_cli.specs.Commands.{command_of, is_file_name, is_validate_o
 
 use sch_base::Text;
 
+/// The phase where none is named: the one that the schema chooses.
+const DEFAULT_PHASE: &str = "#DEFAULT";
+
+/// What a validation is asked for: the document, by the schema under the phase.
+#[derive(Clone, Copy, Debug)]
+pub struct Validation<'a> {
+    pub phase: &'a str,
+    pub schema: &'a Text,
+    pub document: &'a Text,
+}
+
 /// What accepted words ask for.
 #[derive(Debug, Drop)]
 pub enum Command<'a> {
     /// Write the schema expanded.
-    Expand {
-        schema: &'a Text,
-    },
-    /// Validate the document, under a phase where one is named, and write the report.
-    Validate {
-        phase: Option<&'a Text>,
-        schema: &'a Text,
-        document: &'a Text,
-    },
+    Expand { schema: &'a Text },
+    /// Validate a document, and write the report.
+    Validate(Validation<'a>),
 }
 
 /// Whether a word may name a file: it is not empty and does not begin with `-`.
@@ -38,21 +43,21 @@ pub fn command_of(words: &[Text]) -> Option<Command<'_>>
         }
         [verb, schema, document]
             if verb.as_str() == "validate" && is_file_name(schema) && is_file_name(document) => {
-            Some(Command::Validate {
-                phase: None,
+            Some(Command::Validate(Validation {
+                phase: DEFAULT_PHASE,
                 schema,
                 document,
-            })
+            }))
         }
         [verb, option, phase, schema, document]
             if is_validate_of_phase(verb, option, phase)
                 && is_file_name(schema)
                 && is_file_name(document) => {
-            Some(Command::Validate {
-                phase: Some(phase),
+            Some(Command::Validate(Validation {
+                phase: phase.as_str(),
                 schema,
                 document,
-            })
+            }))
         }
         _ => None,
     }

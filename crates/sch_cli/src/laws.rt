@@ -1,13 +1,9 @@
 //! Laws of the definitions: what the output of a run is decided by.
 
-ghost use Rattle.sch_cli.specs.OneOutput.{OneOutput, OnePlan};
+ghost use Rattle.sch_cli.specs.OneOutput.{OneOutput};
 
 use name_scopes::one_tree;
-
-/// The events of a schema have one list of rules alone.
-pub fn one_plan()
-    ensures { OnePlan }
-{}
+use sch_plan::one_plan;
 
 /// The words and the files have one output alone.
 pub fn one_output()

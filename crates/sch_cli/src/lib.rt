@@ -2,18 +2,18 @@
 #![tactic(auto)]
 
 mod command;
-mod judged;
+mod evaluation;
 mod laws;
-mod outcomes;
 mod program;
 mod refusal;
 mod schema;
+mod state;
 mod status;
 mod stop;
 mod validation;
 mod words;
 
-pub use laws::{one_output, one_plan};
+pub use laws::one_output;
 pub use program::run;
 pub use status::Status;
 pub use words::Words;

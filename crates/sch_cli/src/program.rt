@@ -1,25 +1,26 @@
 //! The program's one call.
 
-ghost use Rattle.std.specs.Prelude.{◌≡◌, ℕ, List, ◌↔◌, None, false};
-ghost use Rattle.sch_io.specs.Wrote.{Appends};
+ghost use Rattle.std.specs.Prelude.{◌≡◌, ◌≤◌, ℕ, List, ◌↔◌, None, false};
+ghost use Rattle.sch_io.specs.Wrote.{Appends, Wrote};
 ghost use Rattle.sch_cli.specs.declared.status.Status.TheVariants as statuses;
 ghost use Rattle.sch_cli.specs.Commands.{command_of};
-ghost use Rattle.sch_cli.specs.Output.{IsNamedIn, files_of};
+ghost use Rattle.sch_cli.specs.CommandOutput.{IsNamedIn, files_of};
 ghost use Rattle.sch_cli.specs.Runs.{Ends, Tells, IsLineOf, IsLast, IsNotBuilt, OpensInOrder, counted_if, is_status, may_write};
 ghost use Rattle.sch_cli.specs.inner.Stops.{ConcludesOver, EndsAs, Names, ends_with, may_have_written, status_of_end, line_of_end};
 
 use crate::command::{Command, command_of};
+use crate::state::Shown;
 use crate::status::Status;
 use crate::stop::Stop;
 use crate::validation::validate;
 use crate::words::Words;
-use sch_io::{Shelf, Sink};
+use sch_io::{Failed, Shelf, Sink, write_all};
 use std::alloc::Global;
 use std::sync::ledger::Ledger;
 use xp_outcome::Steps;
 
 /// Carries out what the words ask for, over the files of the shelf: the report goes to `out`, and where the run was
-/// stopped its one line goes to `err`, whose failure changes no status.
+/// stopped or its state is a fault its one line goes to `err`, whose failure changes no status.
 #[tactic(auto, using(crate::proofs::RunLemmas::run_ends, crate::proofs::RunLemmas::line_named))]
 pub fn run<S: Shelf, O: Sink, E: Sink, L: Ledger>(
     alloc: Global,
@@ -35,6 +36,7 @@ pub fn run<S: Shelf, O: Sink, E: Sink, L: Ledger>(
     ensures line { (line : List ℕ) × IsLineOf (command_of words.now) (S.state shelf.new).opened result line
         × Tells (E.log err.old) (E.log err.new) line }
     ensures usage { (result ≡ statuses.Usage) ↔ (command_of words.now ≡ None) }
+    // what a schema and a document are that this program does not carry out yet, the clause `whole` says
     ensures not_built { IsNotBuilt (command_of words.now) → result ≡ statuses.NotYet }
     // the files of the words are opened in order, each once, and what the shelf holds stays
     ensures opened { OpensInOrder (files_of (command_of words.now)) (S.state shelf.old).opened (S.state shelf.new).opened }
@@ -43,22 +45,23 @@ pub fn run<S: Shelf, O: Sink, E: Sink, L: Ledger>(
     ensures misses { (S.state shelf.new).misses ≡ counted_if (is_status statuses.Missing result) (S.state shelf.old).misses }
     ensures read_faults { (S.state shelf.new).faults ≡ counted_if (is_status statuses.ReadFault result) (S.state shelf.old).faults }
     ensures write_faults { (O.log out.new).faults ≡ counted_if (is_status statuses.WriteFault result) (O.log out.old).faults }
-    // a run that stops before its report leaves the output as it was
+    // a run that stops before its state leaves the output and the count of steps as they were
     ensures untouched { may_write result ≡ false → O.log out.new ≡ O.log out.old }
-    // nothing is evaluated yet, so no step is counted
-    ensures steps { steps.new ≡ steps.old }
+    ensures unevaluated { may_write result ≡ false → steps.new ≡ steps.old }
+    ensures steps { steps.old ≤ steps.new }
 {
-    conclude(carry_out(alloc, words, shelf, out), err)
+    conclude(carry_out(alloc, words, shelf, out, steps), err)
 }
 
-/// Does what the words ask for; answers whether the report has a finding.
+/// Does what the words ask for; answers what state was written.
 #[tactic(auto, using(crate::proofs::RunLemmas::opens_none, crate::proofs::RunLemmas::not_usage))]
-fn carry_out<'w, S: Shelf, O: Sink>(
+fn carry_out<'w, S: Shelf, O: Sink, L: Ledger>(
     alloc: Global,
     words: &'w Words,
     shelf: &mut S,
     out: &mut O,
-) -> Result<bool, Stop<'w>>
+    steps: &mut Steps<L>,
+) -> Result<Shown, Stop<'w>>
     ensures whole { ConcludesOver (S.state shelf.old).files words.now (Appends (O.log out.old).written (O.log out.new).written) result }
     ensures named { Names (λ name. IsNamedIn (command_of words.now) name × IsLast name (S.state shelf.new).opened) result }
     ensures usage { (status_of_end result ≡ statuses.Usage) ↔ (command_of words.now ≡ None) }
@@ -69,40 +72,46 @@ fn carry_out<'w, S: Shelf, O: Sink>(
     ensures read_faults { (S.state shelf.new).faults ≡ counted_if (ends_with statuses.ReadFault result) (S.state shelf.old).faults }
     ensures write_faults { (O.log out.new).faults ≡ counted_if (ends_with statuses.WriteFault result) (O.log out.old).faults }
     ensures untouched { may_have_written result ≡ false → O.log out.new ≡ O.log out.old }
+    ensures unevaluated { may_have_written result ≡ false → steps.new ≡ steps.old }
+    ensures steps { steps.old ≤ steps.new }
 {
     match command_of(words.as_slice()) {
         None => Err(Stop::Usage),
-        Some(
-            Command::Validate {
-                phase: None,
-                schema,
-                document,
-            },
-        ) => validate(alloc, schema, document, shelf, out),
-        Some(_) => Err(Stop::NotYet),
+        Some(Command::Expand { .. }) => Err(Stop::NotYet),
+        Some(Command::Validate(asked)) => validate(alloc, asked, shelf, out, steps),
     }
 }
 
-/// Tells the line of a run that was stopped, and says how the run ended.
+/// Tells the line of how a run ended, and says the status.
 #[tactic(auto, using(crate::proofs::RunLemmas::ends_by))]
-fn conclude<E: Sink>(ended: Result<bool, Stop<'_>>, err: &mut E) -> Status
+fn conclude<E: Sink>(ended: Result<Shown, Stop<'_>>, err: &mut E) -> Status
     ensures ends { EndsAs result ended.entry }
     ensures told { Tells (E.log err.old) (E.log err.new) (line_of_end ended.entry) }
 {
     let status = status_of(&ended);
-    if let Err(stop) = ended {
-        let _ = stop.tell(err);
-    }
+    let _ = tell(&ended, err);
     status
 }
 
+/// Writes the line of how a run ended, where it has one.
+fn tell<E: Sink>(ended: &Result<Shown, Stop<'_>>, err: &mut E) -> Result<(), Failed>
+    ensures { Wrote (E.log err.old) (E.log err.new) (line_of_end ended.now) result }
+{
+    match ended {
+        Ok(Shown::Fault) => write_all(err, b"sch: faulted\n"),
+        Ok(_) => Ok(()),
+        Err(stop) => stop.tell(err),
+    }
+}
+
 /// The status of a run that ended so.
-fn status_of(ended: &Result<bool, Stop<'_>>) -> Status
+fn status_of(ended: &Result<Shown, Stop<'_>>) -> Status
     ensures { result ≡ status_of_end ended.now }
 {
     match ended {
-        Ok(true) => Status::Findings,
-        Ok(false) => Status::Clean,
+        Ok(Shown::Clean) => Status::Clean,
+        Ok(Shown::Findings) => Status::Findings,
+        Ok(Shown::Fault) => Status::Faulted,
         Err(stop) => stop.status(),
     }
 }

@@ -1,48 +1,158 @@
-//! Why a document is refused, and the line that says so.
+//! Why a schema or a document is refused, and the lines that say so.
 
-ghost use Rattle.std.specs.Prelude.{◌≡◌};
+ghost use Rattle.std.specs.Prelude.{◌≡◌, ◌++◌, codes};
+ghost use Rattle.pyx_core.specs.Escapes.{escaped};
 ghost use Rattle.sch_io.specs.Wrote.{Wrote};
-ghost use Rattle.sch_cli.specs.Refusals.{kind_words, pyx_words, document_refused_line, fault_line};
+ghost use Rattle.sch_cli.specs.Refusals.{kind_words, pyx_words, reason_text, fault_text, rule_text, document_refused_line, schema_refused_line, schema_rule_line};
 
 use itoa::Buffer;
 use name_scopes::{DocFault, DocKind};
 use pyx_core::PyxKind;
+use pyx_write::{write_escaped, write_line_rest};
+use sch_base::Text;
 use sch_io::{Failed, Sink, write_all, write_pieces};
+use sch_model::SchemaFault;
 
-/// Why a document is refused.
+/// Why a file is not read as a tree.
 #[derive(Clone, Copy, Debug)]
-pub(crate) enum Refusal {
+pub(crate) enum FileRefusal {
     /// It has more bytes than a file may have.
     TooLarge,
     /// It has this fault first.
     Faulted(DocFault),
 }
 
-impl Refusal {
+/// Why a document is refused.
+#[derive(Clone, Copy, Debug)]
+pub(crate) enum DocumentRefusal {
+    /// It is not read as a tree.
+    File(FileRefusal),
+    /// It has too many nodes for the active patterns.
+    TooManyPairs,
+}
+
+/// Why a schema is refused.
+#[derive(Debug, Drop)]
+pub(crate) enum SchemaRefusal<'w> {
+    /// The file of that name is not read as a tree.
+    File {
+        name: &'w Text,
+        refusal: FileRefusal,
+    },
+    /// It breaks a rule at the node of that location.
+    Rule {
+        fault: SchemaFault,
+        location: Text,
+    },
+}
+
+impl FileRefusal {
+    /// Writes the reason, and the end of the line.
+    #[tactic(auto, unfolding(crate::specs::Refusals::reason_text))]
+    fn tell<E: Sink>(&self, err: &mut E) -> Result<(), Failed>
+        ensures { Wrote (E.log err.old) (E.log err.new) (reason_text self.now ++ codes "\n") result }
+    {
+        match self {
+            FileRefusal::TooLarge => write_all(err, b"TooLarge\n"),
+            FileRefusal::Faulted(fault) => tell_fault(fault, err),
+        }
+    }
+
+    /// Writes a text, the reason behind it, and the end of the line.
+    #[tactic(auto, using(sch_io::proofs::Writes::writes))]
+    fn tell_after<E: Sink>(&self, err: &mut E, text: &[u8]) -> Result<(), Failed>
+        ensures { Wrote (E.log err.old) (E.log err.new) (text.now ++ (reason_text self.now ++ codes "\n")) result }
+    {
+        write_all(err, text)?;
+        self.tell(err)
+    }
+
+    /// Writes a file's name, a text behind it, the reason, and the end of the line.
+    #[tactic(auto, using(sch_io::proofs::Writes::writes))]
+    fn tell_named<E: Sink>(&self, err: &mut E, name: &str, between: &[u8]) -> Result<(), Failed>
+        ensures { Wrote (E.log err.old) (E.log err.new) (escaped name.now ++ (between.now ++ (reason_text self.now ++ codes "\n"))) result }
+    {
+        write_escaped(err, name)?;
+        self.tell_after(err, between)
+    }
+
+    /// Writes a text, a file's name behind it, a second text, the reason, and the end of the line.
+    #[tactic(auto, using(sch_io::proofs::Writes::writes))]
+    fn tell_of<E: Sink>(
+        &self,
+        err: &mut E,
+        text: &[u8],
+        name: &str,
+        between: &[u8],
+    ) -> Result<(), Failed>
+        ensures { Wrote (E.log err.old) (E.log err.new) (text.now ++ (escaped name.now ++ (between.now ++ (reason_text self.now ++ codes "\n")))) result }
+    {
+        write_all(err, text)?;
+        self.tell_named(err, name, between)
+    }
+}
+
+impl DocumentRefusal {
     /// Writes the line of a document that is refused for it.
-    #[tactic(auto, unfolding(crate::specs::Refusals::document_refused_line))]
     pub(crate) fn tell<E: Sink>(&self, err: &mut E) -> Result<(), Failed>
         ensures { Wrote (E.log err.old) (E.log err.new) (document_refused_line self.now) result }
     {
         match self {
-            Refusal::TooLarge => write_all(err, b"sch: document refused: TooLarge\n"),
-            Refusal::Faulted(fault) => tell_fault(fault, err),
+            DocumentRefusal::File(refusal) => refusal.tell_after(err, b"sch: document refused: "),
+            DocumentRefusal::TooManyPairs => write_all(
+                err,
+                b"sch: document refused: TooManyPairs\n",
+            ),
         }
     }
 }
 
-/// Writes the line of a document that is refused for a fault.
-#[tactic(auto, unfolding(crate::specs::Refusals::fault_line))]
+impl SchemaRefusal<'_> {
+    /// Writes the line of a schema that is refused for it.
+    pub(crate) fn tell<E: Sink>(&self, err: &mut E) -> Result<(), Failed>
+        ensures { Wrote (E.log err.old) (E.log err.new) (schema_refused_line self.now) result }
+    {
+        match self {
+            SchemaRefusal::File { name, refusal } => {
+                refusal.tell_of(err, b"sch: schema refused: ", name.as_str(), b" ")
+            }
+            SchemaRefusal::Rule { fault, location } => tell_rule(fault, location, err),
+        }
+    }
+}
+
+/// Writes the line of a schema that breaks a rule at a location.
+#[tactic(auto, using(sch_io::proofs::Writes::writes))]
+fn tell_rule<E: Sink>(fault: &SchemaFault, location: &Text, err: &mut E) -> Result<(), Failed>
+    ensures { Wrote (E.log err.old) (E.log err.new) (schema_rule_line location.now fault.now) result }
+{
+    write_rule(fault.rule, location, err)?;
+    write_line_rest(err, fault.name.as_str())
+}
+
+/// Writes which rule is broken, and where.
+#[tactic(auto, unfolding(crate::specs::Refusals::rule_text))]
+fn write_rule<E: Sink>(rule: u32, location: &Text, err: &mut E) -> Result<(), Failed>
+    ensures { Wrote (E.log err.old) (E.log err.new) (rule_text rule location.now) result }
+{
+    let mut buffer = Buffer::new();
+    let rule = buffer.format(rule);
+    let location = location.as_str();
+    write_pieces(
+        err,
+        &["sch: schema refused: rule ", rule, " at ", location, ": "],
+    )
+}
+
+/// Writes where and what a fault is, and the end of the line.
+#[tactic(auto, unfolding(crate::specs::Refusals::fault_text))]
 fn tell_fault<E: Sink>(fault: &DocFault, err: &mut E) -> Result<(), Failed>
-    ensures { Wrote (E.log err.old) (E.log err.new) (fault_line fault.now) result }
+    ensures { Wrote (E.log err.old) (E.log err.new) (fault_text fault.now ++ codes "\n") result }
 {
     let mut buffer = Buffer::new();
     let line = buffer.format(fault.line);
     let kind = kind_words(&fault.kind);
-    write_pieces(
-        err,
-        &["sch: document refused: line ", line, " ", kind, "\n"],
-    )
+    write_pieces(err, &["line ", line, " ", kind, "\n"])
 }
 
 /// The name of a kind of fault.

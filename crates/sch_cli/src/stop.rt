@@ -6,7 +6,7 @@ ghost use Rattle.sch_io.specs.Wrote.{Wrote};
 ghost use Rattle.sch_cli.specs.declared.stop.Stop.TheVariants as stops;
 ghost use Rattle.sch_cli.specs.inner.Stops.{line_of, status_of};
 
-use crate::refusal::Refusal;
+use crate::refusal::{DocumentRefusal, SchemaRefusal};
 use crate::status::Status;
 use pyx_write::write_line_rest;
 use sch_base::Text;
@@ -14,14 +14,16 @@ use sch_io::{Failed, Sink, write_all};
 use std::alloc::AllocError;
 
 /// What stops a run before its report is whole.
-#[derive(Clone, Copy, Debug)]
+#[derive(Debug, Drop)]
 pub(crate) enum Stop<'w> {
     /// The words are not accepted.
     Usage,
     /// The words or a file are past what the program does so far.
     NotYet,
+    /// The schema is refused.
+    SchemaRefused(SchemaRefusal<'w>),
     /// The document is refused.
-    DocumentRefused(Refusal),
+    DocumentRefused(DocumentRefusal),
     /// There is no file of that name.
     Missing { name: &'w Text },
     /// The file of that name was not read whole.
@@ -48,6 +50,7 @@ impl Stop<'_> {
         match self {
             Stop::Usage => Status::Usage,
             Stop::NotYet => Status::NotYet,
+            Stop::SchemaRefused(_) => Status::SchemaRefused,
             Stop::DocumentRefused(_) => Status::DocumentRefused,
             Stop::Missing { .. } => Status::Missing,
             Stop::ReadFault { .. } => Status::ReadFault,
@@ -63,6 +66,7 @@ impl Stop<'_> {
         match self {
             Stop::Usage => write_all(err, b"sch: usage\n"),
             Stop::NotYet => write_all(err, b"sch: not yet\n"),
+            Stop::SchemaRefused(refusal) => refusal.tell(err),
             Stop::DocumentRefused(refusal) => refusal.tell(err),
             Stop::Missing { name } => write_named(err, b"sch: missing: ", name),
             Stop::ReadFault { name } => write_named(err, b"sch: read fault: ", name),

@@ -1,5 +1,5 @@
-pub mod FindingsLemmas
+pub mod ApartLemmas
 pub mod LocationLemmas
 pub mod PlaceLemmas
-pub mod PlanLemmas
 pub mod ReportLemmas
+pub mod StepLemmas

@@ -117,7 +117,7 @@ pub counted-few : (T : Table) (before kids front places : List ℕ) (counts : Co
 counted-few T before kids front places counts kind so = omega (arith, so.counted kind, count_of-few (has_kind T kind) front)
 
 -- a kind is itself
-same_kind : (kind : Kind) → is_kind kind (Some kind) ≡ true
+pub same_kind : (kind : Kind) → is_kind kind (Some kind) ≡ true
 same_kind Root = refl
 same_kind Element = refl
 same_kind Attribute = refl

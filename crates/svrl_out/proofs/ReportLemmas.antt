@@ -1,15 +1,19 @@
 -- Writing parts of a report one after another, where memory may run out between them.
-use Rattle.std.proofs.Common.{◌≡◌, ℕ, zero, suc, ◌+◌, ◌<◌, List, [], ◌∷◌, ◌++◌, length, take, drop, slice_index_or, Option, Result, Ok, Err, MatchResult, refl, ap, sym, subst, ◌∙◌, arith, append_assoc}
-use Rattle.std.specs.List.{flat_map}
+use Rattle.std.proofs.Common.{◌≡◌, ℕ, zero, suc, ◌+◌, ◌<◌, List, [], ◌∷◌, ◌++◌, map, length, take, drop, slice_get, slice_index_or, IsSomeAnd, Option, Result, Ok, Err, MatchResult, refl, ap, sym, subst, ◌∙◌, arith, append_assoc}
+use Rattle.std.specs.List.{flat_map, zip, enumerate_from}
+use Rattle.std.specs.Option.{option_map_or}
 use Rattle.std.proofs.KnownBytes.{Appends-trans, Appends-nil}
-use Rattle.std.proofs.lemmas.List.{get_or_default}
+use Rattle.std.proofs.lemmas.List.FromFn.{get_or-enumerate_from}
+use Rattle.std.proofs.lemmas.Option.{slice_get_read}
+use Rattle.std.proofs.lemmas.Slice.Zip.{get_or-zip}
 use Rattle.sch_io.specs.SinkLog.{SinkLog}
 use Rattle.sch_io.specs.Wrote.{Wrote, Appends}
-use Rattle.svrl_out.specs.declared.plan.Assert.{Assert}
-use Rattle.svrl_out.specs.declared.findings.Finding.{Finding}
+use Rattle.svrl_out.specs.declared.elements.Given.{Given}
 use Rattle.svrl_out.specs.declared.report.OutError.{OutError}
 use Rattle.svrl_out.specs.declared.report.OutError.TheVariants.{Failed, Memory}
-use Rattle.svrl_out.specs.Report.{Reported, faults_of_report, AreAssertsOf, failed_assert, finding_lines, no_assert}
+use Rattle.svrl_out.specs.Elements.{attributes}
+use Rattle.svrl_out.specs.Report.{Reported, faults_of_report}
+use Rattle.svrl_out.specs.inner.Given.{given_line, seen}
 use Rattle.sch_io.proofs.Writes.{flat_map-next, flat_map-cut}
 
 -- what was written of a text
@@ -62,16 +66,35 @@ reported_memory {a = a} text r is = subst (Reported a a text) (sym is) (record {
 pub reported_nothing : {a : SinkLog} → Reported a a [] (Ok tt)
 reported_nothing {a = a} = record { counted = refl; grown = Appends-nil a.written }
 
--- each finding names an assert
-pub assert_named : (asserts : List Assert) (findings : List Finding) (i : ℕ) (d : Finding) → AreAssertsOf asserts findings → i < length findings → (slice_index_or findings i d).assertion < length asserts
-assert_named asserts [] i d named less = absurd (omega arith)
-assert_named asserts (finding ∷ findings) zero d named less = named.0
-assert_named asserts (finding ∷ findings) (suc i) d named less = assert_named asserts findings i d named.1 (omega arith)
+-- what a word says of the item at a place
+pub at_place : {A B : Type 0} (f : A → B) (xs : List A) (i : ℕ) (x : A) (d : B) → x ≡ slice_index_or xs i x → i < length xs → option_map_or f (slice_get xs i) d ≡ f x
+at_place f xs i x d is less = ap (λ (o : Option _). option_map_or f o d) (slice_get_read xs (length xs) i x refl less is)
 
--- the lines of a finding are those of its assert
-pub finding_text : (location : List ℕ) (asserts : List Assert) (finding : Finding) (a : Assert) → a ≡ slice_index_or asserts finding.assertion a → finding.assertion < length asserts →
-    failed_assert location a.test finding.message ≡ finding_lines location asserts finding
-finding_text location asserts finding a is less = ap (λ (x : Assert). failed_assert location x.test finding.message) (is ∙ get_or_default asserts finding.assertion a no_assert less)
+-- an item of which something holds is there
+pub some_within : {A : Type 0} (xs : List A) (i : ℕ) (P : A → Type 0) → IsSomeAnd (slice_get xs i) P → i < length xs
+some_within [] i P holds = absurd holds
+some_within (x ∷ xs) zero P holds = omega arith
+some_within (x ∷ xs) (suc i) P holds = omega (arith, some_within xs i P holds)
+
+-- what holds of the item at a place
+pub some_holds : {A : Type 0} (xs : List A) (i : ℕ) (x : A) (P : A → Type 0) → x ≡ slice_index_or xs i x → IsSomeAnd (slice_get xs i) P → P x
+some_holds xs i x P is holds = subst (λ (o : Option _). IsSomeAnd o P) (slice_get_read xs (length xs) i x refl (some_within xs i P holds) is) holds
+
+-- the attributes that are handed to the writer, line by line
+pub attributes_are : (given : List Given) → attributes (map seen given) ≡ flat_map given_line given
+attributes_are [] = refl
+attributes_are (one ∷ given) = ap (λ (l : List ℕ). given_line one ++ l) (attributes_are given)
+
+-- the pair at a place of two lists side by side
+pub pair_at : {A B : Type 0} (xs : List A) (ys : List B) (i : ℕ) (x : A) (y : B) → i < length xs → i < length ys → x ≡ slice_index_or xs i x → y ≡ slice_index_or ys i y → (x, y) ≡ slice_index_or (zip xs ys) i (x, y)
+pair_at xs ys i x y less less_2 is is_2 = sym (get_or-zip xs ys i (x, y) less less_2 ∙ (ap (λ (a : _). (a, slice_index_or ys i y)) (sym is) ∙ ap (λ (b : _). (x, b)) (sym is_2)))
+
+-- the numbered item at a place
+pub numbered_at : {A : Type 0} (xs : List A) (i : ℕ) (x : A) → i < length xs → x ≡ slice_index_or xs i x → (i, x) ≡ slice_index_or (enumerate_from 0 xs) i (i, x)
+numbered_at xs i x less is = sym (get_or-enumerate_from 0 xs i (i, x) less ∙ (ap (λ (n : ℕ). (n, slice_index_or xs i x)) (zero_add i) ∙ ap (λ (a : _). (i, a)) (sym is)))
+  where
+    zero_add : (n : ℕ) → 0 + n ≡ n
+    zero_add n = omega arith
 
 -- a part that was not written whole, for want of the sink
 pub reported_err : {T E : Type 0} {a b : SinkLog} {text : List ℕ} {e : E} (r : Result (Unit {0}) OutError) → r ≡ Err Failed →

@@ -1,5 +1,6 @@
-pub mod Findings
+pub mod Elements
+pub mod FaultLine
+pub mod LocationLaws
 pub mod Locations
-pub mod Plan
 pub mod Report
 pub mod inner

@@ -1,93 +1,131 @@
 -- The report: SVRL in lines of PYX (ISO/IEC 19757-3, annex on SVRL).
-use Rattle.std.specs.Prelude.{◌≡◌, ℕ, ◌<◌, true, List, [], ◌∷◌, ◌++◌, length, codes, Option, None, Some, Result, Ok, Err, MatchResult, slice_index_or}
-use Rattle.std.specs.List.{flat_map}
+use Rattle.std.specs.Prelude.{◌≡◌, ℕ, ◌<◌, Bool, true, List, [], ◌∷◌, ◌++◌, length, codes, Option, None, Some, IsSomeAnd, All, Result, Ok, Err, MatchResult, if◌then◌else◌, slice_get}
+use Rattle.std.specs.List.{flat_map, zip, enumerate_from}
+use Rattle.std.specs.Option.{option_map_or}
 use Rattle.sch_io.specs.Counts.{one_more}
 use Rattle.sch_io.specs.SinkLog.{SinkLog}
 use Rattle.sch_io.specs.Wrote.{Appends}
-use Rattle.pyx_write.specs.Written.{start_line, attr_line, end_line, chars_line}
-use Rattle.doc_tree.specs.Lists.{mem}
-use Rattle.doc_tree.specs.Table.{Table}
+use Rattle.pyx_write.specs.Written.{chars_line}
+use Rattle.doc_tree.specs.Table.{Table, is_live}
 use Rattle.doc_tree.specs.Walks.{order}
-use Rattle.svrl_out.specs.declared.plan.Assert.{Assert}
-use Rattle.svrl_out.specs.declared.plan.Rule.{Rule}
-use Rattle.svrl_out.specs.declared.findings.Finding.{Finding}
-use Rattle.svrl_out.specs.declared.findings.Outcome.{Outcome}
-use Rattle.svrl_out.specs.declared.findings.Outcome.TheVariants.{NoRule, Fired}
+use Rattle.sch_compiled.specs.declared.plan.Plan.{Plan}
+use Rattle.sch_compiled.specs.declared.parts.PlanAssert.{PlanAssert}
+use Rattle.sch_compiled.specs.declared.parts.PlanDiagnostic.{PlanDiagnostic}
+use Rattle.sch_compiled.specs.declared.parts.PlanNs.{PlanNs}
+use Rattle.sch_compiled.specs.declared.parts.PlanPattern.{PlanPattern}
+use Rattle.sch_compiled.specs.declared.parts.PlanRule.{PlanRule}
+use Rattle.sch_compiled.specs.declared.findings.Finding.{Finding}
+use Rattle.sch_compiled.specs.declared.findings.Outcome.{Outcome}
+use Rattle.sch_compiled.specs.declared.findings.Outcome.TheVariants.{NoRule, Fired, Fault}
+use Rattle.sch_compiled.specs.Findings.{OutcomeTable, outcome_at}
+use Rattle.sch_compiled.specs.Plan.{rules_of}
 use Rattle.svrl_out.specs.declared.report.OutError.{OutError}
 use Rattle.svrl_out.specs.declared.report.OutError.TheVariants.{Failed, Memory}
+use Rattle.svrl_out.specs.Elements.{element}
 use Rattle.svrl_out.specs.Locations.{location_of}
 
--- the lines one after another
-abbrev pub joined : List (List ℕ) → List ℕ
-joined [] = []
-joined (line ∷ lines) = line ++ joined lines
+-- a prefix of the schema's expressions and its namespace
+abbrev pub ns_lines : PlanNs → List ℕ
+ns_lines ns = element (codes "svrl:ns-prefix-in-attribute-values") ((codes "prefix", Some ns.prefix) ∷ (codes "uri", Some ns.uri) ∷ []) []
 
--- the document element with the namespace of SVRL begins, and the one active pattern is told
-unfoldable pub report_start : List ℕ
-report_start = joined (start_line (codes "svrl:schematron-output")
-    ∷ attr_line (codes "xmlns:svrl") (codes "http://purl.oclc.org/dsdl/svrl")
-    ∷ start_line (codes "svrl:active-pattern")
-    ∷ end_line (codes "svrl:active-pattern") ∷ [])
-
-unfoldable pub report_end : List ℕ
-report_end = end_line (codes "svrl:schematron-output")
+-- a pattern is active
+abbrev pub active_pattern : PlanPattern → List ℕ
+active_pattern pattern = element (codes "svrl:active-pattern") ((codes "id", pattern.id) ∷ []) []
 
 -- a rule fires
-unfoldable pub fired_rule : List ℕ → List ℕ
-fired_rule context = joined (start_line (codes "svrl:fired-rule")
-    ∷ attr_line (codes "context") context
-    ∷ end_line (codes "svrl:fired-rule") ∷ [])
+abbrev pub fired_rule : PlanRule → List ℕ
+fired_rule rule = element (codes "svrl:fired-rule")
+    ((codes "id", rule.id)
+    ∷ (codes "context", Some rule.context_text)
+    ∷ (codes "role", rule.role)
+    ∷ (codes "flag", rule.flag) ∷ [])
+    []
 
--- an assert is false at a location
-unfoldable pub failed_assert : List ℕ → List ℕ → List ℕ → List ℕ
-failed_assert location test message = joined (start_line (codes "svrl:failed-assert")
-    ∷ attr_line (codes "location") location
-    ∷ attr_line (codes "test") test
-    ∷ start_line (codes "svrl:text")
-    ∷ chars_line message
-    ∷ end_line (codes "svrl:text")
-    ∷ end_line (codes "svrl:failed-assert") ∷ [])
+-- a diagnostic, and what it says of the node
+abbrev pub diagnostic_lines : PlanDiagnostic × List ℕ → List ℕ
+diagnostic_lines (diagnostic, text) =
+    element (codes "svrl:diagnostic-reference") ((codes "diagnostic", Some diagnostic.id) ∷ []) (chars_line text)
 
-abbrev pub no_assert : Assert
-no_assert = record { test = []; message = [] }
+-- the message of a finding
+abbrev pub message_lines : List ℕ → List ℕ
+message_lines message = element (codes "svrl:text") [] (chars_line message)
 
-abbrev pub no_rule : Rule
-no_rule = record { context = []; asserts = [] }
+-- what a finding is named
+abbrev pub finding_name : Bool → List ℕ
+finding_name report = if report then codes "svrl:successful-report" else codes "svrl:failed-assert"
 
--- the lines of a finding of a rule at a node
-abbrev pub finding_lines : List ℕ → List Assert → Finding → List ℕ
-finding_lines location asserts finding =
-    failed_assert location (slice_index_or asserts finding.assertion no_assert).test finding.message
+-- what a finding tells of its place and its assertion
+abbrev pub finding_attributes : List ℕ → PlanAssert → List (List ℕ × Option (List ℕ))
+finding_attributes location assertion =
+    (codes "id", assertion.id)
+    ∷ (codes "location", Some location)
+    ∷ (codes "role", assertion.role)
+    ∷ (codes "flag", assertion.flag)
+    ∷ (codes "test", Some assertion.test_text) ∷ []
 
--- the lines of a node by its outcome: its fired rule, then its findings in order
-abbrev pub outcome_lines : List Rule → List ℕ → Option Outcome → List ℕ
-outcome_lines plan location None = []
-outcome_lines plan location (Some NoRule) = []
-outcome_lines plan location (Some (Fired rule findings)) = fired_rule (slice_index_or plan rule no_rule).context
-    ++ flat_map (finding_lines location (slice_index_or plan rule no_rule).asserts) findings
+-- diagnostics, each with its text in the finding, and the message
+abbrev pub finding_texts : List PlanDiagnostic → Finding → List ℕ
+finding_texts diagnostics finding =
+    flat_map diagnostic_lines (zip diagnostics finding.diagnostics) ++ message_lines finding.message
 
-abbrev pub node_lines : List Rule → Table → (ℕ → Option Outcome) → ℕ → List ℕ
-node_lines plan T outcome n = outcome_lines plan (location_of T n) (outcome n)
+-- an assert is false, or a report true, at a location
+abbrev pub assertion_lines : List ℕ → Finding → PlanAssert → List ℕ
+assertion_lines location finding assertion =
+    element (finding_name assertion.report) (finding_attributes location assertion) (finding_texts assertion.diagnostics finding)
 
--- the report, folded over the nodes in document order
-abbrev pub report : List Rule → Table → (ℕ → Option Outcome) → List ℕ
-report plan T outcome = report_start ++ (flat_map (node_lines plan T outcome) (order T) ++ report_end)
+-- a finding of a rule with these assertions
+abbrev pub finding_lines : List ℕ → List PlanAssert → Finding → List ℕ
+finding_lines location assertions finding =
+    option_map_or (assertion_lines location finding) (slice_get assertions finding.assertion) []
 
--- each finding names an assert of the rule
-abbrev pub AreAssertsOf : List Assert → List Finding → Type 0
-AreAssertsOf asserts [] = Unit {0}
-AreAssertsOf asserts (finding ∷ findings) = (finding.assertion < length asserts) × AreAssertsOf asserts findings
+-- a rule that fires at a location, and its findings there in order
+abbrev pub rule_lines : List ℕ → List Finding → PlanRule → List ℕ
+rule_lines location findings rule = fired_rule rule ++ flat_map (finding_lines location rule.assertions) findings
 
--- an outcome is there, and what it names is in the plan
-abbrev pub IsOutcomeOf : List Rule → Option Outcome → Type 0
-IsOutcomeOf plan None = ⊥
-IsOutcomeOf plan (Some NoRule) = Unit {0}
-IsOutcomeOf plan (Some (Fired rule findings)) =
-    (rule < length plan) × AreAssertsOf (slice_index_or plan rule no_rule).asserts findings
+-- what an outcome under a pattern with these rules says of a location
+abbrev pub outcome_lines : List PlanRule → List ℕ → Option Outcome → List ℕ
+outcome_lines rules location None = []
+outcome_lines rules location (Some NoRule) = []
+outcome_lines rules location (Some (Fired rule findings)) = option_map_or (rule_lines location findings) (slice_get rules rule) []
+outcome_lines rules location (Some (Fault kind)) = []
 
--- each live node has an outcome of the plan
-abbrev pub IsReportable : List Rule → Table → (ℕ → Option Outcome) → Type 0
-IsReportable plan T outcome = (n : ℕ) → mem n (order T) ≡ true → IsOutcomeOf plan (outcome n)
+-- what a pattern with these rules says of a node
+abbrev pub node_lines : Table → List PlanRule → (ℕ → Option Outcome) → ℕ → List ℕ
+node_lines T rules outcome n = outcome_lines rules (location_of T n) (outcome n)
+
+-- an active pattern, and what it says of each node in document order
+abbrev pub pattern_lines : Table → (ℕ → ℕ → Option Outcome) → ℕ × PlanPattern → List ℕ
+pattern_lines T outcome (p, pattern) = active_pattern pattern ++ flat_map (node_lines T pattern.rules (outcome p)) (order T)
+
+-- what the report tells of its schema and the chosen phase
+abbrev pub output_attributes : Plan → List (List ℕ × Option (List ℕ))
+output_attributes plan =
+    (codes "xmlns:svrl", Some (codes "http://purl.oclc.org/dsdl/svrl"))
+    ∷ (codes "title", plan.title)
+    ∷ (codes "phase", plan.phase)
+    ∷ (codes "schemaVersion", plan.schema_version) ∷ []
+
+-- the report of a plan and a tree, by the outcome of each node under each pattern, counted from 0
+abbrev pub report : Plan → Table → (ℕ → ℕ → Option Outcome) → List ℕ
+report plan T outcome = element (codes "svrl:schematron-output") (output_attributes plan)
+    (flat_map ns_lines plan.namespaces ++ flat_map (pattern_lines T outcome) (enumerate_from 0 plan.patterns))
+
+-- a finding names an assertion, and has a text for each diagnostic that the assertion names
+abbrev pub IsFindingOf : List PlanAssert → Finding → Type 0
+IsFindingOf assertions finding =
+    IsSomeAnd (slice_get assertions finding.assertion) (λ assertion. length finding.diagnostics ≡ length assertion.diagnostics)
+
+-- an outcome is there and no fault, and it names a rule and its findings
+abbrev pub IsOutcomeOf : List PlanRule → Option Outcome → Type 0
+IsOutcomeOf rules None = ⊥
+IsOutcomeOf rules (Some NoRule) = Unit {0}
+IsOutcomeOf rules (Some (Fired rule findings)) = IsSomeAnd (slice_get rules rule) (λ fired. All (IsFindingOf fired.assertions) findings)
+IsOutcomeOf rules (Some (Fault kind)) = ⊥
+
+-- what was found is of the plan's patterns, and each live node has such an outcome under each of them
+pub record IsReportable (plan : Plan) (T : Table) (found : OutcomeTable) : Type 0 where
+  pub patterns : found.patterns ≡ length plan.patterns
+  pub outcomes : (p n : ℕ) → p < length plan.patterns → is_live T n ≡ true → IsOutcomeOf (rules_of plan p) (outcome_at found p n)
 
 -- a report adds one to the sink's faults where a write failed, and none else
 abbrev pub faults_of_report : Result (Unit {0}) OutError → ℕ → ℕ

@@ -1,4 +1,3 @@
-pub mod Cells
-pub mod Lines
+pub mod Given
 pub mod Places
 pub mod Printer

@@ -1,24 +1,38 @@
 -- How the parts of a run end: with a value, or with what stops the run.
-use Rattle.std.specs.Prelude.{◌≡◌, ℕ, ◌<◌, ◌≤◌, ◌⊎◌, List, [], ◌∷◌, ◌++◌, Bool, true, false, Option, None, Some, Result, Ok, Err, MatchResult, IfSome, length, if◌then◌else◌}
+use Rattle.std.specs.Prelude.{◌≡◌, ℕ, ◌<◌, ◌≤◌, ◌⊎◌, List, [], ◌∷◌, ◌++◌, Bool, true, false, Option, None, Some, Result, Ok, Err, MatchResult, IfErr, IfSome, length}
 use Rattle.std.specs.FinMap.{get}
 use Rattle.sch_io.specs.Files.{Files}
 use Rattle.sch_io.specs.ShelfState.{ShelfState}
+use Rattle.sch_io.specs.SinkLog.{SinkLog}
 use Rattle.sch_io.specs.declared.reading.TheConstants.{MAX_FILE_BYTES}
 use Rattle.sch_io.specs.Wrote.{Appends}
-use Rattle.doc_tree.specs.Table.{Contents}
+use Rattle.doc_tree.specs.Kinds.{is_document}
+use Rattle.doc_tree.specs.Table.{Table}
+use Rattle.sch_model.specs.declared.fault.SchemaError.{SchemaError}
+use Rattle.sch_model.specs.declared.fault.SchemaError.TheVariants as error
+use Rattle.svrl_out.specs.declared.report.OutError.{OutError}
+use Rattle.svrl_out.specs.declared.report.OutError.TheVariants as out
 use Rattle.sch_cli.specs.declared.stop.Stop.{Stop}
-use Rattle.sch_cli.specs.declared.stop.Stop.TheVariants.{Usage, NotYet, DocumentRefused, Missing, ReadFault, WriteFault, Memory}
+use Rattle.sch_cli.specs.declared.stop.Stop.TheVariants.{Usage, NotYet, SchemaRefused, DocumentRefused, Missing, ReadFault, WriteFault, Memory}
+use Rattle.sch_cli.specs.declared.state.Shown.{Shown}
+use Rattle.sch_cli.specs.declared.state.Shown.TheVariants as shown
+use Rattle.sch_cli.specs.declared.validation.Loaded.{Loaded}
+use Rattle.sch_cli.specs.declared.validation.Loaded.TheVariants as loaded
 use Rattle.sch_cli.specs.declared.status.Status.{Status}
 use Rattle.sch_cli.specs.declared.status.Status.TheVariants as status
 use Rattle.sch_cli.specs.Commands.{command_of}
-use Rattle.sch_cli.specs.Refusals.{document_refused_line}
-use Rattle.sch_cli.specs.Output.{Output, IsOutput, IsTreeOf, ComesTo, stopped, usage_line, not_yet_line, missing_line, read_fault_line, write_fault_line, memory_line}
+use Rattle.sch_cli.specs.Refusals.{document_refused_line, file_in, schema_refused_line}
+use Rattle.sch_cli.specs.Output.{Output, stopped, usage_line, not_yet_line, faulted_line, missing_line, read_fault_line, write_fault_line, memory_line}
+use Rattle.sch_cli.specs.CommandOutput.{IsOutput, ComesTo}
+use Rattle.sch_cli.specs.Documents.{IsDocument, IsRefused}
+use Rattle.sch_cli.specs.Stages.{refused_rule}
 use Rattle.sch_cli.specs.Runs.{AppendsFront, Fronted, is_status, counted_if, may_write}
 
 -- the status of a stop
 abbrev pub status_of : Stop → Status
 status_of Usage = status.Usage
 status_of NotYet = status.NotYet
+status_of (SchemaRefused refusal) = status.SchemaRefused
 status_of (DocumentRefused refusal) = status.DocumentRefused
 status_of (Missing name) = status.Missing
 status_of (ReadFault name) = status.ReadFault
@@ -29,16 +43,18 @@ status_of Memory = status.Memory
 abbrev pub line_of : Stop → List ℕ
 line_of Usage = usage_line
 line_of NotYet = not_yet_line
+line_of (SchemaRefused refusal) = schema_refused_line refusal
 line_of (DocumentRefused refusal) = document_refused_line refusal
 line_of (Missing name) = missing_line name.now
 line_of (ReadFault name) = read_fault_line name.now
 line_of WriteFault = write_fault_line
 line_of Memory = memory_line
 
--- the name that a stop tells
+-- the name of a file that a stop tells
 abbrev pub name_in : Stop → Option (List ℕ)
 name_in Usage = None
 name_in NotYet = None
+name_in (SchemaRefused refusal) = file_in refusal
 name_in (DocumentRefused refusal) = None
 name_in (Missing name) = Some name.now
 name_in (ReadFault name) = Some name.now
@@ -54,6 +70,7 @@ stopped_by stop = stopped (status_of stop) (line_of stop)
 abbrev pub ByCause : (Output → Type 0) → (List ℕ → Type 0) → Type 0 → Type 0 → Stop → Type 0
 ByCause decided unread unwritten memory Usage = decided (stopped_by Usage)
 ByCause decided unread unwritten memory NotYet = decided (stopped_by NotYet)
+ByCause decided unread unwritten memory (SchemaRefused refusal) = decided (stopped_by (SchemaRefused refusal))
 ByCause decided unread unwritten memory (DocumentRefused refusal) = decided (stopped_by (DocumentRefused refusal))
 ByCause decided unread unwritten memory (Missing name) = decided (stopped_by (Missing name))
 ByCause decided unread unwritten memory (ReadFault name) = unread name.now
@@ -74,6 +91,22 @@ may_have_written (Err stop) = may_write (status_of stop)
 abbrev pub Names : {A : Type 0} → (List ℕ → Type 0) → Result A Stop → Type 0
 Names is_such result = MatchResult result (λ _. Unit {0}) (λ stop. IfSome (name_in stop) is_such)
 
+-- what a stop tells is not of the outside: neither words nor files nor the output stopped the run, and no file is named
+pub record IsInner (stop : Stop) : Type 0 where
+  pub unnamed : name_in stop ≡ None
+  pub usage : is_status status.Usage (status_of stop) ≡ false
+  pub missing : is_status status.Missing (status_of stop) ≡ false
+  pub read_fault : is_status status.ReadFault (status_of stop) ≡ false
+  pub write_fault : is_status status.WriteFault (status_of stop) ≡ false
+
+-- what a stop tells is of the writing of a state
+pub record IsOfWriting (stop : Stop) : Type 0 where
+  pub unnamed : name_in stop ≡ None
+  pub usage : is_status status.Usage (status_of stop) ≡ false
+  pub missing : is_status status.Missing (status_of stop) ≡ false
+  pub read_fault : is_status status.ReadFault (status_of stop) ≡ false
+  pub writes : may_write (status_of stop) ≡ true
+
 -- the named file alone was opened; faults and misses are counted exactly where they are told; the name in a line is this
 -- one, and the stop is neither of the words nor of the output
 pub record Reads {A : Type 0} (old new : ShelfState) (name : List ℕ) (result : Result A Stop) : Type 0 where
@@ -85,9 +118,10 @@ pub record Reads {A : Type 0} (old new : ShelfState) (name : List ℕ) (result :
   pub no_usage : ends_with status.Usage result ≡ false
   pub no_write : ends_with status.WriteFault result ≡ false
 
--- a file was loaded as a value that goes on, or it stops the run
-abbrev pub Loads : {A : Type 0} → (A → Type 0) → (Output → Type 0) → List ℕ → Result A Stop → Type 0
-Loads goes stops name result = MatchResult result goes (ByCause stops (λ unread. unread ≡ name) ⊥ (Unit {0}))
+-- what may come of a part of a run, by the stage that it is: where the run stops, files and words decide its output, or the
+-- named file was not read, or memory ran out
+abbrev pub Gives : {A : Type 0} → (A → Type 0) → (Output → Type 0) → (List ℕ → Type 0) → Result A Stop → Type 0
+Gives goes stops unread result = MatchResult result goes (ByCause stops unread ⊥ (Unit {0}))
 
 -- the bytes of the named file, and none where it has more than a file may have
 abbrev pub IsRead : Files → List ℕ → Option (List ℕ) → Type 0
@@ -99,41 +133,88 @@ pub record IsMissing (files : Files) (name : List ℕ) (output : Output) : Type 
   pub none : get files name ≡ None
   pub says : output ≡ stopped status.Missing (missing_line name)
 
--- the tree of the named document
-abbrev pub IsLoaded : Files → List ℕ → Contents → Type 0
-IsLoaded files document tree = IsTreeOf files document tree.nodes
+-- a file is a document with this tree, or it is refused
+abbrev pub IsLoaded : Files → List ℕ → Loaded → Type 0
+IsLoaded files name (loaded.Tree tree) = (bytes : List ℕ) × (get files name ≡ Some bytes) × IsDocument bytes tree.nodes
+IsLoaded files name (loaded.Refused refusal) = (bytes : List ℕ) × (get files name ≡ Some bytes) × IsRefused bytes refusal
 
--- the status of a run by how it ended: whether the report has a finding, or what stopped it
-abbrev pub status_of_end : Result Bool Stop → Status
-status_of_end (Ok true) = status.Findings
-status_of_end (Ok false) = status.Clean
+-- a tree that was loaded is one of a document
+abbrev pub IsDocumentTree : Loaded → Type 0
+IsDocumentTree (loaded.Tree tree) = is_document tree.nodes ≡ true
+IsDocumentTree (loaded.Refused refusal) = Unit {0}
+
+-- a stop of a run whose schema, with this tree, is refused for the error: it tells the broken rule, or memory ran out
+abbrev pub IsRefusal : Table → SchemaError → Stop → Type 0
+IsRefusal T (error.Fault fault) stop = ByCause (λ output. output ≡ refused_rule T fault) (λ _. ⊥) ⊥ (Unit {0}) stop
+IsRefusal T error.Memory stop = ByCause (λ _. ⊥) (λ _. ⊥) ⊥ (Unit {0}) stop
+
+-- what a report shows, by whether something was found
+abbrev pub shown_of : Bool → Shown
+shown_of true = shown.Findings
+shown_of false = shown.Clean
+
+-- the status of a state that was written
+abbrev pub status_shown : Shown → Status
+status_shown shown.Clean = status.Clean
+status_shown shown.Findings = status.Findings
+status_shown shown.Fault = status.Faulted
+
+-- and the line of the error output
+abbrev pub line_shown : Shown → List ℕ
+line_shown shown.Clean = []
+line_shown shown.Findings = []
+line_shown shown.Fault = faulted_line
+
+-- the status of a run by how it ended: with a state that was written, or with what stopped it
+abbrev pub status_of_end : Result Shown Stop → Status
+status_of_end (Ok state) = status_shown state
 status_of_end (Err stop) = status_of stop
 
-abbrev pub line_of_end : Result Bool Stop → List ℕ
-line_of_end (Ok finds) = []
+abbrev pub line_of_end : Result Shown Stop → List ℕ
+line_of_end (Ok state) = line_shown state
 line_of_end (Err stop) = line_of stop
 
+-- an output that may be says the state that was shown, and its bytes were written
+pub record Shows (is_output : Output → Type 0) (written : List ℕ → Type 0) (state : Shown) : Type 0 where
+  pub output : Output
+  pub may_be : is_output output
+  pub ends : output.ends ≡ status_shown state
+  pub err : output.err ≡ line_shown state
+  pub out : written output.out
+
 -- how a run or a part of it ends, by the outputs that may be, the files to which it comes, and what is written
-abbrev pub Concludes : (Output → Type 0) → (List ℕ → Type 0) → (List ℕ → Type 0) → Result Bool Stop → Type 0
+abbrev pub Concludes : (Output → Type 0) → (List ℕ → Type 0) → (List ℕ → Type 0) → Result Shown Stop → Type 0
 Concludes is_output comes_to written result = MatchResult result
-    (λ found. (output : Output) × is_output output × (output.ends ≡ (if found then status.Findings else status.Clean)) × (output.err ≡ []) × written output.out)
+    (Shows is_output written)
     (ByCause (λ output. is_output output × written output.out) (λ name. comes_to name × written []) (Fronted is_output written) (written [] ⊎ Fronted is_output written))
 
 -- the same over a shelf that tells its files
-abbrev pub ConcludesOver : Option Files → List (List ℕ) → (List ℕ → Type 0) → Result Bool Stop → Type 0
+abbrev pub ConcludesOver : Option Files → List (List ℕ) → (List ℕ → Type 0) → Result Shown Stop → Type 0
 ConcludesOver None words written result = Unit {0}
 ConcludesOver (Some files) words written result = Concludes (IsOutput words files) (ComesTo (command_of words) files) written result
 
 -- the status of a run is that of its end, as far as counts and the output go
-pub record EndsAs (ends : Status) (result : Result Bool Stop) : Type 0 where
+pub record EndsAs (ends : Status) (result : Result Shown Stop) : Type 0 where
   pub is : ends ≡ status_of_end result
   pub missing : is_status status.Missing ends ≡ ends_with status.Missing result
   pub read_fault : is_status status.ReadFault ends ≡ ends_with status.ReadFault result
   pub write_fault : is_status status.WriteFault ends ≡ ends_with status.WriteFault result
   pub writes : may_write ends ≡ may_have_written result
 
--- a report was written whole, or a front of it where a write failed or memory ran out
-abbrev pub ReportsAs : Option (List ℕ) → Option (List ℕ) → List ℕ → Bool → Result Bool Stop → Type 0
-ReportsAs old new text found result = MatchResult result
-    (λ finds. (finds ≡ found) × Appends old new text)
-    (ByCause (λ output. ⊥) (λ name. ⊥) (AppendsFront old new text) (AppendsFront old new text))
+-- a state was written whole, or a front of it where a write failed or memory ran out
+abbrev pub Writes : Option (List ℕ) → Option (List ℕ) → Output → Result Shown Stop → Type 0
+Writes old new output result = MatchResult result
+    (λ state. (output.ends ≡ status_shown state) × (output.err ≡ line_shown state) × Appends old new output.out)
+    (ByCause (λ _. ⊥) (λ _. ⊥) (AppendsFront old new output.out) (AppendsFront old new output.out))
+
+-- the same with the count of faults, and what may stop the writing
+pub record WroteState (old new : SinkLog) (output : Output) (result : Result Shown Stop) : Type 0 where
+  pub told : Writes old.written new.written output result
+  pub writing : IfErr result IsOfWriting
+  pub faults : new.faults ≡ counted_if (ends_with status.WriteFault result) old.faults
+
+-- what a state shows that was written, or what stopped its writing
+abbrev pub ShownAs : Result (Unit {0}) OutError → Shown → Result Shown Stop → Type 0
+ShownAs (Ok done) state result = result ≡ Ok state
+ShownAs (Err out.Failed) state result = result ≡ Err WriteFault
+ShownAs (Err out.Memory) state result = result ≡ Err Memory

@@ -1,21 +1,40 @@
--- What the writer of reports asks for and writes, at each node.
-use Rattle.std.specs.Prelude.{◌≡◌, ℕ, true, List}
+-- What the writer of reports asks for and writes.
+use Rattle.std.specs.Prelude.{◌≡◌, ℕ, true, List, ◌++◌, codes}
+use Rattle.std.specs.List.{flat_map, enumerate_from}
+use Rattle.pyx_write.specs.Written.{end_line}
+use Rattle.doc_tree.specs.Lists.{mem}
 use Rattle.doc_tree.specs.Table.{is_live}
+use Rattle.doc_tree.specs.Walks.{order}
+use Rattle.sch_compiled.specs.Findings.{outcome_at}
+use Rattle.sch_compiled.specs.declared.parts.PlanRule.{PlanRule}
 use Rattle.svrl_out.specs.declared.report.Printer.{Printer}
-use Rattle.svrl_out.specs.Findings.{outcome_at}
 use Rattle.svrl_out.specs.inner.Places.{HoldsPlaces}
-use Rattle.svrl_out.specs.Report.{node_lines, IsOutcomeOf}
+use Rattle.svrl_out.specs.Report.{IsOutcomeOf, IsReportable, node_lines, ns_lines, pattern_lines, report}
 
--- the places of all kids are at hand, and the outcomes are of one pattern
+-- the nodes and the places of all kids are at hand, and what was found can be told
 pub record IsReady (p : Printer) : Type 0 where
+  pub nodes : p.nodes.now ≡ order p.tree.now.nodes
+  pub live : (n : ℕ) → mem n p.nodes.now ≡ true → is_live p.tree.now.nodes n ≡ true
   pub places : HoldsPlaces p.tree.now.nodes p.places.now
-  pub patterns : p.found.now.patterns ≡ 1
+  pub found : IsReportable p.plan.now p.tree.now.nodes p.found.now
 
--- the node lives, and its outcome names what is in the plan
-pub record IsReportableAt (p : Printer) (n : ℕ) : Type 0 where
-  pub live : is_live p.tree.now.nodes n ≡ true
-  pub outcome : IsOutcomeOf p.plan.now (outcome_at p.found.now 0 n)
+-- each live node has an outcome under a pattern, and it names what is in these rules
+abbrev pub HasOutcomes : Printer → ℕ → List PlanRule → Type 0
+HasOutcomes p pattern rules = (n : ℕ) → is_live p.tree.now.nodes n ≡ true → IsOutcomeOf rules (outcome_at p.found.now pattern n)
 
--- the lines of a node
-abbrev pub printed_lines : Printer → ℕ → List ℕ
-printed_lines p n = node_lines p.plan.now p.tree.now.nodes (outcome_at p.found.now 0) n
+-- the report
+abbrev pub printed : Printer → List ℕ
+printed p = report p.plan.now p.tree.now.nodes (outcome_at p.found.now)
+
+-- what the output holds
+abbrev pub held_lines : Printer → List ℕ
+held_lines p = flat_map ns_lines p.plan.now.namespaces
+    ++ flat_map (pattern_lines p.tree.now.nodes (outcome_at p.found.now)) (enumerate_from 0 p.plan.now.patterns)
+
+-- what stands behind the output's opening
+abbrev pub held_and_end : Printer → List ℕ
+held_and_end p = held_lines p ++ end_line (codes "svrl:schematron-output")
+
+-- the lines of a node under a pattern with these rules
+abbrev pub node_text : Printer → ℕ → List PlanRule → ℕ → List ℕ
+node_text p pattern rules n = node_lines p.tree.now.nodes rules (outcome_at p.found.now pattern) n

@@ -1,4 +1,4 @@
--- Each stage has one value or one cause to stop.
+-- One thing alone may come of each stage.
 use Rattle.sch_cli.proofs.OneOutput.{one-output}
 use Rattle.sch_cli.proofs.laws.one_output.Goals as goal
 

@@ -1,11 +1,9 @@
--- The bytes that were read are a schema of another form.
-use Rattle.sch_cli.proofs.EndLemmas.{schema_of_another_form, schema_too_large}
+-- The tree of the schema gives the plan.
+use Rattle.sch_cli.proofs.EndLemmas.{planned, reads_after}
 use Rattle.sch_cli.proofs.validation.load_plan.Goals as goal
 
-pub returns-in_default-clause-told : goal.returns-in_default-clause-told
-returns-in_default-clause-told g c = λ files held. schema_too_large files c.args.name.now c.in_ok-bytes.field-0 (c.in_ok-bytes.ensures.told files held) c.in_default.is
-
 pub returns-clause-told : goal.returns-clause-told
-returns-clause-told g c = λ files held.
-    schema_of_another_form files c.args.name.now c.in_ok-bytes.field-0 c.in-Some.bytes c.as_slice.result.now (c.in_ok-bytes.ensures.told files held) c.in-Some.is c.as_slice.ensures
-    (rw c.in-None.is at c.in_ok-plan.ensures.exact)
+returns-clause-told g c = λ files held. planned files c.args.phase.now c.args.name.now c.in_ok-tree.tree.nodes (c.in_ok-tree.ensures.told files held) c.plan_of.result c.plan_of.ensures.told
+
+pub returns-clause-reads : goal.returns-clause-reads
+returns-clause-reads g c = reads_after _ _ c.args.name.now c.in_ok-tree.tree c.in_ok-tree.ensures.reads c.plan_of.result c.plan_of.ensures.inner

@@ -1,10 +1,13 @@
--- A start that was not written whole leaves a front.
+-- An opening that was not written whole leaves a front.
 use Rattle.std.proofs.Common.{Err, ap, ◌∙◌}
 use Rattle.std.proofs.lemmas.Result.{err_from_is_err_and}
-use Rattle.svrl_out.proofs.ReportLemmas.{reported_failed}
+use Rattle.svrl_out.proofs.ReportLemmas.{reported_failed, reported_then}
 use Rattle.svrl_out.proofs.report.Printer.write_all.Goals as goal
 
-pub returns-in_err-write_start : goal.returns-in_err-write_start
-returns-in_err-write_start g c =
+pub returns-in_err-write_output_opening : goal.returns-in_err-write_output_opening
+returns-in_err-write_output_opening g c =
     let error = err_from_is_err_and c.from_residual.result c.from_residual.ensures.1 in
-    reported_failed _ c.from_residual.result (error.1 ∙ ap Err error.2) c.in_err-write_start.ensures
+    reported_failed _ c.from_residual.result (error.1 ∙ ap Err error.2) c.in_err-write_output_opening.ensures
+
+pub returns : goal.returns
+returns g c = reported_then c.in_ok-write_output_opening.ensures c.write_held_and_end.ensures

@@ -7,10 +7,10 @@ use Rattle.svrl_out.proofs.report.Printer.write_fired.Goals as goal
 pub returns-in_err-write_fired_rule : goal.returns-in_err-write_fired_rule
 returns-in_err-write_fired_rule g c =
     let error = err_from_is_err_and c.from_residual.result c.from_residual.ensures.1 in
-    rw (← c.as_str.ensures) (reported_failed _ c.from_residual.result (error.1 ∙ ap Err error.2) c.in_err-write_fired_rule.ensures)
+    reported_failed _ c.from_residual.result (error.1 ∙ ap Err error.2) c.in_err-write_fired_rule.ensures
 
 pub returns-in_err-write_findings : goal.returns-in_err-write_findings
 returns-in_err-write_findings g c =
     let error = err_from_is_err_and c.from_residual-in_err-write_findings.result c.from_residual-in_err-write_findings.ensures.1 in
-    rw (← c.as_str.ensures, ← c.in_ok-location.ensures, ← c.as_str-2.ensures)
+    rw (← c.in_ok-location.ensures)
     (reported_then c.in_ok-write_fired_rule.ensures (reported_err c.from_residual-in_err-write_findings.result (error.1 ∙ ap Err error.2) c.in_err-write_findings.ensures))

@@ -1,0 +1,106 @@
+-- The stages of a validation in the order of the work: each goes on with a value, or stops the run with its output. The
+-- first stage that stops the run gives the output.
+use Rattle.std.specs.Prelude.{◌≡◌, ◌⊎◌, ℕ, ◌*◌, nat_lt, Bool, true, false, not, List, length, Option, None, Some, Result, Ok, Err}
+use Rattle.std.specs.FinMap.{get}
+use Rattle.sch_io.specs.Files.{Files}
+use Rattle.sch_base.specs.declared.limits.TheConstants.{MAX_PAIRS}
+use Rattle.doc_tree.specs.Table.{Table}
+use Rattle.doc_tree.specs.Walks.{order}
+use Rattle.sch_model.specs.Concrete.{is_concrete}
+use Rattle.sch_model.specs.declared.fault.SchemaFault.{SchemaFault}
+use Rattle.sch_model.specs.declared.flat.FlatSchema.{FlatSchema}
+use Rattle.sch_model.specs.declared.raw.RawSchema.{RawSchema}
+use Rattle.sch_rules.specs.FirstBroken.{first_broken}
+use Rattle.sch_rules.specs.RawSchema.{raw_schema}
+use Rattle.sch_abstract.specs.FirstFault.{first_fault}
+use Rattle.sch_abstract.specs.Flat.{flat_schema}
+use Rattle.sch_compiled.specs.declared.plan.Plan.{Plan}
+use Rattle.sch_plan.specs.Compiled.{compiled}
+use Rattle.svrl_out.specs.Locations.{location_of}
+use Rattle.sch_cli.specs.declared.status.Status.TheVariants.{SchemaRefused, DocumentRefused, Missing, NotYet}
+use Rattle.sch_cli.specs.declared.refusal.FileRefusal.{FileRefusal}
+use Rattle.sch_cli.specs.declared.refusal.DocumentRefusal.TheVariants.{File, TooManyPairs}
+use Rattle.sch_cli.specs.Documents.{IsDocument, IsRefused}
+use Rattle.sch_cli.specs.Includes.{has_include}
+use Rattle.sch_cli.specs.Output.{Output, missing_line, not_yet_line, state, stopped}
+use Rattle.sch_cli.specs.Refusals.{document_refused_line, schema_file_line, schema_rule_line}
+
+-- two stages one after the other: the second starts from the value with which the first goes on
+abbrev pub Then : {A B : Type 0} → (Result A Output → Type 0) → (A → Result B Output → Type 0) → Result B Output → Type 0
+Then {A = A} stage next result =
+    ((output : Output) × stage (Err output) × (result ≡ Err output)) ⊎ ((value : A) × stage (Ok value) × next value result)
+
+-- a stage that is decided
+abbrev pub Is : {A : Type 0} → Result A Output → Result A Output → Type 0
+Is decided result = result ≡ decided
+
+-- on with a value, and a stop where a test passes
+abbrev pub stop_if : {A : Type 0} → Bool → Output → A → Result A Output
+stop_if true output value = Err output
+stop_if false output value = Ok value
+
+-- on with a value, and a stop where there is a fault
+abbrev pub stop_at : {A F : Type 0} → Option F → (F → Output) → A → Result A Output
+stop_at (Some fault) output value = Err (output fault)
+stop_at None output value = Ok value
+
+-- the outputs of runs that are stopped
+abbrev pub missing : List ℕ → Output
+missing name = stopped Missing (missing_line name)
+
+abbrev pub not_yet : Output
+not_yet = stopped NotYet not_yet_line
+
+abbrev pub refused_file : List ℕ → FileRefusal → Output
+refused_file name refusal = stopped SchemaRefused (schema_file_line name refusal)
+
+abbrev pub refused_rule : Table → SchemaFault → Output
+refused_rule T fault = stopped SchemaRefused (schema_rule_line (location_of T fault.node) fault)
+
+abbrev pub refused_document : FileRefusal → Output
+refused_document refusal = stopped DocumentRefused (document_refused_line (File refusal))
+
+abbrev pub too_many_pairs : Output
+too_many_pairs = stopped DocumentRefused (document_refused_line TooManyPairs)
+
+-- a file as a tree: there is none of that name, or it is refused, or it is a document with this tree
+pub data Loading (files : Files) (name : List ℕ) (refused : FileRefusal → Output) : Result Table Output → Type 0 where
+  not_there : get files name ≡ None → Loading files name refused (Err (missing name))
+  not_read : (bytes : List ℕ) → get files name ≡ Some bytes → (refusal : FileRefusal) → IsRefused bytes refusal →
+      Loading files name refused (Err (refused refusal))
+  loaded : (bytes : List ℕ) → get files name ≡ Some bytes → (T : Table) → IsDocument bytes T → Loading files name refused (Ok T)
+
+-- a schema without abstract parts: an abstract part is past what the program does so far
+abbrev pub Flattening : Table → RawSchema → Result FlatSchema Output → Type 0
+Flattening T raw =
+    Then (Is (stop_if (not (is_concrete raw)) not_yet raw)) (λ raw.
+    Is (stop_at (first_fault raw) (refused_rule T) (flat_schema raw)))
+
+-- the reading of a schema's tree: an include is past what the program does so far
+abbrev pub Reading : Table → Result FlatSchema Output → Type 0
+Reading T =
+    Then (Is (stop_if (has_include T) not_yet T)) (λ T.
+    Then (Is (stop_at (first_broken T) (refused_rule T) (raw_schema T))) (Flattening T))
+
+-- the plan of a schema's phase
+abbrev pub Compiling : Table → List ℕ → FlatSchema → Result Plan Output → Type 0
+Compiling T phase flat (Ok plan) = compiled flat phase (Ok plan)
+Compiling T phase flat (Err output) = (fault : SchemaFault) × compiled flat phase (Err fault) × (output ≡ refused_rule T fault)
+
+-- the plan of the named schema's phase
+abbrev pub Planning : Files → List ℕ → List ℕ → Result Plan Output → Type 0
+Planning files phase schema = Then (Loading files schema (refused_file schema)) (λ T. Then (Reading T) (Compiling T phase))
+
+-- whether there are too many pairs of an active pattern and a node
+abbrev pub has_too_many_pairs : Plan → Table → Bool
+has_too_many_pairs plan T = nat_lt MAX_PAIRS (length plan.patterns * length (order T))
+
+-- the tree of the named document
+abbrev pub Treeing : Files → Plan → List ℕ → Result Table Output → Type 0
+Treeing files plan document = Then (Loading files document refused_document)
+    (λ T. Is (stop_if (has_too_many_pairs plan T) too_many_pairs T))
+
+-- a validation: the schema comes first, then the document, then the state of the document by the schema
+abbrev pub Validating : Files → List ℕ → List ℕ → List ℕ → Result Output Output → Type 0
+Validating files phase schema document =
+    Then (Planning files phase schema) (λ plan. Then (Treeing files plan document) (λ T. Is (Ok (state plan T))))

@@ -1,0 +1,116 @@
+//! Outside examples of whole runs, over a shelf and sinks in memory. Rows set the schema `s.pyx` and the document `d.pyx`;
+//! others run words over them, and tell the status, the line on the error output, and the output. The rows that do not
+//! hold are written.
+#![tactic(auto)]
+
+ghost use Rattle.std.specs.Prelude.{◌≡◌, ◌<◌};
+
+use sch_cli::{Status, Words, run};
+use sch_io::{MemoryShelf, MemorySink};
+use std::alloc::Global;
+use std::marker::Brand;
+use std::process::ExitCode;
+use std::str;
+use std::sync::ledger::{Blank, Ledger};
+use std::test::Fail;
+use test_rows::{Answers, hold_rows};
+use xp_outcome::Steps;
+
+/// How many bytes a sink holds.
+const ROOM: usize = 65_536;
+
+fn main(rt: HostRuntime) -> Result<ExitCode, Fail> {
+    let alloc = rt.alloc();
+    let mut files = Files {
+        alloc,
+        schema: String::new(alloc),
+        document: Vec::new(alloc),
+    };
+    hold_rows(&rt, '¶', &mut files)
+}
+
+/// The two files of a run.
+#[derive(Drop)]
+struct Files {
+    alloc: Global,
+    schema: String,
+    document: Vec<u8>,
+}
+
+impl Answers for Files {
+    fn answer(&mut self, kind: &str, input: &str) -> Result<String, Fail> {
+        match kind {
+            "schema" => self.schema = String::from_str(self.alloc, input)?,
+            "document" => self.document = bytes_of(self.alloc, input)?,
+            "cut" => self.document = without_last(self.alloc, input)?,
+            "nested" => self.document = nested(self.alloc, input.parse()?)?,
+            "no room" => return self.ended(input, 0, 0),
+            "run" => return self.ended(input, 0, ROOM),
+            _ => return self.ended(input, kind.parse()?, ROOM),
+        }
+        Ok(String::new(self.alloc))
+    }
+}
+
+impl Files {
+    /// How words end, where the shelf's call of that number fails and the output has room for that many bytes.
+    fn ended(&self, words: &str, failing: u64, room: usize) -> Result<String, Fail> {
+        let mut shelf = MemoryShelf::new(self.alloc);
+        shelf.put("s.pyx", self.schema.as_bytes())?;
+        shelf.put("d.pyx", self.document.as_slice())?;
+        shelf.fail_at(failing)?;
+        let mut list = Words::new(self.alloc);
+        for word in words.split(' ') {
+            list.push(word)?;
+        }
+        let mut out = MemorySink::with_room(self.alloc, room)?;
+        let mut err = MemorySink::with_room(self.alloc, ROOM)?;
+        let blank = Blank::new(1);
+        let ends = run_counted::<Brand>(self.alloc, &list, &mut shelf, &mut out, &mut err, blank);
+        let line = str::from_utf8(err.written())?;
+        let text = str::from_utf8(out.written())?;
+        Ok(format!(in self.alloc; "{} {line}{text}", ends.code())?)
+    }
+}
+
+/// Runs words, with a count of steps over the ledger of the blank.
+fn run_counted<L: Ledger>(
+    alloc: Global,
+    words: &Words,
+    shelf: &mut MemoryShelf,
+    out: &mut MemorySink,
+    err: &mut MemorySink,
+    blank: Blank,
+) -> Status
+    requires name { blank.name ≡ L.name }
+    requires parts { blank.parts ≡ L.parts }
+    requires some { 0 < L.parts }
+{
+    let mut steps: Steps<L> = Steps::start(blank);
+    run(alloc, words, shelf, out, err, &mut steps)
+}
+
+/// The bytes of a text.
+fn bytes_of(alloc: Global, text: &str) -> Result<Vec<u8>, Fail> {
+    let mut bytes = Vec::new(alloc);
+    bytes.extend_from_slice(text.as_bytes())?;
+    Ok(bytes)
+}
+
+/// The bytes of a text but the last one.
+fn without_last(alloc: Global, text: &str) -> Result<Vec<u8>, Fail> {
+    let mut bytes = bytes_of(alloc, text)?;
+    bytes.pop();
+    Ok(bytes)
+}
+
+/// A document of elements nested that deep.
+fn nested(alloc: Global, depth: usize) -> Result<Vec<u8>, Fail> {
+    let mut text = Vec::new(alloc);
+    for line in [b"(a\n", b")a\n"] {
+        for _ in 0..depth {
+            text.extend_from_slice(line)?;
+        }
+    }
+    Ok(text)
+}

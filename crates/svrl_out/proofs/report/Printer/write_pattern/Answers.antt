@@ -1,0 +1,13 @@
+-- An active pattern that was not written whole leaves a front.
+use Rattle.std.proofs.Common.{Err, ap, ◌∙◌}
+use Rattle.std.proofs.lemmas.Result.{err_from_is_err_and}
+use Rattle.svrl_out.proofs.ReportLemmas.{reported_failed, reported_then}
+use Rattle.svrl_out.proofs.report.Printer.write_pattern.Goals as goal
+
+pub returns-in_err-write_active_pattern : goal.returns-in_err-write_active_pattern
+returns-in_err-write_active_pattern g c =
+    let error = err_from_is_err_and c.from_residual.result c.from_residual.ensures.1 in
+    reported_failed _ c.from_residual.result (error.1 ∙ ap Err error.2) c.in_err-write_active_pattern.ensures
+
+pub returns : goal.returns
+returns g c = reported_then c.in_ok-write_active_pattern.ensures c.write_nodes.ensures
