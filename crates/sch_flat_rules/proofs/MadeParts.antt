@@ -1,9 +1,8 @@
 -- The document of what is read is made of Chars.
-use Rattle.std.proofs.Common.{◌≡◌, ℕ, Bool, true, false, ◌&&◌, cond, find, List, [], ◌∷◌, ◌++◌, Option, None, Some, map, refl, sym, ap, ◌∙◌, subst}
+use Rattle.std.proofs.Common.{◌≡◌, ℕ, Bool, true, false, cond, find, List, [], ◌∷◌, ◌++◌, Option, None, Some, map, refl, sym, ◌∙◌, subst}
 use Rattle.std.specs.List.{flat_map, list_all}
-use Rattle.std.specs.Option.{option_map_or}
 use Rattle.std.specs.Prelude.{codes, option_map}
-use Rattle.std.proofs.lemmas.Bool.{and_from, and_parts}
+use Rattle.std.proofs.lemmas.Bool.{and_from}
 use Rattle.std.proofs.lemmas.Grind.{flat_map-append}
 use Rattle.std.proofs.lemmas.List.Folds.{list_all-append}
 use Rattle.doc_tree.specs.Table.{Table, content_of, kids_of}
@@ -26,7 +25,7 @@ use Rattle.sch_rules.specs.declared.word.Word.{Word}
 use Rattle.sch_rules.specs.declared.word.Word.TheVariants as word
 use Rattle.sch_rules.specs.Attributes.{said, said_text}
 use Rattle.sch_rules.specs.Elements.{document_element, is_ignored, word_above, word_at}
-use Rattle.sch_rules.specs.RawSchema.{active_of, assertion_of, chars_before, chars_part, counted_text, diagnostic_of, diagnostics_at, holds_text, ids_in, item_at, item_of, joined, let_of, message_of, ns_of, own_part, part_at, pattern_of, phase_of, raw_schema, read_if, read_kids, rule_of, text_at, title_of}
+use Rattle.sch_rules.specs.RawSchema.{active_of, assertion_of, chars_before, chars_part, counted_text, diagnostic_of, diagnostics_at, holds_text, ids_in, item_at, item_of, joined, let_of, message_of, ns_of, own_part, part_at, pattern_of, phase_of, raw_schema, read_kids, rule_of, text_at, title_of}
 use Rattle.sch_rules.specs.Words.{is_word}
 use Rattle.sch_abstract.specs.Flat.{assertion_in, flat_pattern, flat_rule, flat_schema, let_in, text_or_empty}
 use Rattle.sch_flat.specs.FlatDocument.{active_events, assertion_attributes, assertion_events, assertion_name, characters, diagnostic_events, diagnostics_events, element, flat_events, held_events, id_list, let_events, ns_events, only_given, part_events, pattern_events, phase_events, rule_events, spaced, title_events}

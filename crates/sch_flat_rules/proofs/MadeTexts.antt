@@ -1,8 +1,8 @@
 -- Texts made of Chars (XML 1.0, section 2.2), of which a document is made.
-use Rattle.std.proofs.Common.{arith, ◌≡◌, ℕ, zero, suc, ◌<◌, ltb, get_or, Bool, true, false, ◌&&◌, cond, find, List, [], ◌∷◌, ◌++◌, Option, None, Some, map, refl, sym, ap, ◌∙◌, subst}
+use Rattle.std.proofs.Common.{arith, ◌≡◌, ℕ, zero, suc, ◌<◌, ltb, get_or, Bool, true, false, ◌&&◌, cond, find, List, [], ◌∷◌, ◌++◌, Option, None, Some, map, refl, ap, ◌∙◌}
 use Rattle.std.specs.List.{flat_map, list_all}
 use Rattle.std.specs.Option.{option_map_or}
-use Rattle.std.specs.Prelude.{IsUtf8, chars, codes, encode_utf8_all, option_map}
+use Rattle.std.specs.Prelude.{chars, codes, encode_utf8_all, option_map}
 use Rattle.std.specs.Str.{is_utf8}
 use Rattle.std.proofs.Math.Utf8.{scalar, scalars}
 use Rattle.std.proofs.lemmas.Bool.{and_from, and_parts, ltb-true}
