@@ -1,93 +1,116 @@
-//! Outside examples of bytes, names and PYX: what no contract says, and what the standards' own words show. The rows that
-//! do not hold are written.
+//! Outside examples of texts of PYX: their events, their first faults, and the lines and escapes that are written. The
+//! rows that do not hold are written.
 #![tactic(auto)]
 
-mod cuts;
-mod names;
-mod reading;
-mod streams;
-mod writing;
-
-use crate::cuts::{each_byte, each_cut, halves, reader_call};
-use crate::names::{classes, copied, items, name_parts};
-use crate::reading::{events_of, fault_of, front_of, numbered};
-use crate::streams::{file_size, host_call, shelf_call, sink_call};
-use crate::writing::{line_of, written_again};
-use pyx_core::{Mode, Reader, unescape};
-use sch_io::{MemoryShelf, MemorySink};
+use pyx_core::{FeedError, LocatedList, Mode, read_events, read_front, unescape};
+use pyx_write::{
+    write_attr, write_chars, write_comment, write_end, write_escaped, write_event, write_pi,
+    write_start,
+};
+use sch_io::{Failed, MemorySink, write_all};
 use std::alloc::Global;
 use std::process::ExitCode;
 use std::test::Fail;
 use test_rows::{Answers, hold_rows};
+use test_texts::{copy, first_word, shown, text};
 
 fn main(rt: HostRuntime) -> Result<ExitCode, Fail> {
-    let alloc = rt.alloc();
-    let mut tables = Tables {
-        rt: &rt,
-        reader: Reader::new(alloc, Mode::Document),
-        shelf: MemoryShelf::new(alloc),
-        failing_shelf: MemoryShelf::new(alloc),
-        sink: MemorySink::with_room(alloc, 7)?,
-        failing_sink: MemorySink::with_room(alloc, 7)?,
-    };
-    hold_rows(&rt, '|', &mut tables)
+    hold_rows(&rt, '|', &mut Tables { alloc: rt.alloc() })
 }
 
-/// What answers the rows; those of some tables call one reader, shelf or sink.
+/// What answers the rows.
 #[derive(Drop)]
-struct Tables<'r> {
-    rt: &'r HostRuntime,
-    reader: Reader,
-    shelf: MemoryShelf,
-    failing_shelf: MemoryShelf,
-    sink: MemorySink,
-    failing_sink: MemorySink,
+struct Tables {
+    alloc: Global,
 }
 
-impl Answers for Tables<'_> {
+impl Answers for Tables {
     fn answer(&mut self, kind: &str, input: &str) -> Result<String, Fail> {
-        let alloc = self.rt.alloc();
+        let alloc = self.alloc;
         match kind {
-            "reader" => reader_call(alloc, &mut self.reader, input),
-            "shelf" => shelf_call(alloc, &mut self.shelf, input),
-            "failing shelf" => shelf_call(alloc, &mut self.failing_shelf, input),
-            "sink" => sink_call(alloc, &mut self.sink, input),
-            "failing sink" => sink_call(alloc, &mut self.failing_sink, input),
-            "host" => host_call(self.rt, input),
-            _ => answer_to(alloc, kind, input),
+            "line" => line_of(alloc, 200, input),
+            "narrow line" => line_of(alloc, 5, input),
+            "unescaped" => copy(alloc, unescape(alloc, input)?.as_str()),
+            "bytes fault" => fault_of(alloc, Mode::Document, numbered(alloc, input)?.as_slice()),
+            "front" => lines_of(alloc, &front_of(alloc, input)?, true),
+            "document fault" => fault_of(alloc, Mode::Document, input.as_bytes()),
+            "fragment fault" => fault_of(alloc, Mode::Fragment, input.as_bytes()),
+            "fragment" | "written fragment" => {
+                let events = read_events(alloc, Mode::Fragment, input.as_bytes())?;
+                lines_of(alloc, &events, kind == "fragment")
+            }
+            _ => {
+                let events = read_events(alloc, Mode::Document, input.as_bytes())?;
+                lines_of(alloc, &events, kind == "document")
+            }
         }
     }
 }
 
-/// The answer to a row that stands for itself.
-fn answer_to(alloc: Global, kind: &str, input: &str) -> Result<String, Fail> {
-    match kind {
-        "items" => items(alloc),
-        "characters" => classes(alloc, input),
-        "name" => name_parts(alloc, input),
-        "copied" => copied(alloc, input),
-        "file size" => file_size(alloc, input),
-        "line" => line_of(alloc, 200, input),
-        "narrow line" => line_of(alloc, 5, input),
-        "unescaped" => Ok(String::from_str(alloc, unescape(alloc, input)?.as_str())?),
-        _ => read(alloc, kind, input),
+/// The events as they are written, each with its line before it where that is wanted.
+fn lines_of(alloc: Global, events: &LocatedList, are_numbered: bool) -> Result<String, Fail> {
+    let mut sink = MemorySink::with_room(alloc, 200)?;
+    for found in events.as_slice() {
+        if are_numbered {
+            write_all(&mut sink, shown(alloc, &found.line)?.as_bytes())?;
+        }
+        write_event(&mut sink, &found.event)?;
+    }
+    text(alloc, sink.written())
+}
+
+/// The events before the first fault of a document.
+fn front_of(alloc: Global, text: &str) -> Result<LocatedList, Fail> {
+    let front = read_front(alloc, Mode::Document, text.as_bytes())?;
+    if front.fault.is_none() {
+        return Err("a document without a fault".into());
+    }
+    Ok(front.events)
+}
+
+/// The first fault of a text, which both calls tell alike.
+fn fault_of(alloc: Global, mode: Mode, bytes: &[u8]) -> Result<String, Fail> {
+    let Some(fault) = read_front(alloc, mode, bytes)?.fault else {
+        return Err("a text without a fault".into());
+    };
+    let fault = FeedError::Fault(fault);
+    if read_events(alloc, mode, bytes).err() != Some(fault) {
+        return Err("the calls tell different faults".into());
+    }
+    shown(alloc, &fault)
+}
+
+/// The bytes whose numbers are those of a text's characters, so that a row can hold bytes that are no text.
+fn numbered(alloc: Global, text: &str) -> Result<Vec<u8>, Fail> {
+    let mut bytes = Vec::new(alloc);
+    for c in text.chars() {
+        bytes.push(u8::try_from(u32::from(c))?)?;
+    }
+    Ok(bytes)
+}
+
+/// Writes what a call says.
+fn write_call(sink: &mut MemorySink, call: &str) -> Result<(), Failed> {
+    let (word, text) = first_word(call);
+    let (name, value) = first_word(text);
+    match word {
+        "start" => write_start(sink, text),
+        "attr" => write_attr(sink, name, value),
+        "chars" => write_chars(sink, text),
+        "pi" => write_pi(sink, name, value),
+        "comment" => write_comment(sink, text),
+        "end" => write_end(sink, text),
+        _ => write_escaped(sink, text),
     }
 }
 
-/// The answer to a row of a text that is read.
-fn read(alloc: Global, kind: &str, input: &str) -> Result<String, Fail> {
-    match kind {
-        "document" => events_of(alloc, Mode::Document, input),
-        "fragment" => events_of(alloc, Mode::Fragment, input),
-        "document fault" => fault_of(alloc, Mode::Document, input.as_bytes()),
-        "fragment fault" => fault_of(alloc, Mode::Fragment, input.as_bytes()),
-        "bytes fault" => fault_of(alloc, Mode::Document, numbered(alloc, input)?.as_slice()),
-        "front" => front_of(alloc, input),
-        "cut" => halves(alloc, input),
-        "each cut" => each_cut(alloc, input),
-        "each byte" => each_byte(alloc, input),
-        "written document" => written_again(alloc, Mode::Document, input),
-        "written fragment" => written_again(alloc, Mode::Fragment, input),
-        _ => Err("no such table".into()),
+/// What a call writes to a sink with so much room, and the fault that came after it.
+fn line_of(alloc: Global, room: usize, call: &str) -> Result<String, Fail> {
+    let mut sink = MemorySink::with_room(alloc, room)?;
+    let done = write_call(&mut sink, call);
+    let line = text(alloc, sink.written())?;
+    match done {
+        Ok(()) => Ok(line),
+        Err(error) => Ok(format!(in alloc; "{}; {error}", line.as_str())?),
     }
 }

@@ -15,7 +15,8 @@ use std::process::ExitCode;
 use std::str;
 use std::test::Fail;
 use svrl_out::location;
-use test_rows::{Answers, first_word, hold_rows, parted};
+use test_rows::{Answers, hold_rows, parted};
+use test_texts::{copy, repeated};
 
 fn main(rt: HostRuntime) -> Result<ExitCode, Fail> {
     hold_rows(&rt, '|', &mut Tables { alloc: rt.alloc() })
@@ -32,7 +33,14 @@ impl Answers for Tables {
         match kind {
             "document" => told(self.alloc, input, false),
             "schema" => told(self.alloc, schema_of(self.alloc, input)?.as_str(), false),
-            _ => told(self.alloc, repeated(self.alloc, input)?.as_str(), true),
+            _ => {
+                let lines = repeated(self.alloc, input)?;
+                told(
+                    self.alloc,
+                    schema_of(self.alloc, lines.as_str())?.as_str(),
+                    true,
+                )
+            }
         }
     }
 }
@@ -40,20 +48,6 @@ impl Answers for Tables {
 /// The text of a schema that holds these lines.
 fn schema_of(alloc: Global, lines: &str) -> Result<String, Fail> {
     Ok(format!(in alloc; "(schema\nAxmlns http://purl.oclc.org/dsdl/schematron\n{lines})schema\n")?)
-}
-
-/// The text of a schema with a part that is repeated: what stands before it, `*`, how often, the part, `*`, and what
-/// stands after it.
-fn repeated(alloc: Global, input: &str) -> Result<String, Fail> {
-    let (before, rest) = parted(input, "*")?;
-    let (middle, after) = parted(rest, "*")?;
-    let (count, part) = first_word(middle);
-    let mut lines = String::from_str(alloc, before)?;
-    for _ in 0..count.parse::<u32>()? {
-        lines.push_str(part)?;
-    }
-    lines.push_str(after)?;
-    schema_of(alloc, lines.as_str())
 }
 
 /// What a document's schema is without abstract parts, or how large that is, or the first rule that it breaks.
@@ -98,7 +92,7 @@ fn held(alloc: Global, flat: &FlatSchema) -> Result<String, Fail> {
     }
     let (_, lines) = parted(str::from_utf8(sink.written())?, "AqueryBinding xslt\n")?;
     let (held, _) = parted(lines, ")sch:schema\n")?;
-    Ok(String::from_str(alloc, held)?)
+    copy(alloc, held)
 }
 
 /// The bytes and the nodes of a schema's document, the root left out.

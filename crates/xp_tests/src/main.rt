@@ -6,6 +6,7 @@ use std::alloc::Global;
 use std::process::ExitCode;
 use std::test::Fail;
 use test_rows::{Answers, hold_rows};
+use test_texts::{copy, parts};
 use xp_syntax::{MAX_EXPRESSION_BYTES, ParseError, parse_expr, parse_pattern, print_expr};
 
 fn main(rt: HostRuntime) -> Result<ExitCode, Fail> {
@@ -30,12 +31,12 @@ impl Answers for Texts {
         match kind {
             "expression" => first_fault(alloc, parse_expr(alloc, input).err(), kind),
             "pattern" => first_fault(alloc, parse_pattern(alloc, input).err(), kind),
-            "tree" => Ok(format!(in alloc; "{:?}", parse_expr(alloc, input)?)?),
-            "pattern tree" => Ok(format!(in alloc; "{:?}", parse_pattern(alloc, input)?)?),
-            "printed" => {
-                let expr = parse_expr(alloc, input)?;
-                Ok(String::from_str(alloc, print_expr(alloc, &expr)?.as_str())?)
-            }
+            "tree" => parts(alloc, &parse_expr(alloc, input)?),
+            "pattern tree" => parts(alloc, &parse_pattern(alloc, input)?),
+            "printed" => copy(
+                alloc,
+                print_expr(alloc, &parse_expr(alloc, input)?)?.as_str(),
+            ),
             _ => Err("no such kind of rows".into()),
         }
     }
@@ -48,6 +49,6 @@ fn first_fault(alloc: Global, error: Option<ParseError>, good: &str) -> Result<S
             Ok(format!(in alloc; "{:?} {}", fault.kind, fault.offset)?)
         }
         Some(ParseError::Memory) => Err("out of memory".into()),
-        None => Ok(String::from_str(alloc, good)?),
+        None => copy(alloc, good),
     }
 }

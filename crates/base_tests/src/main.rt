@@ -1,0 +1,99 @@
+//! Outside examples of lists, texts, characters, the forms of names, and numbered words and names. The rows that do not
+//! hold are written.
+#![tactic(auto)]
+
+use doc_names::{NameTable, WordTable};
+use sch_base::{
+    ItemList, Text, is_name_char, is_name_start, is_ncname, is_whitespace, is_xml_char, split_qname,
+};
+use std::alloc::Global;
+use std::process::ExitCode;
+use std::test::Fail;
+use test_rows::{Answers, hold_rows, parted};
+use test_texts::{copy, parts, shown};
+
+fn main(rt: HostRuntime) -> Result<ExitCode, Fail> {
+    let alloc = rt.alloc();
+    let mut tables = Tables {
+        alloc,
+        words: WordTable::new(alloc),
+        names: NameTable::new(alloc),
+    };
+    hold_rows(&rt, '|', &mut tables)
+}
+
+/// What answers the rows: words and names keep their numbers for the rows after them.
+#[derive(Drop)]
+struct Tables {
+    alloc: Global,
+    words: WordTable,
+    names: NameTable,
+}
+
+impl Answers for Tables {
+    fn answer(&mut self, kind: &str, input: &str) -> Result<String, Fail> {
+        let alloc = self.alloc;
+        match kind {
+            "items" => items(alloc),
+            "characters" => classes(alloc, input),
+            "name parts" => name_parts(alloc, input),
+            "copied" => copy(alloc, Text::copy(alloc, input)?.as_str()),
+            "word" => shown(alloc, &self.words.number(alloc, input)?),
+            "found" => parts(alloc, &self.words.find(input)),
+            "second word" => copy(alloc, self.words.word(1)),
+            _ => {
+                let (prefix, local) = parted(input, ":")?;
+                shown(
+                    alloc,
+                    &self.names.number(alloc, prefix, local, "u")?.index(),
+                )
+            }
+        }
+    }
+}
+/// Whether a character, which a word numbers in hexadecimal, is of Char, of S, of NameChar and of NameStartChar.
+fn classes_of(word: &str) -> Result<[bool; 4], Fail> {
+    match char::from_u32(u32::from_str_radix(word, 16)?) {
+        Some(c) => Ok([
+            is_xml_char(c),
+            is_whitespace(c),
+            is_name_char(c),
+            is_name_start(c),
+        ]),
+        None => Err("no character has that number".into()),
+    }
+}
+
+/// The classes of each of the characters that the words number, where they are the same.
+fn classes(alloc: Global, words: &str) -> Result<String, Fail> {
+    let mut common = [false; 4];
+    for (place, word) in words.split(' ').enumerate() {
+        let found = classes_of(word)?;
+        if place > 0 && found != common {
+            return Err("the characters are of different classes".into());
+        }
+        common = found;
+    }
+    parts(alloc, &common)
+}
+
+/// The length of a name's prefix and the place of its local part; a name without a prefix is an NCName.
+fn name_parts(alloc: Global, name: &str) -> Result<String, Fail> {
+    let found = split_qname(name);
+    if is_ncname(name) != (found == Some((0, 0))) {
+        return Err("a name is an NCName and no QName, or the reverse".into());
+    }
+    parts(alloc, &found)
+}
+
+/// A list of two items, what it holds, and what stands at a place in it and past its end.
+fn items(alloc: Global) -> Result<String, Fail> {
+    let mut list: ItemList<u8> = ItemList::new(alloc);
+    let empty = list.is_empty();
+    list.push(7)?;
+    list.push(9)?;
+    parts(
+        alloc,
+        &(empty, list.len(), list.as_slice(), list.get(1), list.get(2)),
+    )
+}

@@ -1,0 +1,105 @@
+//! The texts of rows: what stands for a text or a number, and how an answer is told.
+#![tactic(auto)]
+
+use std::alloc::Global;
+use std::fmt::{Debug, Display};
+use std::str;
+use std::test::Fail;
+
+/// The first word of a text, and what follows the space after it.
+pub fn first_word(text: &str) -> (&str, &str) {
+    match text.split_once(' ') {
+        Some(parts) => parts,
+        None => (text, ""),
+    }
+}
+
+/// The number that a word writes.
+pub fn number(word: &str) -> Result<usize, Fail> {
+    Ok(word.parse()?)
+}
+
+/// The text of a side of a row, in which a character stands for a line end.
+pub fn text_of(alloc: Global, side: &str, line_end: char) -> Result<String, Fail> {
+    let mut text = String::new(alloc);
+    for c in side.chars() {
+        text.push(if c == line_end { '\n' } else { meant(c) })?;
+    }
+    Ok(text)
+}
+
+/// The control character that a picture stands for; each other character stands for itself.
+fn meant(c: char) -> char {
+    match c {
+        '\u{2400}'..='\u{241f}' => char::from_u32(u32::from(c) - 0x2400).unwrap_or(c),
+        _ => c,
+    }
+}
+
+/// A text in which each second part between stars is a count and what is repeated: `a*3 b*c` is `abbbc`.
+pub fn repeated(alloc: Global, text: &str) -> Result<String, Fail> {
+    let mut whole = String::new(alloc);
+    for (place, part) in text.split('*').enumerate() {
+        if place % 2 == 0 {
+            whole.push_str(part)?;
+        } else {
+            let (count, part) = first_word(part);
+            whole.push_str(part.repeat(alloc, number(count)?)?.as_str())?;
+        }
+    }
+    Ok(whole)
+}
+
+/// A text once more.
+pub fn copy(alloc: Global, text: &str) -> Result<String, Fail> {
+    Ok(String::from_str(alloc, text)?)
+}
+
+/// The text of bytes.
+pub fn text(alloc: Global, bytes: &[u8]) -> Result<String, Fail> {
+    copy(alloc, str::from_utf8(bytes)?)
+}
+
+/// A value as it shows itself.
+pub fn shown<T: Display>(alloc: Global, value: &T) -> Result<String, Fail> {
+    Ok(format!(in alloc; "{value}")?)
+}
+
+/// A value with all its parts.
+pub fn parts<T: Debug>(alloc: Global, value: &T) -> Result<String, Fail> {
+    Ok(format!(in alloc; "{value:?}")?)
+}
+
+/// What a call without a value answers: `done`, or why it failed.
+pub fn told<E: Display + Drop>(alloc: Global, answer: Result<(), E>) -> Result<String, Fail> {
+    match answer {
+        Ok(()) => copy(alloc, "done"),
+        Err(error) => shown(alloc, &error),
+    }
+}
+
+/// The place of a word among words that stand apart by spaces.
+pub fn place_of(word: &str, words: &str) -> Result<usize, Fail> {
+    for (place, found) in words.split(' ').enumerate() {
+        if found == word {
+            return Ok(place);
+        }
+    }
+    Err("there is no such word".into())
+}
+
+/// A text in which the words, where there are any, stand for things.
+pub fn with_words<T: Debug>(
+    alloc: Global,
+    text: String,
+    things: &[T],
+    words: &str,
+) -> Result<String, Fail> {
+    let mut text = text;
+    if !words.is_empty() {
+        for (thing, word) in things.iter().zip(words.split(' ')) {
+            text = text.replace(alloc, parts(alloc, thing)?.as_str(), word)?;
+        }
+    }
+    Ok(text)
+}
