@@ -55,26 +55,26 @@ impl Answers for Files {
 impl Files {
     /// How words end, where the shelf's call of that number fails and the output has room for that many bytes.
     fn ended(&self, words: &str, failing: u64, room: usize) -> Result<String, Fail> {
-        let mut shelf = MemoryShelf::new(self.alloc);
+        let alloc = self.alloc;
+        let mut shelf = MemoryShelf::new(alloc);
         shelf.put("s.pyx", self.schema.as_bytes())?;
         shelf.put("d.pyx", self.document.as_slice())?;
         shelf.fail_at(failing)?;
-        let mut list = Words::new(self.alloc);
+        let mut list = Words::new(alloc);
         for word in words.split(' ') {
             list.push(word)?;
         }
-        let mut out = MemorySink::with_room(self.alloc, room)?;
-        let mut err = MemorySink::with_room(self.alloc, ROOM)?;
-        let blank = Blank::new(1);
-        let ends = run_counted::<Brand>(self.alloc, &list, &mut shelf, &mut out, &mut err, blank);
+        let mut out = MemorySink::with_room(alloc, room)?;
+        let mut err = MemorySink::with_room(alloc, ROOM)?;
+        let ends = counted::<Brand>(alloc, &list, &mut shelf, &mut out, &mut err, Blank::new(1));
         let line = str::from_utf8(err.written())?;
         let text = str::from_utf8(out.written())?;
-        Ok(format!(in self.alloc; "{} {line}{text}", ends.code())?)
+        Ok(format!(in alloc; "{} {line}{text}", ends.code())?)
     }
 }
 
 /// Runs words, with a count of steps over the ledger of the blank.
-fn run_counted<L: Ledger>(
+fn counted<L: Ledger>(
     alloc: Global,
     words: &Words,
     shelf: &mut MemoryShelf,
