@@ -1,5 +1,1 @@
-pub mod ApartLemmas
-pub mod LocationLemmas
-pub mod PlaceLemmas
 pub mod ReportLemmas
-pub mod StepLemmas

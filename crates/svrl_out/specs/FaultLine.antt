@@ -8,7 +8,7 @@ use Rattle.xp_values.specs.FaultNames.{fault_name}
 use Rattle.sch_compiled.specs.declared.plan.Plan.{Plan}
 use Rattle.sch_compiled.specs.declared.state_fault.StateFault.{StateFault}
 use Rattle.sch_compiled.specs.declared.state_fault.StateFault.TheVariants.{InLet, AtNode}
-use Rattle.svrl_out.specs.Locations.{location_of}
+use Rattle.doc_locations.specs.Locations.{location_of}
 
 -- the number of an active pattern, counted from 1
 abbrev pub pattern_number : ℕ → List ℕ

@@ -1,6 +1,6 @@
 pub mod Elements
 pub mod FaultLine
-pub mod LocationLaws
-pub mod Locations
+pub use Rattle.doc_locations.specs.LocationLaws
+pub use Rattle.doc_locations.specs.Locations
 pub mod Report
 pub mod inner

@@ -3,13 +3,9 @@
 
 mod elements;
 mod fault_line;
-mod laws;
-mod locations;
 mod parts;
-mod places;
 mod report;
 
+pub use doc_locations::{location, locations_are_told_apart};
 pub use fault_line::write_fault;
-pub use laws::locations_are_told_apart;
-pub use locations::location;
 pub use report::{OutError, write_report};

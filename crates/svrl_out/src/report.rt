@@ -6,15 +6,14 @@ ghost use Rattle.sch_compiled.specs.Findings.{outcome_at};
 ghost use Rattle.svrl_out.specs.declared.report.OutError.TheVariants as errors;
 ghost use Rattle.doc_tree.specs.Table.{is_live};
 ghost use Rattle.doc_tree.specs.Walks.{order};
-ghost use Rattle.svrl_out.specs.Locations.{location_of};
+ghost use Rattle.doc_locations.specs.Locations.{location_of};
 ghost use Rattle.svrl_out.specs.Report.{IsFindingOf, IsOutcomeOf, IsReportable, Reported, ns_lines, pattern_lines, report, rule_lines};
 ghost use Rattle.svrl_out.specs.inner.Printer.{HasOutcomes, IsReady, held_lines, held_and_end, node_text, printed};
 
-use crate::locations::location_by;
 use crate::parts::{
     write_active_pattern, write_findings, write_fired_rule, write_namespaces, write_output_opening,
 };
-use crate::places::places_of;
+use doc_locations::Locator;
 use doc_tree::{NodeId, Tree};
 use pyx_write::write_end;
 use sch_compiled::{FindingList, Findings, Outcome, Plan, PlanPattern, PlanRule, PlanRuleList};
@@ -64,7 +63,7 @@ pub fn write_report<O: Sink>(
     ensures { Reported (O.log sink.old) (O.log sink.new) (report plan.now tree.now.nodes (outcome_at found.now)) result }
 {
     let nodes = tree.nodes_in_order(alloc)?;
-    let places = places_of(alloc, tree, nodes.as_slice())?;
+    let locator = Locator::new(alloc, tree, nodes.as_slice())?;
     tree.laws();
     let printer = Printer {
         alloc,
@@ -72,7 +71,7 @@ pub fn write_report<O: Sink>(
         tree,
         found,
         nodes: nodes.as_slice(),
-        places: places.as_slice(),
+        locator: &locator,
     };
     printer.write_all(sink)
 }
@@ -86,8 +85,8 @@ struct Printer<'a> {
     found: &'a Findings,
     /// The nodes in document order.
     nodes: &'a [NodeId],
-    /// The place of each kid among its siblings of its kind, by node number.
-    places: &'a [usize],
+    /// What finds the nodes of the tree.
+    locator: &'a Locator<'a>,
 }
 
 impl Printer<'_> {
@@ -208,7 +207,7 @@ impl Printer<'_> {
         if findings.is_empty() {
             return Ok(());
         }
-        let location = location_by(self.alloc, self.tree, self.places, n)?;
+        let location = self.locator.location(self.alloc, n)?;
         write_findings(sink, &location, &rule.assertions, findings)?;
         Ok(())
     }

@@ -8,14 +8,13 @@ use Rattle.doc_tree.specs.Walks.{order}
 use Rattle.sch_compiled.specs.Findings.{outcome_at}
 use Rattle.sch_compiled.specs.declared.parts.PlanRule.{PlanRule}
 use Rattle.svrl_out.specs.declared.report.Printer.{Printer}
-use Rattle.svrl_out.specs.inner.Places.{HoldsPlaces}
 use Rattle.svrl_out.specs.Report.{IsOutcomeOf, IsReportable, node_lines, ns_lines, pattern_lines, report}
 
--- the nodes and the places of all kids are at hand, and what was found can be told
+-- the nodes and their locator are at hand, and what was found can be told
 pub record IsReady (p : Printer) : Type 0 where
   pub nodes : p.nodes.now ≡ order p.tree.now.nodes
   pub live : (n : ℕ) → mem n p.nodes.now ≡ true → is_live p.tree.now.nodes n ≡ true
-  pub places : HoldsPlaces p.tree.now.nodes p.places.now
+  pub locator : p.locator.now ≡ p.tree.now.nodes
   pub found : IsReportable p.plan.now p.tree.now.nodes p.found.now
 
 -- each live node has an outcome under a pattern, and it names what is in these rules

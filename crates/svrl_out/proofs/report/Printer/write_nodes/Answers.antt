@@ -3,7 +3,7 @@ use Rattle.std.proofs.Common.{Err, ap, ◌∙◌}
 use Rattle.std.proofs.Math.Seq.{take_all}
 use Rattle.std.proofs.lemmas.Result.{err_from_is_err_and}
 use Rattle.svrl_out.specs.inner.Printer.{node_text}
-use Rattle.svrl_out.proofs.PlaceLemmas.{mem-at}
+use Rattle.doc_locations.proofs.PlaceLemmas.{mem-at}
 use Rattle.svrl_out.proofs.ReportLemmas.{reported_cut}
 use Rattle.svrl_out.proofs.report.Printer.write_nodes.Goals as goal
 

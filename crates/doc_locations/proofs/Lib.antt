@@ -1,0 +1,4 @@
+pub mod ApartLemmas
+pub mod LocationLemmas
+pub mod PlaceLemmas
+pub mod StepLemmas

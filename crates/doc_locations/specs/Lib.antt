@@ -1,0 +1,3 @@
+pub mod LocationLaws
+pub mod Locations
+pub mod inner
