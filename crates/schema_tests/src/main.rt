@@ -2,6 +2,7 @@
 //! do not hold are written.
 #![tactic(auto)]
 
+use doc_locations::location;
 use doc_tree::{MAX_LIVE_TEXT_BYTES, Tree};
 use name_scopes::load_tree;
 use pyx_write::write_event;
@@ -14,7 +15,6 @@ use std::alloc::Global;
 use std::process::ExitCode;
 use std::str;
 use std::test::Fail;
-use svrl_out::location;
 use test_rows::{Answers, hold_rows, parted};
 use test_texts::{copy, repeated};
 

@@ -5,8 +5,8 @@ ghost use Rattle.xp_values.specs.FaultNames.{fault_name};
 ghost use Rattle.svrl_out.specs.FaultLine.{IsFaultOf, fault_line, fault_text, let_fault, node_fault};
 ghost use Rattle.svrl_out.specs.Report.{Reported};
 
-use crate::locations::location;
 use crate::report::OutError;
+use doc_locations::location;
 use doc_tree::{NodeId, Tree};
 use pyx_write::write_pi;
 use sch_base::Text;
