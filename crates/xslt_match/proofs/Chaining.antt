@@ -1,6 +1,7 @@
 -- Chains step by step, and those of a path whose last node test refuses the node.
 use Rattle.std.proofs.Common.{◌≡◌, ℕ, ◌+◌, ◌<◌, ◌≤◌, Bool, true, false, ◌||◌, List, [], ◌∷◌, ◌++◌, length, drop, get_or, filter, map, refl, sym, ◌∙◌, ap, ap₂, subst, true≢false, Result}
-use Rattle.std.specs.Prelude.{◌==◌, not}
+use Rattle.std.specs.Prelude.{◌==◌, not, slice_get, option_map, Some}
+use Rattle.std.proofs.lemmas.Option.{slice_get-map, slice_get_read}
 use Rattle.std.specs.List.{list_any}
 use Rattle.doc_tree.specs.Lists.{mem}
 use Rattle.doc_tree.specs.Table.{Table}
@@ -21,7 +22,7 @@ use Rattle.xp_values.specs.declared.values.EvalFault.{EvalFault}
 use Rattle.xp_meaning.proofs.Exits.{ran_ticked}
 use Rattle.xp_meaning.specs.Evaluation.{Lets}
 use Rattle.xslt_match.specs.inner.Ends.{ends_elsewhere}
-use Rattle.xslt_match.specs.Matching.{leads, reaches, led_to, standing, survivors, chains, path_matches, some_path, matching}
+use Rattle.xslt_match.specs.Matching.{leads, reaches, led_to, standing, starts, survivors, chains, path_matches, some_path, matching}
 use Rattle.xslt_match.proofs.Filters.{eqb-turned, or-false, or-left}
 use Rattle.xslt_match.proofs.StepsAlong.{not_led, none_last}
 
@@ -78,6 +79,14 @@ module _ (T : Table) (n : ℕ) where
         (ap (λ l. standing T (pattern_step_seen step) (map pattern_step_seen rest) l n) (sym same) ∙ sym stand ∙ none)
         ∙ chains_nowhere (map pattern_step_seen rest)
 
+-- the first step of a path, by the lists that the program has
+pub chains-begin : (T : Table) (L : Lets) (n : ℕ) (p : TypedPath) (later : List TypedPatternStep) (first nodes alive : List ℕ) →
+    later ≡ p.steps.items → first ≡ starts T p.from_root n → nodes ≡ first → alive ≡ first →
+    path_matches T L n (path_seen p) ≡ chains T L n (map pattern_step_seen later) nodes alive
+chains-begin T L n p later first nodes alive steps begins is same =
+    ap (λ ss. chains T L n (map pattern_step_seen ss) (starts T p.from_root n) (starts T p.from_root n)) (sym steps)
+    ∙ ap₂ (chains T L n (map pattern_step_seen later)) (sym (is ∙ begins)) (sym (same ∙ begins))
+
 -- the next step of a path, by the nodes that the program has
 pub chains-next : (T : Table) (L : Lets) (n : ℕ) (later : List TypedPatternStep) (step : TypedPatternStep) (rest : List TypedPatternStep) (ms given nodes tested alive : List ℕ) →
     later ≡ step ∷ rest → given ≡ ms → nodes ≡ standing T (pattern_step_seen step) (map pattern_step_seen rest) given n → tested ≡ nodes →
@@ -131,6 +140,12 @@ module _ (T : Table) (L : Lets) (n : ℕ) where
 pub paths_typed : (seen paths : List TypedPathTree) → seen ≡ paths → PathsTyped paths → PathsTyped seen
 paths_typed seen paths is typed = subst PathsTyped (sym is) typed
 
-pub paths_matched : (T : Table) (L : Lets) (n : ℕ) (seen paths : List TypedPathTree) {r : Result Bool (Stop EvalFault)} {held now : Recorded} {before ticked after : ℕ} →
-    seen ≡ paths → ticked ≡ before + 1 → Ran (some_path T L n seen) r held now ticked after → Ran (matching T L paths n) r held now before after
-paths_matched T L n seen paths is tick ran = ran_ticked tick (ran_alike (ap (some_path T L n) (sym is)) ran)
+pub paths_matched : (T : Table) (L : Lets) (n : ℕ) (paths : List TypedPathTree) {r : Result Bool (Stop EvalFault)} {held now : Recorded} {before ticked after : ℕ} →
+    ticked ≡ before + 1 → Ran (some_path T L n paths) r held now ticked after → Ran (matching T L paths n) r held now before after
+paths_matched T L n paths tick ran = ran_ticked tick ran
+
+-- the path pattern of a pattern at a place
+pub path_there : (ps : List TypedPathTree) (paths : List TypedPath) (i : ℕ) (path : TypedPath) → paths_seen paths ≡ ps → i < length paths → path ≡ get_or paths i path →
+    slice_get ps i ≡ Some (path_seen path)
+path_there ps paths i path seen below is =
+    ap (λ qs. slice_get qs i) (sym seen) ∙ slice_get-map path_seen paths i ∙ ap (option_map path_seen) (slice_get_read paths (length paths) i path refl below is)

@@ -1,3 +1,4 @@
 pub mod Positional
 pub mod Matching
+pub mod Kept
 pub mod inner

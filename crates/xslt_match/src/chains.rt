@@ -1,17 +1,19 @@
 //! The chains of a path pattern's steps to a node, and the tests of the nodes in them (XSLT 1.0, section 5.2).
 
-ghost use Rattle.std.specs.Prelude.{◌≡◌, true, false, map};
+ghost use Rattle.std.specs.Prelude.{◌≡◌, true, false, map, Some, slice_get};
 ghost use Rattle.doc_tree.specs.Table.{is_live};
 ghost use Rattle.xp_outcome.specs.Running.{Ran};
 ghost use Rattle.xp_meaning.specs.Results.{shown};
 ghost use Rattle.xp_typed_tree.specs.TypedView.{path_seen, pattern_step_seen};
 ghost use Rattle.xp_typed_tree.specs.WellTyped.{PatternStepsTyped};
 ghost use Rattle.xslt_match.specs.inner.Ends.{ends_elsewhere};
-ghost use Rattle.xslt_match.specs.Matching.{chains, path_matches, starts};
+ghost use Rattle.xslt_match.specs.Kept.{IsKeptFor};
+ghost use Rattle.xslt_match.specs.Matching.{path_matches, starts};
 
+use crate::kept::KeptSteps;
 use crate::leading::{led_to, starts, way_to};
 use crate::matching::Matcher;
-use crate::testing::is_among;
+use crate::testing::{PlacedStep, is_among};
 use doc_axes::passes;
 use doc_tree::{NodeId, Tree};
 use sch_base::ItemList;
@@ -21,57 +23,79 @@ use xp_outcome::{Recorder, Steps};
 use xp_typed_tree::{TypedPath, TypedPatternStep};
 use xp_values::EvalError;
 
+/// A path of the pattern, with its number there.
+#[derive(Clone, Copy)]
+pub(crate) struct PlacedPath<'r> {
+    pub(crate) path: &'r TypedPath,
+    pub(crate) number: usize,
+}
+
 impl Matcher<'_> {
     /// Whether a live node matches a path pattern. Most paths end at another kind of node or another name: these are
     /// refused at once.
     pub(crate) fn path_matches<L: Ledger>(
         &self,
-        path: &TypedPath,
+        at: &PlacedPath<'_>,
+        kept: &mut KeptSteps,
         reads: &mut Recorder,
         steps: &mut Steps<L>,
     ) -> Result<bool, EvalError>
         requires lives { is_live self.now.evaluator.caller.tree.now.nodes self.now.node ≡ true }
-        requires typed { PatternStepsTyped (path_seen path.now).steps }
-        ensures { Ran (path_matches self.now.evaluator.caller.tree.now.nodes self.now.evaluator.lets.now self.now.node (path_seen path.now))
+        requires placed { slice_get self.now.pattern.now at.now.number ≡ Some (path_seen at.now.path.now) }
+        requires typed { PatternStepsTyped (path_seen at.now.path.now).steps }
+        requires kept { IsKeptFor self.now.evaluator.caller.tree.now.nodes self.now.evaluator.lets.now self.now.pattern.now kept.old }
+        ensures ran { Ran (path_matches self.now.evaluator.caller.tree.now.nodes self.now.evaluator.lets.now self.now.node (path_seen at.now.path.now))
             (shown result) reads.old reads.new steps.old steps.new }
+        ensures kept { IsKeptFor self.now.evaluator.caller.tree.now.nodes self.now.evaluator.lets.now self.now.pattern.now kept.new }
     {
         let Caller { alloc, tree } = self.evaluator.caller;
+        let path = at.path;
         if ends_elsewhere(tree, &path.steps, self.node) {
             return Ok(false);
         }
         let way = way_to(alloc, tree, self.node)?;
-        let first = starts(tree, path.from_root, way.as_slice(), self.node);
-        self.chains(&path.steps, first, way.as_slice(), reads, steps)
+        self.chains(at, way.as_slice(), kept, reads, steps)
     }
 
-    /// Whether all nodes of some chain to a live node survive their tests, step by step from the left. Where no node stands
-    /// at a step there is no chain, and no more node is tested.
+    /// Whether all nodes of some chain of a path to a live node survive their tests, step by step from the left. Where no
+    /// node stands at a step there is no chain, and no more node is tested.
     ///
     /// Beside the tests it costs, for each two steps, the square of the way's length at most.
     fn chains<L: Ledger>(
         &self,
-        path_steps: &[TypedPatternStep],
-        first: &[NodeId],
+        at: &PlacedPath<'_>,
         way: &[NodeId],
+        kept: &mut KeptSteps,
         reads: &mut Recorder,
         steps: &mut Steps<L>,
     ) -> Result<bool, EvalError>
         requires lives { is_live self.now.evaluator.caller.tree.now.nodes self.now.node ≡ true }
         requires way { way.now ≡ starts self.now.evaluator.caller.tree.now.nodes false self.now.node }
-        requires typed { PatternStepsTyped (map pattern_step_seen path_steps.now) }
-        ensures { Ran (chains self.now.evaluator.caller.tree.now.nodes self.now.evaluator.lets.now self.now.node (map pattern_step_seen path_steps.now) first.now first.now)
+        requires placed { slice_get self.now.pattern.now at.now.number ≡ Some (path_seen at.now.path.now) }
+        requires typed { PatternStepsTyped (path_seen at.now.path.now).steps }
+        requires kept { IsKeptFor self.now.evaluator.caller.tree.now.nodes self.now.evaluator.lets.now self.now.pattern.now kept.old }
+        ensures ran { Ran (path_matches self.now.evaluator.caller.tree.now.nodes self.now.evaluator.lets.now self.now.node (path_seen at.now.path.now))
             (shown result) reads.old reads.new steps.old steps.new }
+        ensures kept { IsKeptFor self.now.evaluator.caller.tree.now.nodes self.now.evaluator.lets.now self.now.pattern.now kept.new }
     {
         let Caller { alloc, tree } = self.evaluator.caller;
+        let path = at.path;
+        let first = starts(tree, path.from_root, way, self.node);
         let mut nodes = ItemList::copy_of(alloc, first)?;
         let mut alive = ItemList::copy_of(alloc, first)?;
-        let mut later = path_steps;
+        let all = path.steps.as_slice();
+        let mut later = all;
         while let Some((step, rest)) = later.split_first() {
             nodes = self.standing(step, rest, nodes.as_slice(), way)?;
             if nodes.is_empty() {
                 return Ok(false);
             }
-            let left = self.survivors(step, nodes.as_slice(), reads, steps)?;
+            let here = PlacedStep {
+                step,
+                path: at.number,
+                number: all.len() - later.len(),
+            };
+            let left = self.survivors(&here, nodes.as_slice(), kept, reads, steps)?;
             alive = led_to(alloc, tree, step, alive.as_slice(), left.as_slice())?;
             later = rest;
         }

@@ -2,11 +2,16 @@
 #![tactic(auto)]
 
 mod chains;
+mod joining;
+mod kept;
 mod leading;
 mod matching;
+mod nodes;
 mod positional;
 mod testing;
 
-pub use matching::matches;
+pub use kept::KeptSteps;
+pub use matching::{matches, matches_with};
+pub use xp_eval::{Caller, Evaluator};
 pub use xp_meaning::Lets;
 pub use xp_outcome::{Recorder, Steps};

@@ -4,17 +4,18 @@ ghost use Rattle.std.specs.Prelude.{◌≡◌, true};
 ghost use Rattle.doc_tree.specs.Table.{is_live};
 ghost use Rattle.xp_outcome.specs.Running.{Ran};
 ghost use Rattle.xp_meaning.specs.Results.{shown};
-ghost use Rattle.xp_typed_tree.specs.TypedView.{paths_seen};
-ghost use Rattle.xp_typed_tree.specs.WellTyped.{PathsTyped};
+ghost use Rattle.xslt_match.specs.Kept.{IsKeptFor};
 ghost use Rattle.xslt_match.specs.Matching.{matching, some_path};
 
+use crate::chains::PlacedPath;
+use crate::kept::KeptSteps;
 use doc_tree::{NodeId, Tree};
 use std::alloc::Global;
 use std::sync::ledger::Ledger;
 use xp_eval::{Caller, Evaluator};
 use xp_meaning::Lets;
 use xp_outcome::{Recorder, Steps};
-use xp_typed_tree::{TypedPath, TypedPattern};
+use xp_typed_tree::TypedPattern;
 use xp_values::EvalError;
 
 /// Whether a live node matches a pattern (XSLT 1.0, section 5.2), or the first fault of the tests.
@@ -26,7 +27,6 @@ use xp_values::EvalError;
 /// Beside what it held, the recorder holds what the tests read; see `Ran` for what stands where memory is wanting. A
 /// path whose last node test refuses the node costs one look and no memory; another costs, beside the tests, for each
 /// two of its steps at most the square of the depth.
-#[tactic(auto, using(crate::proofs::Chaining::paths_matched, crate::proofs::Chaining::paths_typed))]
 pub fn matches<L: Ledger>(
     alloc: Global,
     tree: &Tree,
@@ -40,36 +40,67 @@ pub fn matches<L: Ledger>(
     ensures { Ran (matching tree.now.nodes lets.now pattern.now n)
         (shown result) reads.old reads.new steps.old steps.new }
 {
-    steps.tick();
     let caller = Caller { alloc, tree };
+    let mut kept = KeptSteps::new(alloc);
     let evaluator = Evaluator { caller, lets };
-    Matcher { evaluator, node: n }.some_path(pattern.paths(), reads, steps)
+    matches_with(&evaluator, pattern, n, &mut kept, reads, steps)
 }
 
-/// What stays the same in the matching of a node: the evaluator of the predicates, and the node.
+/// `matches`, with what is kept of the pattern's steps for the same tree and the same lets.
+///
+/// A step with a positional predicate is evaluated once at each node, and what it gave there is kept for the other nodes
+/// below it; its visits and its reads count each time. So it costs for each of these nodes what the step reads, and a
+/// look-up.
+#[tactic(auto, using(crate::proofs::Chaining::paths_matched))]
+pub fn matches_with<L: Ledger>(
+    evaluator: &Evaluator<'_>,
+    pattern: &TypedPattern,
+    n: NodeId,
+    kept: &mut KeptSteps,
+    reads: &mut Recorder,
+    steps: &mut Steps<L>,
+) -> Result<bool, EvalError>
+    requires live { is_live evaluator.now.caller.tree.now.nodes n ≡ true }
+    requires kept { IsKeptFor evaluator.now.caller.tree.now.nodes evaluator.now.lets.now pattern.now kept.old }
+    ensures ran { Ran (matching evaluator.now.caller.tree.now.nodes evaluator.now.lets.now pattern.now n)
+        (shown result) reads.old reads.new steps.old steps.new }
+    ensures kept { IsKeptFor evaluator.now.caller.tree.now.nodes evaluator.now.lets.now pattern.now kept.new }
+{
+    steps.tick();
+    Matcher {
+        evaluator: *evaluator,
+        pattern,
+        node: n,
+    }
+    .some_path(kept, reads, steps)
+}
+
+/// What stays the same in the matching of a node: the evaluator of the predicates, the pattern, and the node.
 #[derive(Clone, Copy)]
 pub(crate) struct Matcher<'r> {
     pub(crate) evaluator: Evaluator<'r>,
+    pub(crate) pattern: &'r TypedPattern,
     /// The node that is matched, which is live.
     pub(crate) node: NodeId,
 }
 
 impl Matcher<'_> {
-    /// Whether a live node matches some of the path patterns; all are tested.
+    /// Whether a live node matches some path of the pattern; all are tested.
     fn some_path<L: Ledger>(
         &self,
-        paths: &[TypedPath],
+        kept: &mut KeptSteps,
         reads: &mut Recorder,
         steps: &mut Steps<L>,
     ) -> Result<bool, EvalError>
         requires lives { is_live self.now.evaluator.caller.tree.now.nodes self.now.node ≡ true }
-        requires typed { PathsTyped (paths_seen paths.now) }
-        ensures { Ran (some_path self.now.evaluator.caller.tree.now.nodes self.now.evaluator.lets.now self.now.node (paths_seen paths.now))
+        requires kept { IsKeptFor self.now.evaluator.caller.tree.now.nodes self.now.evaluator.lets.now self.now.pattern.now kept.old }
+        ensures ran { Ran (some_path self.now.evaluator.caller.tree.now.nodes self.now.evaluator.lets.now self.now.node self.now.pattern.now)
             (shown result) reads.old reads.new steps.old steps.new }
+        ensures kept { IsKeptFor self.now.evaluator.caller.tree.now.nodes self.now.evaluator.lets.now self.now.pattern.now kept.new }
     {
         let mut matched = false;
-        for path in paths {
-            let here = self.path_matches(path, reads, steps)?;
+        for (number, path) in self.pattern.paths().iter().enumerate() {
+            let here = self.path_matches(&PlacedPath { path, number }, kept, reads, steps)?;
             matched |= here;
         }
         Ok(matched)

@@ -1,31 +1,19 @@
-use Rattle.std.proofs.Common.{ap, ap₂, sym, ◌∙◌, map, subst}
+use Rattle.std.proofs.Common.{ap, sym, ◌∙◌, map}
 use Rattle.xp_outcome.proofs.Runs.{ran_alike, ran_done, ran_late}
 use Rattle.xp_meaning.proofs.Exits.{exit_memory}
 use Rattle.xp_typed_tree.specs.TypedView.{pattern_step_seen}
-use Rattle.xp_typed_tree.specs.WellTyped.{PatternStepsTyped}
 use Rattle.xslt_match.specs.inner.Ends.{ends_elsewhere}
-use Rattle.xslt_match.specs.Matching.{chains}
 use Rattle.xslt_match.proofs.Chaining.{chains_elsewhere}
 use Rattle.xslt_match.proofs.matching.Matcher.path_matches.Goals as goal
 
-pub returns-then-ends_elsewhere : goal.returns-then-ends_elsewhere
-returns-then-ends_elsewhere g c =
+pub returns-then-ends_elsewhere-clause-ran : goal.returns-then-ends_elsewhere-clause-ran
+returns-then-ends_elsewhere-clause-ran g c =
     ran_alike (chains_elsewhere c.args.self.now.evaluator.caller.tree.now.nodes c.args.self.now.node c.args.self.now.evaluator.lets.now _ _ _
     (sym (c.ends_elsewhere.ensures ∙ ap (λ ss. ends_elsewhere c.args.self.now.evaluator.caller.tree.now.nodes (map pattern_step_seen ss) c.args.self.now.node) c.deref.ensures.value) ∙ c.if-ends_elsewhere.true))
     (ran_done _ _ _)
 
-pub returns-in_err-way : goal.returns-in_err-way
-returns-in_err-way g c = exit_memory _ c.from_residual.ensures.1 (ran_late _ _ _)
-
-pub starts-first-requires-clause-way : goal.starts-first-requires-clause-way
-starts-first-requires-clause-way g c = c.as_slice.ensures ∙ c.in_ok-way.ensures
+pub returns-in_err-way-clause-ran : goal.returns-in_err-way-clause-ran
+returns-in_err-way-clause-ran g c = exit_memory _ c.from_residual.ensures.1 (ran_late _ _ _)
 
 pub chains-requires-clause-way : goal.chains-requires-clause-way
-chains-requires-clause-way g c = c.as_slice-2.ensures ∙ c.in_ok-way.ensures
-
-pub chains-requires-clause-typed : goal.chains-requires-clause-typed
-chains-requires-clause-typed g c = subst (λ ss. PatternStepsTyped (map pattern_step_seen ss)) (sym c.deref-2.ensures.value) c.requires.typed
-
-pub returns : goal.returns
-returns g c =
-    ran_alike (ap₂ (λ ss first. chains c.args.self.now.evaluator.caller.tree.now.nodes c.args.self.now.evaluator.lets.now c.args.self.now.node (map pattern_step_seen ss) first first) (sym c.deref-2.ensures.value) (sym c.starts-first.ensures)) c.chains.ensures
+chains-requires-clause-way g c = c.as_slice.ensures ∙ c.in_ok-way.ensures

@@ -8,12 +8,12 @@ use Rattle.xp_eval.proofs.Runs.{chosen_yes, chosen_no}
 use Rattle.xslt_match.specs.Positional.{some_positional}
 use Rattle.xslt_match.proofs.matching.Matcher.survives.Goals as goal
 
-pub returns-then-some_positional : goal.returns-then-some_positional
-returns-then-some_positional g c =
-    ran_alike (chosen_yes _ _ _ (sym (c.some_positional.ensures ∙ ap (λ es. some_positional (typed_seen es)) c.deref.ensures.value) ∙ c.if-some_positional.true)) c.is_left.ensures
+pub returns-then-some_positional-clause-ran : goal.returns-then-some_positional-clause-ran
+returns-then-some_positional-clause-ran g c =
+    ran_alike (chosen_yes _ _ _ (sym (c.some_positional.ensures ∙ ap (λ es. some_positional (typed_seen es)) c.deref.ensures.value) ∙ c.if-some_positional.true)) c.is_left.ensures.ran
 
-pub returns : goal.returns
-returns g c =
+pub returns-clause-ran : goal.returns-clause-ran
+returns-clause-ran g c =
     ran_alike (chosen_no _ _ _ (sym (c.some_positional.ensures ∙ ap (λ es. some_positional (typed_seen es)) c.deref.ensures.value) ∙ c.if-some_positional.false))
     (ran_ticked c.tick.ensures
     (ran_alike (ap (λ es. all_true (meanings c.args.self.now.evaluator.caller.tree.now.nodes c.args.self.now.evaluator.lets.now (typed_seen es)) (placed c.args.self.now.node 1 1 c.args.k)) (sym c.deref-2.ensures.value)) c.all_true.ensures))

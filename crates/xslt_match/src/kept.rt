@@ -1,0 +1,101 @@
+//! What steps with positional predicates selected at nodes, kept for the matching of other nodes.
+
+ghost use Rattle.std.specs.Prelude.{◌≡◌, ℕ, ◌+◌, ◌<◌, List, None, Some, OnOk, OnErr, IfSome};
+ghost use Rattle.std.specs.Option.{option_copied};
+ghost use Rattle.doc_tree.specs.Table.{Table};
+ghost use Rattle.xp_typed_tree.specs.TypedTree.{TypedPathTree};
+ghost use Rattle.xp_meaning.specs.Evaluation.{Lets};
+ghost use Rattle.xslt_match.specs.Kept.{IsKeptFor, IsOutcomeAt};
+
+use crate::nodes::NodeIndex;
+use indexmap::IndexMap;
+use std::alloc::{AllocError, Global};
+use xp_outcome::Recorder;
+use xp_values::EvalFault;
+
+/// How many outcomes are kept at most: when there are so many, all are let go, and kept anew.
+const MOST_KEPT: usize = 65536;
+
+/// A step of a pattern at a node: the number of its path pattern, its number there, and the node.
+#[derive(Clone, Copy, Debug, PartialEq, Eq, Hash)]
+pub(crate) struct StepKey {
+    pub(crate) path: usize,
+    pub(crate) step: usize,
+    pub(crate) parent: usize,
+}
+
+/// What a step selected at a node: the nodes, or the first fault, and what was read for it.
+#[derive(Drop)]
+pub(crate) struct Selected {
+    pub(crate) nodes: Result<NodeIndex, EvalFault>,
+    pub(crate) reads: Recorder,
+}
+
+/// What a step selected at a node, and how many visits it took.
+#[derive(Drop)]
+pub(crate) struct KeptStep {
+    pub(crate) selected: Selected,
+    pub(crate) visits: usize,
+}
+
+/// What is kept of the steps of one pattern with positional predicates: what each selected at which node.
+///
+/// It is kept for one tree and one table of lets, as `IsKeptFor` says.
+#[derive(Drop)]
+pub struct KeptSteps {
+    steps: IndexMap<StepKey, KeptStep>,
+}
+
+impl KeptSteps {
+    /// Nothing is kept.
+    pub fn new(alloc: Global) -> KeptSteps
+        ensures { (T : Table) (L : Lets) (pattern : List TypedPathTree) → IsKeptFor T L pattern result }
+    {
+        KeptSteps {
+            steps: IndexMap::new(alloc),
+        }
+    }
+
+    /// What is kept of a step at a node.
+    pub(crate) fn find(&self, key: StepKey) -> Option<&KeptStep>
+        ensures { (T : Table) (L : Lets) (pattern : List TypedPathTree) → IsKeptFor T L pattern self.now →
+            IfSome (option_copied result) (IsOutcomeAt T L pattern key) }
+    {
+        self.steps.get(&key)
+    }
+
+    /// Keeps what a step selected at a node, where its visits are known.
+    pub(crate) fn keep(
+        &mut self,
+        key: StepKey,
+        selected: Selected,
+        visits: Option<usize>,
+    ) -> Result<(), AllocError>
+        ensures { (T : Table) (L : Lets) (pattern : List TypedPathTree) → IsKeptFor T L pattern self.old →
+            IfSome visits (λ count. IsOutcomeAt T L pattern key (record { selected = selected; visits = count })) → IsKeptFor T L pattern self.new }
+    {
+        match visits {
+            Some(visits) => self.put(key, KeptStep { selected, visits }),
+            None => Ok(()),
+        }
+    }
+
+    /// Keeps what a step selected at a node, in place of all that is kept where this is too much.
+    fn put(&mut self, key: StepKey, kept: KeptStep) -> Result<(), AllocError>
+        ensures { (T : Table) (L : Lets) (pattern : List TypedPathTree) → IsKeptFor T L pattern self.old →
+            IsOutcomeAt T L pattern key kept → IsKeptFor T L pattern self.new }
+    {
+        self.make_room();
+        self.steps.insert(key, kept)?;
+        Ok(())
+    }
+
+    /// Lets all go where there is too much.
+    fn make_room(&mut self)
+        ensures { (T : Table) (L : Lets) (pattern : List TypedPathTree) → IsKeptFor T L pattern self.old → IsKeptFor T L pattern self.new }
+    {
+        if self.steps.len() >= MOST_KEPT {
+            self.steps.clear();
+        }
+    }
+}
