@@ -3,6 +3,7 @@
 
 mod elements;
 mod fault_line;
+mod page;
 mod parts;
 mod report;
 

@@ -1,6 +1,6 @@
 //! Writing the report.
 
-ghost use Rattle.std.specs.Prelude.{◌≡◌, ℕ, ◌<◌, ◌++◌, All, true, length};
+ghost use Rattle.std.specs.Prelude.{◌≡◌, ℕ, ◌<◌, ◌++◌, All, IfErr, OnOk, true, length};
 ghost use Rattle.std.specs.List.{flat_map, enumerate_from};
 ghost use Rattle.sch_compiled.specs.Findings.{outcome_at};
 ghost use Rattle.svrl_out.specs.declared.report.OutError.TheVariants as errors;
@@ -10,6 +10,7 @@ ghost use Rattle.doc_locations.specs.Locations.{location_of};
 ghost use Rattle.svrl_out.specs.Report.{IsFindingOf, IsOutcomeOf, IsReportable, Reported, ns_lines, pattern_lines, report, rule_lines};
 ghost use Rattle.svrl_out.specs.inner.Printer.{HasOutcomes, IsReady, held_lines, held_and_end, node_text, printed};
 
+use crate::page::Page;
 use crate::parts::{
     write_active_pattern, write_findings, write_fired_rule, write_namespaces, write_output_opening,
 };
@@ -51,7 +52,8 @@ impl From<Failed> for OutError {
 /// Writes the report: each active pattern, and what it found at each node in document order.
 ///
 /// After an error a front of the report was written. The time grows with the number of nodes for each pattern, and
-/// for a node with findings with its depth and theirs; no part of the report is kept but one location.
+/// for a node with findings with its depth and theirs. Of the report one location is kept, and one page of lines, so
+/// that the sink is asked once for many lines.
 pub fn write_report<O: Sink>(
     alloc: Global,
     plan: &Plan,
@@ -160,10 +162,34 @@ impl Printer<'_> {
         ensures { Reported (O.log sink.old) (O.log sink.new)
             (flat_map (node_text self.now p rules.now) (order self.now.tree.now.nodes)) result }
     {
+        let mut page = Page::new(self.alloc);
         for n in self.nodes {
-            self.write_node(p, rules, *n, sink)?;
+            self.put_node(p, rules, *n, &mut page)?;
+            page.turn_if_full(sink)?;
         }
+        page.turn(sink)?;
         Ok(())
+    }
+
+    /// Puts on the page what a pattern with these rules found at a node.
+    fn put_node(
+        &self,
+        p: u32,
+        rules: &PlanRuleList,
+        n: NodeId,
+        page: &mut Page,
+    ) -> Result<(), OutError>
+        requires ready { IsReady self.now }
+        requires counted { p < self.now.found.now.patterns }
+        requires live { is_live self.now.tree.now.nodes n ≡ true }
+        requires outcome { IsOutcomeOf rules.now (outcome_at self.now.found.now p n) }
+        ensures put { OnOk result (page.new.bytes.items ≡ page.old.bytes.items ++ node_text self.now p rules.now n) }
+        ensures refused { IfErr result (λ error. error ≡ errors.Memory) }
+    {
+        match self.write_node(p, rules, n, page) {
+            Ok(()) => Ok(()),
+            Err(_) => Err(OutError::Memory),
+        }
     }
 
     /// Writes what a pattern with these rules found at a node: the rule that fired, if one did, and its findings.
