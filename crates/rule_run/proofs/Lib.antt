@@ -3,3 +3,4 @@ pub mod Keeps
 pub mod Texts
 pub mod RuleLets
 pub mod Pairs
+pub mod MatchesKept

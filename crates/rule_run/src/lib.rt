@@ -4,6 +4,7 @@
 
 mod asserting;
 mod kept;
+mod kept_matches;
 mod letting;
 mod messages;
 mod pairing;
@@ -11,7 +12,9 @@ mod rules;
 mod validator;
 
 pub use kept::{Kept, KeptLet};
+pub use kept_matches::KeptMatches;
 pub use letting::run_let;
-pub use pairing::run_pair;
+pub use pairing::{PlanRun, run_pair, run_pair_with};
+pub use xp_eval::Caller;
 pub use xp_meaning::Lets;
 pub use xp_outcome::{Recorder, Steps};

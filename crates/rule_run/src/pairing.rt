@@ -7,8 +7,10 @@ ghost use Rattle.xp_outcome.specs.Running.{Ran};
 ghost use Rattle.sch_compiled.specs.Soundness.{IsCounted};
 ghost use Rattle.sch_units.specs.Units.{unit_pair};
 ghost use Rattle.rule_run.specs.Kept.{pair_reads, pair_shown};
+ghost use Rattle.rule_run.specs.KeptMatches.{AreKeptFor};
 
 use crate::kept::{Kept, keep_pair};
+use crate::kept_matches::KeptMatches;
 use crate::validator::Validator;
 use doc_tree::{NodeId, Tree};
 use sch_compiled::Plan;
@@ -28,7 +30,6 @@ use xp_outcome::{Recorder, Steps};
 ///
 /// A rule that doesn't match costs what `matches` does, and no memory beside; a message costs its length and that of its
 /// parts.
-#[tactic(auto, using(xp_outcome::proofs::SlotLemmas::kept_whole))]
 pub fn run_pair<L: Ledger>(
     alloc: Global,
     plan: &Plan,
@@ -47,18 +48,57 @@ pub fn run_pair<L: Ledger>(
     ensures counted { steps.old < steps.new }
     ensures slots { lets.new ≡ lets.old }
 {
+    let run = PlanRun {
+        caller: Caller { alloc, tree },
+        plan,
+    };
+    let mut kept = KeptMatches::new(alloc);
+    run_pair_with(&run, p, n, &mut kept, lets, steps)
+}
+
+/// What stays the same while nodes are evaluated by a plan: the tree with the allocator, and the plan.
+#[derive(Clone, Copy)]
+pub struct PlanRun<'r> {
+    pub caller: Caller<'r>,
+    pub plan: &'r Plan,
+}
+
+/// `run_pair`, with what is kept of the pattern's rules for the same tree and the same lets in force.
+///
+/// A rule whose context has steps with positional predicates costs what `matches_with` does.
+#[tactic(auto, using(xp_outcome::proofs::SlotLemmas::kept_whole))]
+pub fn run_pair_with<L: Ledger>(
+    run: &PlanRun<'_>,
+    p: u32,
+    n: NodeId,
+    kept: &mut KeptMatches,
+    lets: &mut Lets,
+    steps: &mut Steps<L>,
+) -> Result<Kept, AllocError>
+    requires counted { IsCounted run.now.plan.now }
+    requires active { p < length run.now.plan.now.patterns }
+    requires live { is_live run.now.caller.tree.now.nodes n ≡ true }
+    requires room { length lets.old ≤ length run.now.plan.now.lets }
+    requires kept { AreKeptFor run.now.plan.now run.now.caller.tree.now.nodes p lets.old kept.old }
+    ensures ran { Ran (unit_pair run.now.plan.now run.now.caller.tree.now.nodes lets.old p n)
+        (pair_shown result) nothing_read (pair_reads result) steps.old steps.new }
+    ensures counted { steps.old < steps.new }
+    ensures slots { lets.new ≡ lets.old }
+    ensures kept { AreKeptFor run.now.plan.now run.now.caller.tree.now.nodes p lets.old kept.new }
+{
     first_match_fires();
     lets.laws();
-    let mut reads = Recorder::new(alloc);
+    let plan = run.plan;
+    let mut reads = Recorder::new(run.caller.alloc);
     steps.tick();
     let count = plan.let_count();
     let validator = Validator {
-        caller: Caller { alloc, tree },
+        caller: run.caller,
         node: n,
         count,
     };
     let pattern = &plan.patterns.as_slice()[p as usize];
-    let outcome = validator.first_rule(pattern.rules.as_slice(), lets, &mut reads, steps);
+    let outcome = validator.first_rule(pattern.rules.as_slice(), kept, lets, &mut reads, steps);
     lets.cut(count);
     reads.cut_lets(count);
     keep_pair(outcome, reads)

@@ -1,30 +1,34 @@
 //! The rules of a pattern at a node (ISO/IEC 19757-3, clause 6).
 
-ghost use Rattle.std.specs.Prelude.{◌≡◌, ◌<◌, ◌≤◌, ◌+◌, ◌^◌, true, length};
+ghost use Rattle.std.specs.Prelude.{◌≡◌, ◌<◌, ◌≤◌, ◌+◌, ◌^◌, true, length, IfSome, slice_get};
 ghost use Rattle.doc_tree.specs.Table.{is_live};
 ghost use Rattle.xp_outcome.specs.Evaluation.{bind, done};
 ghost use Rattle.xp_outcome.specs.Running.{Ran};
 ghost use Rattle.xp_outcome.specs.Slots.{slots_below};
 ghost use Rattle.xp_meaning.specs.Results.{shown};
 ghost use Rattle.sch_compiled.specs.declared.findings.Outcome.TheVariants as outcomes;
+ghost use Rattle.xslt_match.specs.Matching.{matching};
 ghost use Rattle.sch_units.specs.Firing.{fired_by, first_rule};
+ghost use Rattle.rule_run.specs.KeptMatches.{AreKept};
 ghost use Rattle.rule_run.specs.inner.Counted.{IsRuleCounted, AreRulesCounted};
 ghost use Rattle.rule_run.specs.inner.Setting.{SetsLets};
 
+use crate::kept_matches::KeptMatches;
 use crate::validator::Validator;
 use sch_compiled::{Outcome, PlanLet, PlanRule};
 use std::sync::ledger::Ledger;
-use xp_eval::Caller;
+use xp_eval::Evaluator;
 use xp_meaning::Lets;
 use xp_outcome::{Recorder, Steps};
 use xp_values::EvalError;
-use xslt_match::matches;
+use xslt_match::matches_with;
 
 impl Validator<'_> {
     /// The outcome of the first rule that matches the node; the rules after it aren't tried.
     pub(crate) fn first_rule<L: Ledger>(
         &self,
         rules: &[PlanRule],
+        kept: &mut KeptMatches,
         lets: &mut Lets,
         reads: &mut Recorder,
         steps: &mut Steps<L>,
@@ -32,18 +36,47 @@ impl Validator<'_> {
         requires live { is_live self.now.caller.tree.now.nodes self.now.node ≡ true }
         requires few { length rules.now < 2 ^ 32 }
         requires counted { AreRulesCounted self.now.count rules.now }
+        requires kept { AreKept self.now.caller.tree.now.nodes lets.old rules.now kept.old }
         ensures ran { Ran (first_rule self.now.caller.tree.now.nodes self.now.count lets.old self.now.node 0 rules.now)
             (shown result) reads.old reads.new steps.old steps.new }
         ensures below { slots_below self.now.count lets.new ≡ slots_below self.now.count lets.old }
+        ensures kept { AreKept self.now.caller.tree.now.nodes lets.old rules.now kept.new }
     {
-        let Caller { alloc, tree } = self.caller;
         for (r, rule) in rules.iter().enumerate() {
-            let matched = matches(alloc, tree, &rule.context, self.node, lets, reads, steps)?;
+            let matched = self.rule_matches(rules, r, kept, lets, reads, steps)?;
             if matched {
                 return self.fired(r as u32, rule, lets, reads, steps);
             }
         }
         Ok(Outcome::NoRule)
+    }
+
+    /// Whether a rule, counted from 0, matches the node.
+    fn rule_matches<L: Ledger>(
+        &self,
+        rules: &[PlanRule],
+        r: usize,
+        kept: &mut KeptMatches,
+        lets: &Lets,
+        reads: &mut Recorder,
+        steps: &mut Steps<L>,
+    ) -> Result<bool, EvalError>
+        requires live { is_live self.now.caller.tree.now.nodes self.now.node ≡ true }
+        requires there { r < length rules.now }
+        requires few { length rules.now < 2 ^ 32 }
+        requires kept { AreKept self.now.caller.tree.now.nodes lets.now rules.now kept.old }
+        ensures ran { IfSome (slice_get rules.now r) (λ rule. Ran (matching self.now.caller.tree.now.nodes lets.now rule.context self.now.node)
+            (shown result) reads.old reads.new steps.old steps.new) }
+        ensures kept { AreKept self.now.caller.tree.now.nodes lets.now rules.now kept.new }
+    {
+        kept.reach(self.caller.alloc, r)?;
+        let evaluator = Evaluator {
+            caller: self.caller,
+            lets,
+        };
+        let context = &rules[r].context;
+        let kept_steps = &mut kept.rules[r];
+        matches_with(&evaluator, context, self.node, kept_steps, reads, steps)
     }
 
     /// The outcome of a rule, counted from 0, that fires.

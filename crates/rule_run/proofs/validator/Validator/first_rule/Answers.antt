@@ -1,4 +1,10 @@
-use Rattle.std.proofs.Common.{refl}
+use Rattle.std.proofs.Common.{refl, subst, Ok, Err}
+use Rattle.std.specs.Prelude.{slice_get}
+use Rattle.xp_outcome.specs.Running.{Ran}
+use Rattle.xp_meaning.specs.Results.{stop_of}
+use Rattle.xslt_match.specs.Matching.{matching}
+use Rattle.rule_run.specs.KeptMatches.{AreKept}
+use Rattle.rule_run.proofs.MatchesKept.{if_rule}
 use Rattle.xp_outcome.proofs.Runs.{onto_start, onto_alike, onto_done, onto_end}
 use Rattle.xp_meaning.proofs.Exits.{exit_same}
 use Rattle.xp_eval.proofs.Runs.{chosen_yes, chosen_no, onto_goes, onto_stops}
@@ -6,7 +12,7 @@ use Rattle.rule_run.proofs.RuleLets.{item_there, rules-next, rules-end}
 use Rattle.rule_run.proofs.validator.Validator.first_rule.Goals as goal
 
 pub loop-r-init : goal.loop-r-init
-loop-r-init g c = record { rest = onto_start _ _ _; same = refl }
+loop-r-init g c = record { rest = onto_start _ _ _; same = refl; kept = c.requires.kept }
 
 pub fired-requires : goal.fired-requires
 fired-requires g c = c.requires.counted _ _ (item_there _ _ _ c.loop-r-test.true c.index-rules-r.is)
@@ -15,22 +21,32 @@ pub returns-in_err-matched-clause-ran : goal.returns-in_err-matched-clause-ran
 returns-in_err-matched-clause-ran g c =
     exit_same _ _ c.from_residual.ensures.1
     (onto_stops _ _ (rules-next c.args.self.now.caller.tree.now.nodes c.args.self.now.count c.loop-r.lets c.args.self.now.node c.args.rules.now c.loop-r.r c.index-rules-r.result c.loop-r-test.true c.index-rules-r.is)
-    _ c.loop-r.invariant.rest c.in_err-matched.ensures)
+    _ c.loop-r.invariant.rest (if_rule (λ rule. Ran (matching c.args.self.now.caller.tree.now.nodes c.loop-r.lets rule.context c.args.self.now.node) (Err (stop_of c.in_err-matched.field-0.0)) c.loop-r.reads c.rule_matches.new.reads c.loop-r.steps c.rule_matches.new.steps) (slice_get c.args.rules.now c.loop-r.r) c.index-rules-r.result (item_there _ _ _ c.loop-r-test.true c.index-rules-r.is) c.in_err-matched.ensures.ran))
 
 pub returns-then-matched-clause-ran : goal.returns-then-matched-clause-ran
 returns-then-matched-clause-ran g c =
     onto_end (onto_alike (chosen_yes _ _ _ c.if-matched.true)
     (onto_goes _ _ (rules-next c.args.self.now.caller.tree.now.nodes c.args.self.now.count c.loop-r.lets c.args.self.now.node c.args.rules.now c.loop-r.r c.index-rules-r.result c.loop-r-test.true c.index-rules-r.is)
-    c.loop-r.invariant.rest c.in_ok-matched.ensures)) c.fired.ensures.ran
+    c.loop-r.invariant.rest (if_rule (λ rule. Ran (matching c.args.self.now.caller.tree.now.nodes c.loop-r.lets rule.context c.args.self.now.node) (Ok c.in_ok-matched.matched) c.loop-r.reads c.rule_matches.new.reads c.loop-r.steps c.rule_matches.new.steps) (slice_get c.args.rules.now c.loop-r.r) c.index-rules-r.result (item_there _ _ _ c.loop-r-test.true c.index-rules-r.is) c.in_ok-matched.ensures.ran))) c.fired.ensures.ran
 
 pub loop-r-preserved : goal.loop-r-preserved
 loop-r-preserved g c = record {
   rest = onto_alike (chosen_no _ _ _ c.if-matched.false)
       (onto_goes _ _ (rules-next c.args.self.now.caller.tree.now.nodes c.args.self.now.count c.loop-r.lets c.args.self.now.node c.args.rules.now c.loop-r.r c.index-rules-r.result c.loop-r-test.true c.index-rules-r.is)
-      c.loop-r.invariant.rest c.in_ok-matched.ensures);
+      c.loop-r.invariant.rest (if_rule (λ rule. Ran (matching c.args.self.now.caller.tree.now.nodes c.loop-r.lets rule.context c.args.self.now.node) (Ok c.in_ok-matched.matched) c.loop-r.reads c.rule_matches.new.reads c.loop-r.steps c.rule_matches.new.steps) (slice_get c.args.rules.now c.loop-r.r) c.index-rules-r.result (item_there _ _ _ c.loop-r-test.true c.index-rules-r.is) c.in_ok-matched.ensures.ran));
   same = c.loop-r.invariant.same;
+  kept = c.rule_matches.ensures.kept;
 }
 
 pub returns-clause-ran : goal.returns-clause-ran
 returns-clause-ran g c =
     onto_done (onto_alike (rules-end c.args.self.now.caller.tree.now.nodes c.args.self.now.count c.loop-r.lets c.args.self.now.node c.args.rules.now c.loop-r.r c.loop-r-test.false) c.loop-r.invariant.rest)
+
+pub returns-in_err-matched-clause-kept : goal.returns-in_err-matched-clause-kept
+returns-in_err-matched-clause-kept g c = subst (λ L. AreKept c.args.self.now.caller.tree.now.nodes L c.args.rules.now c.rule_matches.new.kept) c.loop-r.invariant.same c.rule_matches.ensures.kept
+
+pub returns-then-matched-clause-kept : goal.returns-then-matched-clause-kept
+returns-then-matched-clause-kept g c = subst (λ L. AreKept c.args.self.now.caller.tree.now.nodes L c.args.rules.now c.rule_matches.new.kept) c.loop-r.invariant.same c.rule_matches.ensures.kept
+
+pub returns-clause-kept : goal.returns-clause-kept
+returns-clause-kept g c = subst (λ L. AreKept c.args.self.now.caller.tree.now.nodes L c.args.rules.now c.loop-r.kept) c.loop-r.invariant.same c.loop-r.invariant.kept
