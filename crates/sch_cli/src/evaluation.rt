@@ -7,10 +7,11 @@ ghost use Rattle.sch_compiled.specs.Findings.{IsEmptyFor};
 ghost use Rattle.sch_compiled.specs.Soundness.{IsCounted};
 ghost use Rattle.sch_units.specs.Units.{lets_of};
 ghost use Rattle.sch_units.specs.Validity.{first_let_fault, first_node_fault, first_with, has_finding, let_fault, pair_fault, pattern_numbers};
+ghost use Rattle.rule_run.specs.KeptMatches.{AreKeptFor};
 ghost use Rattle.sch_cli.specs.inner.Evaluated.{Evaluates, IsReady, KeepsPair, KeepsPattern, SetsLet, StandsFor};
 
 use doc_tree::{NodeId, Tree};
-use rule_run::{Lets, run_let, run_pair};
+use rule_run::{Caller, KeptMatches, Lets, PlanRun, run_let, run_pair_with};
 use sch_compiled::{Findings, Outcome, Plan, StateFault};
 use sch_units::lets_stand_in_order;
 use std::alloc::{AllocError, Global};
@@ -156,8 +157,9 @@ impl Evaluator<'_> {
         ensures steps { steps.old ≤ steps.new }
     {
         self.tree.laws();
+        let mut matches = KeptMatches::new(self.alloc);
         for n in self.nodes {
-            if let Some(fault) = self.keep_pair(p, *n, kept, steps)? {
+            if let Some(fault) = self.keep_pair(p, *n, &mut matches, kept, steps)? {
                 return Ok(Some(fault));
             }
         }
@@ -169,25 +171,27 @@ impl Evaluator<'_> {
         &self,
         p: u32,
         n: NodeId,
+        matches: &mut KeptMatches,
         kept: &mut Kept,
         steps: &mut Steps<L>,
     ) -> Result<Option<StateFault>, AllocError>
         requires ready { IsReady self.now kept.old }
         requires active { p < length self.now.plan.now.patterns }
         requires live { is_live self.now.tree.now.nodes n ≡ true }
+        requires matches { AreKeptFor self.now.plan.now self.now.tree.now.nodes p kept.old.lets matches.old }
         ensures kept { IfOk result (KeepsPair self.now p n kept.old kept.new) }
+        ensures matches { AreKeptFor self.now.plan.now self.now.tree.now.nodes p kept.old.lets matches.new }
         ensures steps { steps.old ≤ steps.new }
     {
         lets_stand_in_order();
-        let pair = run_pair(
-            self.alloc,
-            self.plan,
-            self.tree,
-            p,
-            n,
-            &mut kept.lets,
-            steps,
-        )?;
+        let run = PlanRun {
+            caller: Caller {
+                alloc: self.alloc,
+                tree: self.tree,
+            },
+            plan: self.plan,
+        };
+        let pair = run_pair_with(&run, p, n, matches, &mut kept.lets, steps)?;
         let fault = pair_fault(p, n, &pair.outcome);
         kept.finds = kept.finds || has_finding(&pair.outcome);
         kept.found.put(p, n, pair.outcome)?;
