@@ -1,4 +1,4 @@
-//! The places of all kids among the siblings of their kind, counted once for a report.
+//! The places of all kids among the siblings of their kind, counted once for a tree.
 
 ghost use Rattle.std.specs.Prelude.{◌≡◌, ℕ, ◌+◌, ◌<◌, true, false, Some, IfOk, length, slice_index_or, if◌then◌else◌};
 ghost use Rattle.doc_tree.specs.Kinds.{is_kind};

@@ -1,4 +1,4 @@
--- The places of all kids among the siblings of their kind, kept by node number while a report is written.
+-- The places of all kids among the siblings of their kind, kept by node number.
 use Rattle.std.specs.Prelude.{◌≡◌, ℕ, ◌+◌, ◌<◌, Bool, true, length, List, [], ◌∷◌, Some, slice_index_or, if◌then◌else◌}
 use Rattle.doc_tree.specs.Lists.{mem}
 use Rattle.doc_tree.specs.kind.Kind.{Kind}
