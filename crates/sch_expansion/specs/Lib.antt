@@ -1,0 +1,5 @@
+pub mod Stands
+pub mod Filled
+pub mod Flat
+pub mod Pieces
+pub mod inner

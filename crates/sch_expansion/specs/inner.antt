@@ -1,0 +1,5 @@
+pub mod FlatBy
+pub mod Copies
+pub mod Fronts
+pub mod Places
+pub mod Walks

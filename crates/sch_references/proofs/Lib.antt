@@ -1,0 +1,11 @@
+pub mod CheckLemmas
+pub mod BeforeLemmas
+pub mod FirstLemmas
+pub mod IdLemmas
+pub mod NamedLemmas
+pub mod LeadsLemmas
+pub mod OntoLemmas
+pub mod OrderLemmas
+pub mod ReachLemmas
+pub mod SortLemmas
+pub mod WalkLemmas

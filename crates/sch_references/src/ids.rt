@@ -1,0 +1,197 @@
+//! The ids of a schema.
+
+ghost use Rattle.std.specs.Prelude.{◌≡◌, ◌∷◌, [], map, OnOk, IfOk};
+ghost use Rattle.std.specs.List.{flat_map};
+ghost use Rattle.sch_references.specs.Cycles.{leads_back, leads_to};
+ghost use Rattle.sch_references.specs.Extends.{abstract_rules};
+ghost use Rattle.sch_references.specs.References.{abstract_id, concrete_id, is_among, known_in};
+ghost use Rattle.sch_references.specs.inner.Firsts.{with_rules};
+ghost use Rattle.sch_references.specs.inner.Order.{Found};
+ghost use Rattle.sch_references.specs.inner.KnownIds.{known_by, with_ids};
+
+use crate::order::RuleOrder;
+use indexmap::IndexSet;
+use sch_model::{Diagnostic, Phase, RawPattern, RawRule, RawSchema};
+use std::alloc::{AllocError, Global};
+use std::marker::Model;
+
+/// Some ids, seen by contracts as their list.
+///
+/// A name is found in constant time.
+#[derive(Drop)]
+pub(crate) struct IdSet {
+    alloc: Global,
+    ids: IndexSet<String>,
+}
+
+impl Model for IdSet {
+    ghost use Rattle.std.specs.Prelude.{ℕ, List, map, string_bytes};
+
+    ghost Value = { List (List ℕ) };
+
+    ghost view = { λ s. map string_bytes s.ids.keys };
+}
+
+impl IdSet {
+    /// No id.
+    fn new(alloc: Global) -> IdSet
+        ensures { result ≡ [] }
+    {
+        IdSet {
+            alloc,
+            ids: IndexSet::new(alloc),
+        }
+    }
+
+    /// Adds an id, which may be there already.
+    fn add(&mut self, id: &str) -> Result<(), AllocError>
+        ensures { OnOk result (is_among self.new ≡ with_ids (is_among self.old) (id.now ∷ [])) }
+    {
+        let id = String::from_str(self.alloc, id)?;
+        self.ids.insert_full(id)?;
+        Ok(())
+    }
+
+    /// Adds the id of a pattern, where it has one and isn't abstract.
+    fn add_pattern(&mut self, pattern: &RawPattern) -> Result<(), AllocError>
+        ensures { OnOk result (is_among self.new ≡ with_ids (is_among self.old) (concrete_id pattern.now)) }
+    {
+        if pattern.is_abstract {
+            return Ok(());
+        }
+        match &pattern.id {
+            Some(id) => self.add(id.as_str()),
+            None => Ok(()),
+        }
+    }
+
+    /// Adds the id of a pattern, where it has one and is abstract.
+    fn add_abstract(&mut self, pattern: &RawPattern) -> Result<(), AllocError>
+        ensures { OnOk result (is_among self.new ≡ with_ids (is_among self.old) (abstract_id pattern.now)) }
+    {
+        if !pattern.is_abstract {
+            return Ok(());
+        }
+        match &pattern.id {
+            Some(id) => self.add(id.as_str()),
+            None => Ok(()),
+        }
+    }
+
+    /// Whether the name is one of the ids.
+    pub(crate) fn has(&self, name: &str) -> bool
+        ensures { result ≡ is_among self.now name.now }
+    {
+        self.ids.contains(name)
+    }
+}
+
+/// The ids of abstract patterns.
+fn abstract_pattern_ids(alloc: Global, patterns: &[RawPattern]) -> Result<IdSet, AllocError>
+    ensures { IfOk result (λ ids. is_among ids ≡ is_among (flat_map abstract_id patterns.now)) }
+{
+    let mut ids = IdSet::new(alloc);
+    for pattern in patterns {
+        ids.add_abstract(pattern)?;
+    }
+    Ok(ids)
+}
+
+/// The ids of patterns that aren't abstract.
+fn pattern_ids(alloc: Global, patterns: &[RawPattern]) -> Result<IdSet, AllocError>
+    ensures { IfOk result (λ ids. is_among ids ≡ is_among (flat_map concrete_id patterns.now)) }
+{
+    let mut ids = IdSet::new(alloc);
+    for pattern in patterns {
+        ids.add_pattern(pattern)?;
+    }
+    Ok(ids)
+}
+
+/// The ids of phases.
+fn phase_ids(alloc: Global, phases: &[Phase]) -> Result<IdSet, AllocError>
+    ensures { IfOk result (λ ids. is_among ids ≡ is_among (map (λ phase. phase.id) phases.now)) }
+{
+    let mut ids = IdSet::new(alloc);
+    for phase in phases {
+        ids.add(phase.id.as_str())?;
+    }
+    Ok(ids)
+}
+
+/// The ids of diagnostics.
+fn diagnostic_ids(alloc: Global, diagnostics: &[Diagnostic]) -> Result<IdSet, AllocError>
+    ensures { IfOk result (λ ids. is_among ids ≡ is_among (map (λ diagnostic. diagnostic.id) diagnostics.now)) }
+{
+    let mut ids = IdSet::new(alloc);
+    for diagnostic in diagnostics {
+        ids.add(diagnostic.id.as_str())?;
+    }
+    Ok(ids)
+}
+
+/// The ids of a schema to which its attributes refer, with the order in which its abstract rules extend one another.
+#[derive(Drop)]
+pub(crate) struct Ids<'a> {
+    /// The abstract rules, each the first with its id.
+    pub(crate) rules: RuleOrder<'a>,
+    /// The same, each after those that it extends; none where there is a cycle.
+    pub(crate) order: Option<RuleOrder<'a>>,
+    pub(crate) abstract_patterns: IdSet,
+    pub(crate) patterns: IdSet,
+    pub(crate) phases: IdSet,
+    pub(crate) diagnostics: IdSet,
+}
+
+impl<'a> Ids<'a> {
+    /// The ids of a schema.
+    pub(crate) fn of(alloc: Global, schema: &'a RawSchema) -> Result<Ids<'a>, AllocError>
+        ensures known { IfOk result (λ ids. known_by ids ≡ known_in schema.now) }
+        ensures rules { IfOk result (λ ids. ids.rules ≡ with_rules [] (abstract_rules schema.now)) }
+        ensures ordered { IfOk result (λ ids. Found ids.rules ids.order) }
+    {
+        let rules = RuleOrder::of(alloc, schema)?;
+        let order = rules.sorted()?;
+        let abstract_patterns = abstract_pattern_ids(alloc, schema.patterns.as_slice())?;
+        let patterns = pattern_ids(alloc, schema.patterns.as_slice())?;
+        let phases = phase_ids(alloc, schema.phases.as_slice())?;
+        let diagnostics = diagnostic_ids(alloc, schema.diagnostics.as_slice())?;
+        Ok(Ids {
+            rules,
+            order,
+            abstract_patterns,
+            patterns,
+            phases,
+            diagnostics,
+        })
+    }
+
+    /// Whether a name leads to an id by `extends`.
+    ///
+    /// Where the name stands before the id in the order, it does not, which is found in constant time.
+    fn leads_to(&self, name: &str, id: &str) -> Result<bool, AllocError>
+        requires { Found self.now.rules self.now.order }
+        ensures { IfOk result (λ leads. leads ≡ leads_to self.now.rules name.now id.now) }
+    {
+        if let Some(order) = &self.order {
+            if order.stands_before(name, id) {
+                return Ok(false);
+            }
+        }
+        self.rules.leads_to(name, id)
+    }
+
+    /// Whether what an `extends` of a rule names leads back to that rule, an abstract one.
+    pub(crate) fn leads_back(&self, rule: &RawRule, name: &str) -> Result<bool, AllocError>
+        requires { Found self.now.rules self.now.order }
+        ensures { IfOk result (λ leads. leads ≡ leads_back self.now.rules rule.now name.now) }
+    {
+        if !rule.is_abstract {
+            return Ok(false);
+        }
+        match &rule.id {
+            Some(id) => self.leads_to(name, id.as_str()),
+            None => Ok(false),
+        }
+    }
+}

@@ -1,0 +1,13 @@
+//! The names to which a Schematron schema refers: abstract rules and patterns, patterns, phases and diagnostics (ISO/IEC
+//! 19757-3:2016, section 5.4), and the order in which abstract rules extend one another.
+#![tactic(auto)]
+
+mod first;
+mod ids;
+mod order;
+mod reach;
+mod references;
+mod search;
+
+pub use order::RuleOrder;
+pub use references::check_references;
