@@ -1,3 +1,4 @@
+pub mod KnownLemmas
 pub mod ListLemmas
 pub mod SizeLemmas
 pub mod WritingLemmas

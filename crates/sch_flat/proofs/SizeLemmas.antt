@@ -46,13 +46,13 @@ pub sized_is : {a b c d : ℕ} → a ≡ b → c ≡ d → sized a c ≡ sized b
 sized_is {a} {b} {c} {d} h k = ap (λ n. sized n c) h ∙ ap (sized b) k
 
 -- events one after another
-bytes-append : (xs ys : List Event) → bytes_of (xs ++ ys) ≡ bytes_of xs + bytes_of ys
+pub bytes-append : (xs ys : List Event) → bytes_of (xs ++ ys) ≡ bytes_of xs + bytes_of ys
 bytes-append [] ys = omega arith
 bytes-append (x ∷ xs) ys =
     length-append (event_lines x) (text_of (xs ++ ys))
     ∙ omega (arith, bytes-append xs ys, length-append (event_lines x) (text_of xs))
 
-nodes-append : (xs ys : List Event) → nodes_of (xs ++ ys) ≡ nodes_of xs + nodes_of ys
+pub nodes-append : (xs ys : List Event) → nodes_of (xs ++ ys) ≡ nodes_of xs + nodes_of ys
 nodes-append [] ys = omega arith
 nodes-append (x ∷ xs) ys = omega (arith, nodes-append xs ys)
 
@@ -84,7 +84,7 @@ end_line-length : (name : List ℕ) → length (end_line name) ≡ length name +
 unfolding end_line
 end_line-length name = ap suc (length-append name (codes "\n")) ∙ omega arith
 
-attr_line-length : (name value : List ℕ) → length (attr_line name value) ≡ (length name + 3) + length (escaped value)
+pub attr_line-length : (name value : List ℕ) → length (attr_line name value) ≡ (length name + 3) + length (escaped value)
 unfolding attr_line
 attr_line-length name value =
     ap suc (length-append name (codes " " ++ (escaped value ++ codes "\n")))
@@ -133,7 +133,7 @@ abbrev declared : List ℕ → List ℕ → Option Decl
 declared prefix value = Some (prefix, value)
 
 -- whether an attribute declares lies in its name alone
-plain-one : (attr : Attr) → length (plain_attrs (attr ∷ [])) ≡ cond (declares attr.name) 0 1
+pub plain-one : (attr : Attr) → length (plain_attrs (attr ∷ [])) ≡ cond (declares attr.name) 0 1
 plain-one attr = by (bytes_eq attr.name xmlns_prefix) (bytes_eq (prefix_part attr.name) xmlns_prefix)
   where
     by : (x y : Bool) →
@@ -157,7 +157,7 @@ attr_is attr some bytes len nodes s b n is =
     ap (λ k. of_counts k nodes) (b ∙ ap (λ k. capped (k + len)) s) ∙ ap (of_counts (capped (capped (length attr.name + 3) + len))) n ∙ attr_size_is attr len is
 
 -- escapes
-escaped_append : (xs ys : List ℕ) → length (escaped (xs ++ ys)) ≡ length (escaped xs) + length (escaped ys)
+pub escaped_append : (xs ys : List ℕ) → length (escaped (xs ++ ys)) ≡ length (escaped xs) + length (escaped ys)
 escaped_append [] ys = omega arith
 escaped_append (x ∷ xs) ys =
     length-append (escape_of x) (escaped (xs ++ ys))

@@ -2,6 +2,7 @@
 use Rattle.std.specs.Prelude.{ℕ, ◌+◌, ◌-◌, ◌^◌, suc, min, nat_le, Bool, ◌&&◌, List, [], ◌∷◌, length}
 use Rattle.pyx_core.specs.declared.event.Event.{Event}
 use Rattle.pyx_core.specs.declared.event.Event.TheVariants.{Start, End, Chars, Pi, Comment}
+use Rattle.pyx_core.specs.Escapes.{escaped}
 use Rattle.pyx_core.specs.Written.{text_of}
 use Rattle.doc_tree.specs.limits.TheConstants.{MAX_LIVE_NODES}
 use Rattle.name_scopes.specs.Declarations.{plain_attrs}
@@ -31,6 +32,10 @@ nodes_of (event ∷ events) = nodes_at event + nodes_of events
 -- a count as a u64 carries it, which stands still at the last value
 abbrev pub capped : ℕ → ℕ
 capped n = min n (2 ^ 64 - 1)
+
+-- the bytes of a text with its escapes
+abbrev pub escapes_len : List ℕ → ℕ
+escapes_len text = capped (length (escaped text))
 
 -- how large events are
 abbrev pub size_of : List Event → FlatSize

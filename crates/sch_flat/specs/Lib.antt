@@ -1,3 +1,4 @@
 pub mod FlatDocument
 pub mod FlatSize
+pub mod SchemaParts
 pub mod inner

@@ -3,6 +3,7 @@
 
 mod given;
 mod ids;
+mod known_sizes;
 mod lines;
 mod measured;
 mod part_sizes;
@@ -12,8 +13,12 @@ mod schema_size;
 mod size;
 mod writer;
 
+pub use known_sizes::{
+    assertion_size, let_size, name_size, pattern_size, rule_size, value_of_size,
+};
+pub use lines::{characters_size, escaped_len};
 pub use pyx_core::EventList;
 pub use sch_model::FlatSchema;
 pub use schema::flat_events;
-pub use schema_size::{fits, flat_size};
+pub use schema_size::{SchemaParts, fits, flat_size, size_with_patterns};
 pub use size::FlatSize;

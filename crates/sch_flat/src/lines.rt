@@ -8,7 +8,7 @@ ghost use Rattle.pyx_core.specs.declared.event.Event.{Event};
 ghost use Rattle.pyx_core.specs.declared.event.Event.TheVariants as event;
 ghost use Rattle.pyx_core.specs.Escapes.{escape_of, escaped};
 ghost use Rattle.sch_flat.specs.FlatDocument.{characters, element, id_list, only_given, spaced};
-ghost use Rattle.sch_flat.specs.FlatSize.{capped, size_of};
+ghost use Rattle.sch_flat.specs.FlatSize.{capped, escapes_len, size_of};
 ghost use Rattle.sch_flat.specs.inner.Given.{seen};
 ghost use Rattle.sch_flat.specs.inner.Sizes.{attrs_size, declares};
 
@@ -26,7 +26,7 @@ pub(crate) fn element_size(name: &str, attributes: &[Given<'_>], held: FlatSize)
 }
 
 /// How large characters are.
-pub(crate) fn characters_size(text: &Text) -> FlatSize
+pub fn characters_size(text: &Text) -> FlatSize
     ensures { result ≡ size_of (characters text.now) }
 {
     let text = text.as_str();
@@ -145,8 +145,8 @@ fn spaced_len(first: &Text, rest: &[Text]) -> u64
 }
 
 /// The bytes of a text with its escapes.
-fn escaped_len(text: &str) -> u64
-    ensures { result ≡ capped (length (escaped text.now)) }
+pub fn escaped_len(text: &str) -> u64
+    ensures { result ≡ escapes_len text.now }
 {
     let mut len: u64 = 0;
     for byte in text.as_bytes() {

@@ -1,16 +1,14 @@
 //! How large the elements of the document are.
 
-ghost use Rattle.std.specs.Prelude.{◌≡◌, [], ◌∷◌, Some, codes};
-ghost use Rattle.std.specs.List.{flat_map};
-ghost use Rattle.sch_flat.specs.FlatDocument.{active_events, assertion_attributes, assertion_events, diagnostic_events, element, let_events, ns_events, part_events, pattern_events, phase_events, rule_events};
-ghost use Rattle.sch_flat.specs.FlatSize.{size_of};
+ghost use Rattle.sch_flat.specs.FlatDocument.{active_events, assertion_events, diagnostic_events, let_events, ns_events, part_events, pattern_events, phase_events, rule_events};
 
 use crate::given::Given;
+use crate::known_sizes::{
+    assertion_size, let_size, name_size, pattern_size, rule_size, text_len, value_of_size,
+};
 use crate::lines::{characters_size, element_size};
 use crate::measured::{Measured, size_of_all};
-use crate::parts::name_of;
 use crate::size::FlatSize;
-use sch_base::Text;
 use sch_model::{Active, Assertion, Diagnostic, FlatPattern, FlatRule, LetDecl, Ns, Part, Phase};
 
 impl Measured for Ns {
@@ -32,14 +30,7 @@ impl Measured for LetDecl {
     ghost events = { let_events };
 
     fn size(&self) -> FlatSize {
-        element_size(
-            "sch:let",
-            &[
-                Given::Always("name", &self.name),
-                Given::Always("value", &self.value),
-            ],
-            FlatSize::none(),
-        )
+        let_size(&self.name, text_len(&self.value))
     }
 }
 
@@ -70,8 +61,12 @@ impl Measured for Part {
     fn size(&self) -> FlatSize {
         match self {
             Part::Chars(text) => characters_size(text),
-            Part::ValueOf { select, .. } => value_of_size(select),
-            Part::Name { path, .. } => name_size(path),
+            Part::ValueOf { select, .. } => value_of_size(text_len(select)),
+            Part::Name {
+                path: Some(path),
+                ..
+            } => name_size(Some(text_len(path))),
+            Part::Name { path: None, .. } => name_size(None),
         }
     }
 }
@@ -80,7 +75,7 @@ impl Measured for Assertion {
     ghost events = { assertion_events };
 
     fn size(&self) -> FlatSize {
-        assertion_size(self, name_of(self.report))
+        assertion_size(self, text_len(&self.test), size_of_all(&self.message))
     }
 }
 
@@ -89,16 +84,8 @@ impl Measured for FlatRule {
 
     fn size(&self) -> FlatSize {
         let held = size_of_all(&self.lets).then(size_of_all(&self.assertions));
-        element_size(
-            "sch:rule",
-            &[
-                Given::IfAny("id", &self.id),
-                Given::Always("context", &self.context),
-                Given::IfAny("role", &self.role),
-                Given::IfAny("flag", &self.flag),
-            ],
-            held,
-        )
+        let context_len = text_len(&self.context);
+        rule_size(&self.id, &self.role, &self.flag, context_len, held)
     }
 }
 
@@ -107,7 +94,7 @@ impl Measured for FlatPattern {
 
     fn size(&self) -> FlatSize {
         let held = size_of_all(&self.lets).then(size_of_all(&self.rules));
-        element_size("sch:pattern", &[Given::IfAny("id", &self.id)], held)
+        pattern_size(&self.id, held)
     }
 }
 
@@ -118,40 +105,4 @@ impl Measured for Diagnostic {
         let held = size_of_all(&self.message);
         element_size("sch:diagnostic", &[Given::Always("id", &self.id)], held)
     }
-}
-
-/// How large an assertion is under a name.
-fn assertion_size(assertion: &Assertion, name: &str) -> FlatSize
-    ensures { result ≡ size_of (element name.now (assertion_attributes assertion.now) (flat_map part_events assertion.now.message)) }
-{
-    let held = size_of_all(&assertion.message);
-    element_size(
-        name,
-        &[
-            Given::IfAny("id", &assertion.id),
-            Given::Always("test", &assertion.test),
-            Given::IfAny("role", &assertion.role),
-            Given::IfAny("flag", &assertion.flag),
-            Given::Ids("diagnostics", &assertion.diagnostics),
-        ],
-        held,
-    )
-}
-
-/// How large a `value-of` is.
-fn value_of_size(select: &Text) -> FlatSize
-    ensures { result ≡ size_of (element (codes "sch:value-of") ((codes "select", Some select.now) ∷ []) []) }
-{
-    element_size(
-        "sch:value-of",
-        &[Given::Always("select", select)],
-        FlatSize::none(),
-    )
-}
-
-/// How large a `name` is.
-fn name_size(path: &Option<Text>) -> FlatSize
-    ensures { result ≡ size_of (element (codes "sch:name") ((codes "path", path.now) ∷ []) []) }
-{
-    element_size("sch:name", &[Given::IfAny("path", path)], FlatSize::none())
 }

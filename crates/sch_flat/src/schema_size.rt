@@ -1,8 +1,11 @@
 //! How large the document of a schema is.
 
-ghost use Rattle.std.specs.Prelude.{◌≡◌};
-ghost use Rattle.sch_flat.specs.FlatDocument.{diagnostics_events, flat_events, held_events, title_events};
+ghost use Rattle.std.specs.Prelude.{◌≡◌, List};
+ghost use Rattle.std.specs.List.{flat_map};
+ghost use Rattle.sch_model.specs.declared.flat.FlatPattern.{FlatPattern};
+ghost use Rattle.sch_flat.specs.FlatDocument.{diagnostics_events, flat_events, held_events, pattern_events, title_events};
 ghost use Rattle.sch_flat.specs.FlatSize.{is_small, size_of};
+ghost use Rattle.sch_flat.specs.SchemaParts.{schema_of};
 
 use crate::given::Given;
 use crate::lines::{characters_size, element_size};
@@ -10,7 +13,7 @@ use crate::measured::size_of_all;
 use crate::size::FlatSize;
 use doc_tree::MAX_LIVE_NODES;
 use sch_base::{MAX_TEXT_BYTES, Text};
-use sch_model::{DiagnosticList, FlatSchema};
+use sch_model::{DiagnosticList, FlatSchema, Head, LetDeclList, NsList, PhaseList};
 
 /// How large the document of a schema is.
 ///
@@ -18,15 +21,39 @@ use sch_model::{DiagnosticList, FlatSchema};
 pub fn flat_size(flat: &FlatSchema) -> FlatSize
     ensures { result ≡ size_of (flat_events flat.now) }
 {
+    let others = SchemaParts {
+        head: &flat.head,
+        ns: &flat.ns,
+        lets: &flat.lets,
+        phases: &flat.phases,
+        diagnostics: &flat.diagnostics,
+    };
+    size_with_patterns(others, size_of_all(&flat.patterns))
+}
+
+/// What a schema holds beside its patterns.
+#[derive(Clone, Copy, Debug)]
+pub struct SchemaParts<'a> {
+    pub head: &'a Head,
+    pub ns: &'a NsList,
+    pub lets: &'a LetDeclList,
+    pub phases: &'a PhaseList,
+    pub diagnostics: &'a DiagnosticList,
+}
+
+/// How large the document of a schema is whose patterns have this size in it.
+pub fn size_with_patterns(parts: SchemaParts<'_>, patterns: FlatSize) -> FlatSize
+    ensures { (its : List FlatPattern) → patterns ≡ size_of (flat_map pattern_events its) → result ≡ size_of (flat_events (schema_of parts.entry its)) }
+{
     element_size(
         "sch:schema",
         &[
             Given::Fixed("xmlns:sch", "http://purl.oclc.org/dsdl/schematron"),
             Given::Fixed("queryBinding", "xslt"),
-            Given::IfAny("schemaVersion", &flat.head.schema_version),
-            Given::IfAny("defaultPhase", &flat.head.default_phase),
+            Given::IfAny("schemaVersion", &parts.head.schema_version),
+            Given::IfAny("defaultPhase", &parts.head.default_phase),
         ],
-        held_size(flat),
+        held_size(parts, patterns),
     )
 }
 
@@ -40,12 +67,12 @@ pub fn fits(flat: &FlatSchema) -> bool
 }
 
 /// How large what the document element holds is.
-fn held_size(flat: &FlatSchema) -> FlatSize
-    ensures { result ≡ size_of (held_events flat.now) }
+fn held_size(parts: SchemaParts<'_>, patterns: FlatSize) -> FlatSize
+    ensures { (its : List FlatPattern) → patterns ≡ size_of (flat_map pattern_events its) → result ≡ size_of (held_events (schema_of parts.entry its)) }
 {
-    let last = size_of_all(&flat.patterns).then(diagnostics_size(&flat.diagnostics));
-    let later = size_of_all(&flat.lets).then(size_of_all(&flat.phases).then(last));
-    title_size(&flat.head.title).then(size_of_all(&flat.ns).then(later))
+    let last = patterns.then(diagnostics_size(parts.diagnostics));
+    let later = size_of_all(parts.lets).then(size_of_all(parts.phases).then(last));
+    title_size(&parts.head.title).then(size_of_all(parts.ns).then(later))
 }
 
 /// How large the title is, where there is one.

@@ -5,15 +5,15 @@ use Rattle.sch_flat.specs.FlatDocument.{diagnostics_events, let_events, ns_event
 use Rattle.sch_flat.proofs.schema_size.held_size.Goals as goal
 
 pub returns : goal.returns
-returns c =
-    let flat = c.args.flat.now in
-    let diagnostics = diagnostics_events flat.diagnostics in
-    let patterns = flat_map pattern_events flat.patterns in
-    let phases = flat_map phase_events flat.phases in
-    let lets = flat_map let_events flat.lets in
-    let ns = flat_map ns_events flat.ns in
-    let last = c.then-last.ensures patterns diagnostics c.size_of_all.ensures c.diagnostics_size.ensures in
-    let from_phases = c.then.ensures phases (patterns ++ diagnostics) c.size_of_all-3.ensures last in
-    let later = c.then-later.ensures lets (phases ++ (patterns ++ diagnostics)) c.size_of_all-2.ensures from_phases in
-    let from_ns = c.then-2.ensures ns (lets ++ (phases ++ (patterns ++ diagnostics))) c.size_of_all-4.ensures later in
-    c.then-3.ensures (title_events flat.head.title) (ns ++ (lets ++ (phases ++ (patterns ++ diagnostics)))) c.title_size.ensures from_ns
+returns c = λ its is.
+    let parts = c.args.parts in
+    let diagnostics = diagnostics_events parts.diagnostics.now in
+    let patterns = flat_map pattern_events its in
+    let phases = flat_map phase_events parts.phases.now in
+    let lets = flat_map let_events parts.lets.now in
+    let ns = flat_map ns_events parts.ns.now in
+    let last = c.then-last.ensures patterns diagnostics is c.diagnostics_size.ensures in
+    let from_phases = c.then.ensures phases (patterns ++ diagnostics) c.size_of_all-2.ensures last in
+    let later = c.then-later.ensures lets (phases ++ (patterns ++ diagnostics)) c.size_of_all.ensures from_phases in
+    let from_ns = c.then-2.ensures ns (lets ++ (phases ++ (patterns ++ diagnostics))) c.size_of_all-3.ensures later in
+    c.then-3.ensures (title_events parts.head.now.title) (ns ++ (lets ++ (phases ++ (patterns ++ diagnostics)))) c.title_size.ensures from_ns

@@ -8,4 +8,4 @@ pub returns : goal.returns
 returns c =
     let first = flat_map let_events c.args.self.now.lets in
     let last = flat_map rule_events c.args.self.now.rules in
-    c.element_size.ensures (first ++ last) (c.then-held.ensures first last c.size_of_all.ensures c.size_of_all-2.ensures)
+    c.pattern_size.ensures (first ++ last) (c.then-held.ensures first last c.size_of_all.ensures c.size_of_all-2.ensures)

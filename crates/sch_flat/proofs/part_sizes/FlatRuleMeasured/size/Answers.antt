@@ -6,6 +6,7 @@ use Rattle.sch_flat.proofs.part_sizes.FlatRuleMeasured.size.Goals as goal
 
 pub returns : goal.returns
 returns c =
-    let first = flat_map let_events c.args.self.now.lets in
-    let last = flat_map assertion_events c.args.self.now.assertions in
-    c.element_size.ensures (first ++ last) (c.then-held.ensures first last c.size_of_all.ensures c.size_of_all-2.ensures)
+    let rule = c.args.self.now in
+    let first = flat_map let_events rule.lets in
+    let last = flat_map assertion_events rule.assertions in
+    c.rule_size.ensures rule.context (first ++ last) c.text_len-context_len.ensures (c.then-held.ensures first last c.size_of_all.ensures c.size_of_all-2.ensures)

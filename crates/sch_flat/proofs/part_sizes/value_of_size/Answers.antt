@@ -1,6 +1,0 @@
--- Nothing is held.
-use Rattle.std.proofs.Common.{[]}
-use Rattle.sch_flat.proofs.part_sizes.value_of_size.Goals as goal
-
-pub returns : goal.returns
-returns c = c.element_size.ensures [] c.none.ensures

@@ -1,0 +1,7 @@
+-- One of them.
+use Rattle.std.proofs.Common.{refl, ◌∙◌}
+use Rattle.sch_sizes.proofs.AmountLemmas.{many_cap}
+use Rattle.sch_sizes.proofs.counting.CountingScale.of_assertion.Goals as goal
+
+pub returns : goal.returns
+returns c = c.counted.ensures ∙ many_cap 0 1 0 refl refl refl
