@@ -1,7 +1,7 @@
 -- What is told of an element follows from the document, the element and the rule.
-use Rattle.std.proofs.Common.{◌≡◌, ℕ, Bool, true, false, cond, List, [], ◌∷◌, ◌++◌, Option, None, Some, codes, refl, sym, ap, ◌∙◌, subst, inl, inr, ⊎_elim, arith, lit≤}
+use Rattle.std.proofs.Common.{◌≡◌, ℕ, ◌==◌, Bool, true, false, cond, List, [], ◌∷◌, ◌++◌, Option, None, Some, codes, refl, sym, ap, ◌∙◌, subst, inl, inr, ◌⊎◌, ⊎_elim, lit≤}
 use Rattle.std.specs.List.{flat_map}
-use Rattle.std.specs.Option.{option_or}
+use Rattle.std.specs.Option.{option_map_or, option_or}
 use Rattle.doc_tree.specs.Table.{Table, kids_of}
 use Rattle.sch_model.specs.declared.fault.SchemaFault.{SchemaFault}
 use Rattle.sch_model.specs.declared.flat.FlatSchema.{FlatSchema}
@@ -17,27 +17,30 @@ use Rattle.sch_rules.specs.Attributes.{said, said_text}
 use Rattle.sch_rules.specs.Elements.{document_element, word_at}
 use Rattle.sch_rules.specs.FirstBroken.{Gives}
 use Rattle.sch_rules.specs.RawSchema.{active_of, assertion_of, ids_in, item_at, item_of, pattern_of, phase_of, raw_schema, read_if, read_kids, rule_of}
+use Rattle.sch_rules.specs.Rules.{name_if}
 use Rattle.sch_rules.specs.Words.{is_word}
 use Rattle.sch_rules.proofs.LeastLemmas.{Rise, one_name}
-use Rattle.sch_abstract.specs.FirstFault.{FirstFaultAgrees, IsFirstFault, first_fault, size_places}
-use Rattle.sch_abstract.specs.Flat.{flat_schema}
-use Rattle.sch_abstract.specs.Places.{BrokenAmong, IsFirstAmong, NoneBroken, Place, first_among}
-use Rattle.sch_abstract.specs.References.{Known, active_place, assertion_place, head_place, item_places, known_in, pattern_places, phase_places, places_with, reference_places, rule_places, unknown_diagnostic, unknown_pattern, unknown_phase}
-use Rattle.sch_abstract.specs.Sizes.{size_rules}
-use Rattle.sch_abstract.proofs.FirstLemmas.{Rising, Single, first-found, first-nothing, first-some, none-broken, rising-append, rising-flat_map}
-use Rattle.sch_abstract.proofs.WalkLemmas.{flat_map-one}
+use Rattle.sch_expansion.specs.Flat.{flat_schema}
+use Rattle.sch_references.specs.Cycles.{leads_back}
+use Rattle.sch_references.specs.Extends.{abstract_rules}
+use Rattle.sch_references.specs.Places.{BrokenAmong, IsFirstAmong, NoneBroken, Place, first_among}
+use Rattle.sch_references.specs.References.{Known, active_place, assertion_place, cyclic_rule, extends_place, head_place, item_places, known_in, origin_place, pattern_places, phase_places, places_with, reference_places, rule_places, unknown_diagnostic, unknown_origin, unknown_pattern, unknown_phase, unknown_rule}
+use Rattle.sch_references.proofs.FirstLemmas.{Rising, Single, first-found, first-nothing, first-some, none-broken, rising-append, rising-flat_map}
+use Rattle.sch_references.proofs.WalkLemmas.{flat_map-one}
+use Rattle.sch_sizes.specs.Sizes.{size_places, size_rules}
+use Rattle.sch_abstract.specs.FirstFault.{FirstFaultAgrees, IsFirstFault, first_fault}
 
 -- the rules of each place stand by number
-rising-item : (known : Known) (its : RawItem) → Rising (item_places known its)
-rising-item known (item.Let _) = tt
-rising-item known (item.Assertion _) = ((lit≤ tt, tt), tt)
-rising-item known (item.Extends _ _) = tt
+rising-item : (known : Known) (rules : List RawRule) (rule : RawRule) (its : RawItem) → Rising (item_places known rules rule its)
+rising-item known rules rule (item.Let _) = tt
+rising-item known rules rule (item.Assertion _) = ((lit≤ tt, tt), tt)
+rising-item known rules rule (item.Extends _ _) = ((lit≤ tt, (lit≤ tt, tt)), tt)
 
-rising-rule : (known : Known) (rule : RawRule) → Rising (rule_places known rule)
-rising-rule known rule = rising-flat_map (item_places known) (rising-item known) rule.items
+rising-rule : (known : Known) (rules : List RawRule) (rule : RawRule) → Rising (rule_places known rules rule)
+rising-rule known rules rule = rising-flat_map (item_places known rules rule) (rising-item known rules rule) rule.items
 
-rising-pattern : (known : Known) (pattern : RawPattern) → Rising (pattern_places known pattern)
-rising-pattern known pattern = rising-flat_map (rule_places known) (rising-rule known) pattern.rules
+rising-pattern : (known : Known) (rules : List RawRule) (pattern : RawPattern) → Rising (pattern_places known rules pattern)
+rising-pattern known rules pattern = ((lit≤ tt, tt), rising-flat_map (rule_places known rules) (rising-rule known rules) pattern.rules)
 
 rising-phase : (known : Known) (phase : Phase) → Rising (phase_places known phase)
 rising-phase known phase =
@@ -46,24 +49,42 @@ rising-phase known phase =
 
 rising-references : (schema : RawSchema) → Rising (reference_places schema)
 rising-references schema =
-    let known = known_in schema in (
+    let known = known_in schema in let rules = abstract_rules schema in (
       (lit≤ tt, tt),
-      rising-append (flat_map (phase_places known) schema.phases) (flat_map (pattern_places known) schema.patterns)
-          (rising-flat_map (phase_places known) (rising-phase known) schema.phases) (rising-flat_map (pattern_places known) (rising-pattern known) schema.patterns),
+      rising-append (flat_map (phase_places known) schema.phases) (flat_map (pattern_places known rules) schema.patterns)
+          (rising-flat_map (phase_places known) (rising-phase known) schema.phases) (rising-flat_map (pattern_places known rules) (rising-pattern known rules) schema.patterns),
     )
 
 rise-sizes : (schema : FlatSchema) → Rise 1 (size_rules schema)
 rise-sizes schema = (lit≤ tt, (lit≤ tt, (lit≤ tt, (lit≤ tt, tt))))
 
--- a name is told of an element by a rule
-pub data Told (T : Table) (known : Known) (rule n : ℕ) (name : List ℕ) : Type 0 where
-  by-active : rule ≡ 13 → unknown_pattern known (active_of T n) ≡ Some name → Told T known rule n name
-  by-phase : rule ≡ 14 → unknown_phase known (said T n (codes "defaultPhase")) ≡ Some name → Told T known rule n name
-  by-diagnostic : rule ≡ 15 → unknown_diagnostic known (ids_in (said_text T n (codes "diagnostics"))) ≡ Some name → Told T known rule n name
+-- what an option holds, and nothing where it holds none
+abbrev or_empty : Option (List ℕ) → List ℕ
+or_empty text = option_map_or (λ its. its) text []
 
-module _ (T : Table) (known : Known) where
-  abbrev pub AllTold : List Place → Type 0
-  AllTold places = (rule n : ℕ) (name : List ℕ) → BrokenAmong places rule n name → Told T known rule n name
+held-some : (o : Option (List ℕ)) (name : List ℕ) → o ≡ Some name → name ≡ or_empty o
+held-some o name h = subst (λ p. name ≡ or_empty p) (sym h) refl
+
+name-if : (b : Bool) (its name : List ℕ) → name_if b its ≡ Some name → name ≡ its
+name-if true its name h = held-some (Some its) name h
+name-if false its name h = let e : None ≡ Some name = h in absurd (cc)
+
+origin-name : (known : Known) (o : Option (List ℕ)) (name : List ℕ) → unknown_origin known o ≡ Some name → name ≡ or_empty o
+origin-name known None name h = let e : None ≡ Some name = h in absurd (cc)
+origin-name known (Some its) name h = name-if _ its name h
+
+module _ (T : Table) (known : Known) (rules : List RawRule) where
+  -- the name that a rule can tell of an element
+  abbrev told_name : ℕ → ℕ → List ℕ
+  told_name rule n =
+      cond (rule == 12) (or_empty (said T n (codes "is-a")))
+      (cond (rule == 13) (or_empty (unknown_pattern known (active_of T n)))
+      (cond (rule == 14) (or_empty (unknown_phase known (said T n (codes "defaultPhase"))))
+      (cond (rule == 15) (or_empty (unknown_diagnostic known (ids_in (said_text T n (codes "diagnostics")))))
+      (said_text T n (codes "rule")))))
+
+  abbrev AllTold : List Place → Type 0
+  AllTold places = (rule n : ℕ) (name : List ℕ) → BrokenAmong places rule n name → name ≡ told_name rule n
 
   told-append : (xs ys : List Place) → AllTold xs → AllTold ys → AllTold (xs ++ ys)
   told-append [] ys h k = k
@@ -79,79 +100,77 @@ module _ (T : Table) (known : Known) where
       by more true = told-append (g (read n)) (flat_map g (flat_map (read_if T w read) ns)) (h n) more
       by more false = more
 
-  told-active : (n : ℕ) → AllTold (active_place known (active_of T n) ∷ [])
-  told-active n = λ rule m name b. ⊎_elim
-      (λ (x : (n ≡ m) × Gives ((13, unknown_pattern known (active_of T n)) ∷ []) rule name). ⊎_elim
-      (λ (y : (13 ≡ rule) × (unknown_pattern known (active_of T n) ≡ Some name)).
-      by-active (sym y.0) (subst (λ k. unknown_pattern known (active_of T k) ≡ Some name) x.0 y.1))
+  -- a place of one rule
+  told-one : (number n : ℕ) (told : Option (List ℕ)) → ((name : List ℕ) → told ≡ Some name → name ≡ told_name number n) → AllTold (record { node = n; rules = (number, told) ∷ [] } ∷ [])
+  told-one number n told is = λ rule m name b. ⊎_elim
+      (λ (x : (n ≡ m) × Gives ((number, told) ∷ []) rule name). ⊎_elim
+      (λ (y : (number ≡ rule) × (told ≡ Some name)). subst (λ r. name ≡ told_name r m) y.0 (subst (λ k. name ≡ told_name number k) x.0 (is name y.1)))
       (λ (z : ⊥). absurd z) x.1)
       (λ (z : ⊥). absurd z) b
+
+  told-active : (n : ℕ) → AllTold (active_place known (active_of T n) ∷ [])
+  told-active n = told-one 13 n (unknown_pattern known (active_of T n)) (λ name h. held-some (unknown_pattern known (active_of T n)) name h)
 
   told-head : (n : ℕ) → AllTold (record { node = n; rules = (14, unknown_phase known (said T n (codes "defaultPhase"))) ∷ [] } ∷ [])
-  told-head n = λ rule m name b. ⊎_elim
-      (λ (x : (n ≡ m) × Gives ((14, unknown_phase known (said T n (codes "defaultPhase"))) ∷ []) rule name). ⊎_elim
-      (λ (y : (14 ≡ rule) × (unknown_phase known (said T n (codes "defaultPhase")) ≡ Some name)).
-      by-phase (sym y.0) (subst (λ k. unknown_phase known (said T k (codes "defaultPhase")) ≡ Some name) x.0 y.1))
-      (λ (z : ⊥). absurd z) x.1)
-      (λ (z : ⊥). absurd z) b
+  told-head n = told-one 14 n (unknown_phase known (said T n (codes "defaultPhase"))) (λ name h. held-some (unknown_phase known (said T n (codes "defaultPhase"))) name h)
 
   told-assertion : (report : Bool) (n : ℕ) → AllTold (assertion_place known (assertion_of T report n) ∷ [])
-  told-assertion report n = λ rule m name b. ⊎_elim
-      (λ (x : (n ≡ m) × Gives ((15, unknown_diagnostic known (ids_in (said_text T n (codes "diagnostics")))) ∷ []) rule name). ⊎_elim
-      (λ (y : (15 ≡ rule) × (unknown_diagnostic known (ids_in (said_text T n (codes "diagnostics"))) ≡ Some name)).
-      by-diagnostic (sym y.0) (subst (λ k. unknown_diagnostic known (ids_in (said_text T k (codes "diagnostics"))) ≡ Some name) x.0 y.1))
-      (λ (z : ⊥). absurd z) x.1)
+  told-assertion report n = told-one 15 n (unknown_diagnostic known (ids_in (said_text T n (codes "diagnostics"))))
+      (λ name h. held-some (unknown_diagnostic known (ids_in (said_text T n (codes "diagnostics")))) name h)
+
+  told-origin : (n : ℕ) → AllTold (origin_place known (pattern_of T n) ∷ [])
+  told-origin n = told-one 12 n (unknown_origin known (said T n (codes "is-a"))) (λ name h. origin-name known (said T n (codes "is-a")) name h)
+
+  told-extends : (rule : RawRule) (n : ℕ) → AllTold (extends_place known rules rule n (said_text T n (codes "rule")) ∷ [])
+  told-extends rule n = λ number m name b. ⊎_elim
+      (λ (x : (n ≡ m) × Gives (extends_place known rules rule n (said_text T n (codes "rule"))).rules number name). ⊎_elim
+      (λ (y : (10 ≡ number) × (unknown_rule known (said_text T n (codes "rule")) ≡ Some name)).
+      subst (λ r. name ≡ told_name r m) y.0 (subst (λ k. name ≡ told_name 10 k) x.0 (name-if _ (said_text T n (codes "rule")) name y.1)))
+      (λ (z : ((11 ≡ number) × (cyclic_rule rules rule (said_text T n (codes "rule")) ≡ Some name)) ⊎ ⊥). ⊎_elim
+      (λ (y : (11 ≡ number) × (cyclic_rule rules rule (said_text T n (codes "rule")) ≡ Some name)).
+      subst (λ r. name ≡ told_name r m) y.0 (subst (λ k. name ≡ told_name 11 k) x.0 (name-if (leads_back rules rule (said_text T n (codes "rule"))) (said_text T n (codes "rule")) name y.1)))
+      (λ (w : ⊥). absurd w) z) x.1)
       (λ (z : ⊥). absurd z) b
 
-  told-items : (ns : List ℕ) → AllTold (flat_map (item_places known) (flat_map (item_at T) ns))
-  told-items [] = λ rule n name b. absurd b
-  told-items (n ∷ ns) = by (told-items ns) (word_at T n)
+  told-items : (rule : RawRule) (ns : List ℕ) → AllTold (flat_map (item_places known rules rule) (flat_map (item_at T) ns))
+  told-items rule [] = λ number n name b. absurd b
+  told-items rule (n ∷ ns) = by (told-items rule ns) (word_at T n)
     where
-      by : AllTold (flat_map (item_places known) (flat_map (item_at T) ns)) → (w : Option Word) → AllTold (flat_map (item_places known) (item_of T n w ++ flat_map (item_at T) ns))
-      by more (Some word.Let) = more
-      by more (Some word.Assert) = told-append (assertion_place known (assertion_of T false n) ∷ []) (flat_map (item_places known) (flat_map (item_at T) ns)) (told-assertion false n) more
-      by more (Some word.Report) = told-append (assertion_place known (assertion_of T true n) ∷ []) (flat_map (item_places known) (flat_map (item_at T) ns)) (told-assertion true n) more
-      by more (Some word.Extends) = more
-      by more _ = more
+      more : List Place
+      more = flat_map (item_places known rules rule) (flat_map (item_at T) ns)
 
-  told-rule : (n : ℕ) → AllTold (rule_places known (rule_of T n))
-  told-rule n = told-items (kids_of T n)
+      by : AllTold more → (w : Option Word) → AllTold (flat_map (item_places known rules rule) (item_of T n w ++ flat_map (item_at T) ns))
+      by later (Some word.Let) = later
+      by later (Some word.Assert) = told-append (assertion_place known (assertion_of T false n) ∷ []) more (told-assertion false n) later
+      by later (Some word.Report) = told-append (assertion_place known (assertion_of T true n) ∷ []) more (told-assertion true n) later
+      by later (Some word.Extends) = told-append (extends_place known rules rule n (said_text T n (codes "rule")) ∷ []) more (told-extends rule n) later
+      by later _ = later
 
-  told-pattern : (n : ℕ) → AllTold (pattern_places known (pattern_of T n))
-  told-pattern n = told-kids (rule_places known) word.Rule (rule_of T) told-rule (kids_of T n)
+  told-rule : (n : ℕ) → AllTold (rule_places known rules (rule_of T n))
+  told-rule n = told-items (rule_of T n) (kids_of T n)
+
+  told-pattern : (n : ℕ) → AllTold (pattern_places known rules (pattern_of T n))
+  told-pattern n = told-append (origin_place known (pattern_of T n) ∷ []) (flat_map (rule_places known rules) (pattern_of T n).rules) (told-origin n)
+      (told-kids (rule_places known rules) word.Rule (rule_of T) told-rule (kids_of T n))
 
   told-phase : (n : ℕ) → AllTold (phase_places known (phase_of T n))
   told-phase n =
       subst AllTold (flat_map-one (active_place known) (read_kids T word.Active (active_of T) n))
       (told-kids (λ active. active_place known active ∷ []) word.Active (active_of T) told-active (kids_of T n))
 
-  told-places : AllTold (places_with known (raw_schema T))
+  told-places : AllTold (places_with known rules (raw_schema T))
   told-places =
       let d = document_element T in
       let phases = flat_map (phase_places known) (read_kids T word.Phase (phase_of T) d) in
-      let patterns = flat_map (pattern_places known) (read_kids T word.Pattern (pattern_of T) d) in
+      let patterns = flat_map (pattern_places known rules) (read_kids T word.Pattern (pattern_of T) d) in
       told-append (head_place known (raw_schema T).head ∷ []) (phases ++ patterns) (told-head d)
       (told-append phases patterns (told-kids (phase_places known) word.Phase (phase_of T) told-phase (kids_of T d))
-      (told-kids (pattern_places known) word.Pattern (pattern_of T) told-pattern (kids_of T d)))
-
-  same-some : (o : Option (List ℕ)) (a b : List ℕ) → o ≡ Some a → o ≡ Some b → a ≡ b
-  same-some o a b h k = let e : Some a ≡ Some b = sym h ∙ k in cc
-
-  one-told : (rule n : ℕ) (a b : List ℕ) → Told T known rule n a → Told T known rule n b → a ≡ b
-  one-told rule n a b (by-active r h) (by-active q k) = same-some (unknown_pattern known (active_of T n)) a b h k
-  one-told rule n a b (by-active r h) (by-phase q k) = absurd (omega (arith, r, q))
-  one-told rule n a b (by-active r h) (by-diagnostic q k) = absurd (omega (arith, r, q))
-  one-told rule n a b (by-phase r h) (by-active q k) = absurd (omega (arith, r, q))
-  one-told rule n a b (by-phase r h) (by-phase q k) = same-some (unknown_phase known (said T n (codes "defaultPhase"))) a b h k
-  one-told rule n a b (by-phase r h) (by-diagnostic q k) = absurd (omega (arith, r, q))
-  one-told rule n a b (by-diagnostic r h) (by-active q k) = absurd (omega (arith, r, q))
-  one-told rule n a b (by-diagnostic r h) (by-phase q k) = absurd (omega (arith, r, q))
-  one-told rule n a b (by-diagnostic r h) (by-diagnostic q k) = same-some (unknown_diagnostic known (ids_in (said_text T n (codes "diagnostics")))) a b h k
+      (told-kids (pattern_places known rules) word.Pattern (pattern_of T) told-pattern (kids_of T d)))
 
 pub single-references : (T : Table) → Single (reference_places (raw_schema T))
 single-references T rule n a b h k =
-    let known = known_in (raw_schema T) in
-    one-told T known rule n a b (told-places T known rule n a h) (told-places T known rule n b k)
+    let known = known_in (raw_schema T) in let rules = abstract_rules (raw_schema T) in
+    told-places T known rules rule n a h ∙ sym (told-places T known rules rule n b k)
 
 pub single-sizes : (schema : RawSchema) → Single (size_places schema)
 single-sizes schema rule n a b h k =

@@ -5,13 +5,10 @@ use Rattle.sch_model.specs.declared.fault.SchemaError.{SchemaError}
 use Rattle.sch_model.specs.declared.fault.SchemaError.TheVariants.{Fault, Memory}
 use Rattle.sch_model.specs.declared.fault.SchemaFault.{SchemaFault}
 use Rattle.sch_model.specs.declared.raw.RawSchema.{RawSchema}
-use Rattle.sch_abstract.specs.Flat.{flat_schema}
-use Rattle.sch_abstract.specs.Places.{IsFirstAmong, NoneBroken, Place, first_among}
-use Rattle.sch_abstract.specs.References.{reference_places}
-use Rattle.sch_abstract.specs.Sizes.{size_place}
-
-abbrev pub size_places : RawSchema → List Place
-size_places schema = size_place (flat_schema schema) ∷ []
+use Rattle.sch_references.specs.Ended.{Refuses}
+use Rattle.sch_references.specs.Places.{IsFirstAmong, NoneBroken, first_among}
+use Rattle.sch_references.specs.References.{reference_places}
+use Rattle.sch_sizes.specs.Sizes.{size_places}
 
 -- the first broken rule on its references; where none is broken, the first on its size
 abbrev pub IsFirstFault : RawSchema → SchemaFault → Type 0
@@ -30,5 +27,4 @@ pub record FirstFaultAgrees (schema : RawSchema) : Type 0 where
 
 -- a refusal tells the first broken rule, or that there was no memory
 abbrev pub Refused : RawSchema → SchemaError → Type 0
-Refused schema (Fault f) = first_fault schema ≡ Some f
-Refused schema Memory = Unit {0}
+Refused schema error = Refuses (first_fault schema) error

@@ -1,6 +1,2 @@
-pub mod Flat
-pub mod Places
-pub mod References
-pub mod Sizes
+pub use Rattle.sch_expansion.specs.Flat
 pub mod FirstFault
-pub mod inner

@@ -1,29 +1,50 @@
 //! From a schema as it is read to one without abstract parts.
 
-ghost use Rattle.std.specs.Prelude.{◌≡◌, None, true, IfErr, IfOk, OnOk};
-ghost use Rattle.sch_model.specs.Concrete.{is_concrete};
+ghost use Rattle.std.specs.Prelude.{◌≡◌, map, None, IfErr, IfOk, OnOk};
+ghost use Rattle.sch_references.specs.Ended.{Refuses};
+ghost use Rattle.sch_references.specs.Extends.{abstract_rules};
+ghost use Rattle.sch_expansion.specs.Flat.{concrete_patterns, flat_pattern, flat_schema};
+ghost use Rattle.sch_expansion.specs.Stands.{ExtendsAreReplaced};
 ghost use Rattle.sch_abstract.specs.FirstFault.{Refused, first_fault};
-ghost use Rattle.sch_abstract.specs.Flat.{flat_schema};
 
-use crate::flat::flat_schema;
-use crate::references::check_references;
-use crate::sizes::check_sizes;
-use sch_model::{FlatSchema, RawSchema, SchemaError};
+use sch_expansion::{extends_are_replaced, flat_patterns};
+use sch_model::{FlatPatternList, FlatSchema, RawSchema, SchemaError};
+use sch_references::check_references;
+use sch_sizes::check_sizes;
 use std::alloc::Global;
 
-/// The schema without abstract parts, or the first rule from 13 to 19 that the schema breaks.
+/// The schema without abstract parts, or the first rule from 10 to 19 that the schema breaks.
 ///
-/// The first broken rule from 13 to 15 is the one at the element with the least node number, and there the one with the
-/// least number. Where none of these is broken, the first is the one of the others with the least number. Costs time
-/// linear in the schema; texts and lists are moved, not copied.
+/// The first broken rule from 10 to 15 is the one at the element with the least node number, and there the one with the
+/// least number. Where none of these is broken, the first is the one of the others with the least number; how large the
+/// schema is without abstract parts is counted before it is made.
 pub fn expand(alloc: Global, raw: RawSchema) -> Result<FlatSchema, SchemaError>
-    requires concrete { is_concrete raw ≡ true }
     ensures refused { IfErr result (Refused raw) }
     ensures accepted { OnOk result (first_fault raw ≡ None) }
     ensures expanded { IfOk result (λ flat. flat ≡ flat_schema raw) }
+    // each abstract rule stands for its items with each `extends` among them replaced
+    ensures replaced { OnOk result (ExtendsAreReplaced (abstract_rules raw)) }
 {
-    check_references(alloc, &raw)?;
-    let flat = flat_schema(alloc, raw)?;
-    check_sizes(alloc, &flat)?;
-    Ok(flat)
+    let patterns = expanded_patterns(alloc, &raw)?;
+    Ok(FlatSchema {
+        head: raw.head,
+        ns: raw.ns,
+        lets: raw.lets,
+        phases: raw.phases,
+        patterns,
+        diagnostics: raw.diagnostics,
+    })
+}
+
+/// The patterns without abstract parts, or the first rule that the schema breaks.
+fn expanded_patterns(alloc: Global, raw: &RawSchema) -> Result<FlatPatternList, SchemaError>
+    ensures refused { IfErr result (Refused raw.now) }
+    ensures accepted { OnOk result (first_fault raw.now ≡ None) }
+    ensures expanded { IfOk result (λ flat. flat ≡ map (flat_pattern raw.now) (concrete_patterns raw.now)) }
+    ensures replaced { OnOk result (ExtendsAreReplaced (abstract_rules raw.now)) }
+{
+    let rules = check_references(alloc, raw)?;
+    check_sizes(alloc, raw, &rules)?;
+    extends_are_replaced(raw, &rules);
+    Ok(flat_patterns(alloc, raw, &rules)?)
 }

@@ -3,12 +3,7 @@
 #![tactic(auto)]
 
 mod expansion;
-mod first;
-mod flat;
-mod ids;
 mod laws;
-mod references;
-mod sizes;
 
 pub use expansion::expand;
 pub use laws::first_fault_agrees;

@@ -9,7 +9,6 @@ use Rattle.name_scopes.specs.ScopedTree.{OneTree, Scoped}
 use Rattle.name_scopes.specs.DocFaults.{doc_fault}
 use Rattle.sch_model.specs.declared.flat.FlatSchema.{FlatSchema}
 use Rattle.sch_model.specs.declared.raw.RawSchema.{RawSchema}
-use Rattle.sch_model.specs.Concrete.{is_concrete}
 use Rattle.sch_rules.specs.FirstBroken.{first_broken}
 use Rattle.sch_rules.specs.RawSchema.{raw_schema}
 use Rattle.sch_abstract.specs.FirstFault.{first_fault}
@@ -90,8 +89,7 @@ module _ (one_tree : OneTree) (one_plan : OnePlan) (files : Files) where
       (subst (λ (b : List ℕ). Scoped (bare (events_of Document b)) U) (held-same again held) so.scoped))
 
   one-flattening : (T : Table) (raw : RawSchema) → Single (Flattening T raw)
-  one-flattening T raw = one-then (Is (stop_if (not (is_concrete raw)) not_yet raw)) (λ other. Is (stop_at (first_fault other) (refused_rule T) (flat_schema other)))
-      (one-is (stop_if (not (is_concrete raw)) not_yet raw)) (λ other. one-is (stop_at (first_fault other) (refused_rule T) (flat_schema other)))
+  one-flattening T raw = one-is (stop_at (first_fault raw) (refused_rule T) (flat_schema raw))
 
   one-reading : (T : Table) → Single (Reading T)
   one-reading T = one-then (Is (stop_if (has_include T) not_yet T)) (λ U. Then (Is (stop_at (first_broken U) (refused_rule U) (raw_schema U))) (Flattening U))

@@ -5,7 +5,6 @@ use Rattle.doc_tree.specs.Table.{Table, Facts, entry_at, content_at, kind_at, pa
 use Rattle.doc_tree.specs.Walks.{above, ancestors}
 use Rattle.doc_tree.specs.kind.Kind.TheVariants.{Root}
 use Rattle.doc_tree.specs.Laws.{WellFormed, HasWaysUp}
-use Rattle.sch_model.specs.Concrete.{is_concrete}
 use Rattle.sch_model.specs.declared.fault.SchemaError.{SchemaError}
 use Rattle.sch_model.specs.declared.fault.SchemaError.TheVariants as error
 use Rattle.sch_model.specs.declared.fault.SchemaFault.{SchemaFault}
@@ -100,23 +99,12 @@ comes_to_raw T raw no_include none is (Err stop) gives = by_cause (λ output. Fl
     ))
     (λ name no. no) (λ w. w) (λ m. m) stop gives
 
--- which stops at an abstract part
-pub stops_at_abstract : (T : Table) (raw : RawSchema) → is_concrete raw ≡ false → Flattening T raw (Err not_yet)
-stops_at_abstract T raw is = inl (not_yet, stopped_there (not (is_concrete raw)) not_yet raw (ap not is), refl)
-
--- at the first rule broken by references or sizes
-pub stops_at_reference : (T : Table) (raw : RawSchema) → is_concrete raw ≡ true → (e : SchemaError) → abstract.Refused raw e → (stop : Stop) → IsRefusal T e stop →
+-- which stops at the first rule broken by references or sizes
+pub stops_at_reference : (T : Table) (raw : RawSchema) → (e : SchemaError) → abstract.Refused raw e → (stop : Stop) → IsRefusal T e stop →
     ByCause (λ output. Flattening T raw (Err output)) (λ _. ⊥) ⊥ (Unit {0}) stop
-stops_at_reference T raw concrete e first stop = refusal_stops (Flattening T raw) T e stop (λ fault is. inr (
-  raw,
-  passed (not (is_concrete raw)) not_yet raw (ap not concrete),
-  broken_there (first_fault raw) (refused_rule T) (flat_schema raw) fault (subst (abstract.Refused raw) is first),
-))
+stops_at_reference T raw e first stop = refusal_stops (Flattening T raw) T e stop
+    (λ fault is. broken_there (first_fault raw) (refused_rule T) (flat_schema raw) fault (subst (abstract.Refused raw) is first))
 
 -- and else goes on with the schema without abstract parts
-pub goes_on : (T : Table) (raw : RawSchema) (flat : FlatSchema) → is_concrete raw ≡ true → first_fault raw ≡ None → flat ≡ flat_schema raw → Flattening T raw (Ok flat)
-goes_on T raw flat concrete none is = inr (
-  raw,
-  passed (not (is_concrete raw)) not_yet raw (ap not concrete),
-  ap (λ (f : FlatSchema). Ok f) is ∙ unbroken (first_fault raw) (refused_rule T) (flat_schema raw) none,
-)
+pub goes_on : (T : Table) (raw : RawSchema) (flat : FlatSchema) → first_fault raw ≡ None → flat ≡ flat_schema raw → Flattening T raw (Ok flat)
+goes_on T raw flat none is = ap (λ (f : FlatSchema). Ok f) is ∙ unbroken (first_fault raw) (refused_rule T) (flat_schema raw) none

@@ -1,12 +1,11 @@
 -- The stages of a validation in the order of the work: each goes on with a value, or stops the run with its output. The
 -- first stage that stops the run gives the output.
-use Rattle.std.specs.Prelude.{◌≡◌, ◌⊎◌, ℕ, ◌*◌, nat_lt, Bool, true, false, not, List, length, Option, None, Some, Result, Ok, Err}
+use Rattle.std.specs.Prelude.{◌≡◌, ◌⊎◌, ℕ, ◌*◌, nat_lt, Bool, true, false, List, length, Option, None, Some, Result, Ok, Err}
 use Rattle.std.specs.FinMap.{get}
 use Rattle.sch_io.specs.Files.{Files}
 use Rattle.sch_base.specs.declared.limits.TheConstants.{MAX_PAIRS}
 use Rattle.doc_tree.specs.Table.{Table}
 use Rattle.doc_tree.specs.Walks.{order}
-use Rattle.sch_model.specs.Concrete.{is_concrete}
 use Rattle.sch_model.specs.declared.fault.SchemaFault.{SchemaFault}
 use Rattle.sch_model.specs.declared.flat.FlatSchema.{FlatSchema}
 use Rattle.sch_model.specs.declared.raw.RawSchema.{RawSchema}
@@ -70,11 +69,9 @@ pub data Loading (files : Files) (name : List ℕ) (refused : FileRefusal → Ou
       Loading files name refused (Err (refused refusal))
   loaded : (bytes : List ℕ) → get files name ≡ Some bytes → (T : Table) → IsDocument bytes T → Loading files name refused (Ok T)
 
--- a schema without abstract parts: an abstract part is past what the program does so far
+-- the schema without abstract parts
 abbrev pub Flattening : Table → RawSchema → Result FlatSchema Output → Type 0
-Flattening T raw =
-    Then (Is (stop_if (not (is_concrete raw)) not_yet raw)) (λ raw.
-    Is (stop_at (first_fault raw) (refused_rule T) (flat_schema raw)))
+Flattening T raw = Is (stop_at (first_fault raw) (refused_rule T) (flat_schema raw))
 
 -- the reading of a schema's tree: an include is past what the program does so far
 abbrev pub Reading : Table → Result FlatSchema Output → Type 0

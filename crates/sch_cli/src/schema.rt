@@ -38,7 +38,7 @@ pub(crate) fn plan_of<'w>(alloc: Global, tree: &Tree, phase: &str) -> Result<Pla
     }
 }
 
-/// The schema that the tree of a document is, which has no include and no abstract part.
+/// The schema that the tree of a document is, which has no include, without abstract parts.
 fn read_flat<'w>(alloc: Global, tree: &Tree) -> Result<FlatSchema, Stop<'w>>
     requires { is_document tree.now.nodes ≡ true }
     ensures told { Gives (λ flat. Reading tree.now.nodes (Ok flat)) (λ output. Reading tree.now.nodes (Err output)) (λ _. ⊥) result }
@@ -54,14 +54,11 @@ fn read_flat<'w>(alloc: Global, tree: &Tree) -> Result<FlatSchema, Stop<'w>>
     }
 }
 
-/// The schema without abstract parts, where it has none.
+/// The schema without abstract parts.
 fn flat_of<'w>(alloc: Global, tree: &Tree, raw: RawSchema) -> Result<FlatSchema, Stop<'w>>
     ensures told { Gives (λ flat. Flattening tree.now.nodes raw (Ok flat)) (λ output. Flattening tree.now.nodes raw (Err output)) (λ _. ⊥) result }
     ensures inner { IfErr result IsInner }
 {
-    if !raw.is_concrete() {
-        return Err(Stop::NotYet);
-    }
     match expand(alloc, raw) {
         Ok(flat) => Ok(flat),
         Err(error) => Err(refused(alloc, tree, error)),

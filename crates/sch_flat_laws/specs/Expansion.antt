@@ -7,8 +7,8 @@ use Rattle.sch_model.specs.declared.raw.RawItem.TheVariants.{Let, Assertion}
 use Rattle.sch_model.specs.declared.raw.RawPattern.{RawPattern}
 use Rattle.sch_model.specs.declared.raw.RawRule.{RawRule}
 use Rattle.sch_model.specs.declared.raw.RawSchema.{RawSchema}
-use Rattle.sch_model.specs.Concrete.{is_concrete}
-use Rattle.sch_abstract.specs.Flat.{flat_schema}
+use Rattle.sch_flat_laws.specs.Concrete.{is_concrete}
+use Rattle.sch_expansion.specs.Flat.{flat_schema}
 
 -- what is said of a rule in the document: its lets, then its assertions
 abbrev pub raw_rule : FlatRule → RawRule

@@ -1,3 +1,4 @@
+pub mod Concrete
 pub mod Expansion
 pub mod FlatText
 pub mod IdLists

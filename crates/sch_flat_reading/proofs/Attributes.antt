@@ -1,20 +1,19 @@
 -- What an element's attributes say.
 use Rattle.std.proofs.Common.{◌≡◌, ℕ, Bool, true, false, not, ◌&&◌, ◌||◌, cond, List, [], ◌∷◌, ◌++◌, map, Option, None, Some, find, refl, sym, ap, ◌∙◌, subst}
 use Rattle.std.specs.List.{flat_map, list_all, list_any}
-use Rattle.std.specs.Prelude.{option_map, codes}
-use Rattle.std.specs.Option.{is_none}
+use Rattle.std.specs.Prelude.{option_map}
 use Rattle.std.specs.Str.{bytes_eq}
 use Rattle.std.proofs.lemmas.Bool.{and_parts}
 use Rattle.std.proofs.lemmas.Slice.Eq.{bytes_eq-Decides}
 use Rattle.doc_table.proofs.ListLemmas.{mem-head, mem-tail}
 use Rattle.doc_tree.specs.kind.Kind.TheVariants as kind
-use Rattle.doc_tree.specs.Lines.{Line, has_attribute, first_lines, lines_at, opens}
+use Rattle.doc_tree.specs.Lines.{first_lines, lines_at, opens}
 use Rattle.doc_tree.specs.Lists.{mem}
 use Rattle.doc_tree.specs.NameTests.{named}
 use Rattle.doc_tree.specs.Scope.{scope_at, xmlns_prefix}
 use Rattle.doc_tree.specs.Table.{Table, Name, Content, root, element, attribute, text, comment, instruction, content_of, kind_at, kind_of, name_at, value_at, value_of}
 use Rattle.name_scopes.proofs.ItemNames.{local-all, prefix-none}
-use Rattle.name_scopes.specs.Declarations.{declarations, declaration_of, plain_attrs}
+use Rattle.name_scopes.specs.Declarations.{declarations, plain_attrs}
 use Rattle.name_scopes.specs.QNames.{as_written, prefix_part}
 use Rattle.name_scopes.specs.ScopedTree.{attribute_line, unscoped, written}
 use Rattle.name_scopes.specs.Scoping.{AttributeInScope, ContentInScope, InScope, attribute_namespace}

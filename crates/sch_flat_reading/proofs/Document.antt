@@ -1,39 +1,34 @@
 -- The document element of a schema's document, and what it holds.
-use Rattle.std.proofs.Common.{◌≡◌, ℕ, Bool, true, false, ◌||◌, cond, List, [], ◌∷◌, ◌++◌, Option, None, Some, map, find, refl, sym, ap, ◌∙◌, subst, append-nil, append_assoc}
+use Rattle.std.proofs.Common.{◌≡◌, ℕ, Bool, true, false, ◌||◌, cond, List, [], ◌∷◌, ◌++◌, Option, None, Some, map, find, refl, sym, ap, ◌∙◌, subst, append-nil}
 use Rattle.std.specs.List.{flat_map, list_any}
 use Rattle.std.specs.Prelude.{codes}
 use Rattle.std.specs.Option.{option_to_list}
-use Rattle.std.proofs.lemmas.Grind.{flat_map-append}
 use Rattle.doc_table.proofs.ListLemmas.{mem-head, mem-tail}
 use Rattle.doc_tree.specs.kind.Kind.TheVariants as kind
-use Rattle.doc_tree.specs.Kinds.{can_be_kid, is_element}
+use Rattle.doc_tree.specs.Kinds.{is_element}
 use Rattle.doc_tree.specs.Laws.{HasWaysUp, Walks, WellFormed}
 use Rattle.doc_tree.specs.Lines.{lines_at, first_lines, last_lines, opens}
 use Rattle.doc_tree.specs.Lists.{mem}
 use Rattle.doc_tree.specs.Scope.{Decl, HasScopes, scope_at, xmlns_prefix}
-use Rattle.doc_tree.specs.Table.{Table, Content, root, element, attribute, text, comment, instruction, attrs_of, content_of, decls_at, decls_of, kids_of, kind_at, kind_of, parent_of}
+use Rattle.doc_tree.specs.Table.{Table, Content, root, element, attribute, text, comment, instruction, attrs_of, content_of, decls_at, decls_of, kids_of, kind_at, kind_of}
 use Rattle.name_scopes.specs.Declarations.{declarations, plain_attrs}
 use Rattle.name_scopes.specs.ScopedTree.{Scoped, attribute_line, unscoped}
 use Rattle.name_scopes.specs.Scoping.{InScope}
 use Rattle.pyx_core.specs.declared.event.Attr.{Attr}
 use Rattle.pyx_core.specs.declared.event.Event.{Event}
-use Rattle.sch_model.specs.declared.flat.FlatPattern.{FlatPattern}
 use Rattle.sch_model.specs.declared.flat.FlatSchema.{FlatSchema}
 use Rattle.sch_model.specs.declared.parts.Diagnostic.{Diagnostic}
-use Rattle.sch_model.specs.declared.parts.LetDecl.{LetDecl}
-use Rattle.sch_model.specs.declared.parts.Ns.{Ns}
-use Rattle.sch_model.specs.declared.parts.Phase.{Phase}
 use Rattle.sch_rules.specs.Attributes.{said as said_at}
 use Rattle.sch_rules.specs.Elements.{document_element, element_name, first_or, is_foreign, is_other_name, word_at}
 use Rattle.sch_rules.specs.Words.{word_of}
 use Rattle.sch_flat.specs.FlatDocument.{characters, diagnostic_events, diagnostics_events, element as sch_element, flat_events, held_events, let_events, ns_events, only_given, pattern_events, phase_events, title_events}
 use Rattle.sch_flat_reading.proofs.Attributes.{SayAll, given_in, given_is, said_is, say_all, all_plain, are_plain}
-use Rattle.sch_flat_reading.proofs.Elements.{IsElement, is_element as is_flat_element}
-use Rattle.sch_flat_reading.proofs.EventBlocks.{Chunk, Holds, chunk_element, diagnostic_chunk, holds_all, holds_append, holds_characters, let_chunk, ns_chunk, pattern_chunk, phase_chunk, said, said_append}
+use Rattle.sch_flat_reading.proofs.Elements.{is_element as is_flat_element}
+use Rattle.sch_flat_reading.proofs.EventBlocks.{Chunk, Holds, chunk_element, diagnostic_chunk, holds_all, holds_append, holds_characters, let_chunk, ns_chunk, pattern_chunk, phase_chunk, said}
 use Rattle.sch_flat_reading.proofs.Kids.{Items, Pairs, Taken, none_left, take_pairs}
 use Rattle.sch_flat_reading.proofs.Leaves.{AreKids}
 use Rattle.sch_flat_reading.proofs.Places.{Place, named_element, sch_scope, word_named}
-use Rattle.sch_flat_reading.proofs.TreeBlocks.{attributes_told, kid_block, told, told_at}
+use Rattle.sch_flat_reading.proofs.TreeBlocks.{kid_block, told, told_at}
 
 -- the title and the diagnostics as elements, of which there is one or none
 abbrev pub title_element : List ℕ → List Event

@@ -1,21 +1,21 @@
 -- What an element is that tells the lines of an element's events.
-use Rattle.std.proofs.Common.{◌≡◌, ℕ, Bool, true, false, List, [], ◌∷◌, ◌++◌, map, Option, None, Some, refl, sym, ap, ◌∙◌, append_assoc}
+use Rattle.std.proofs.Common.{◌≡◌, ℕ, true, false, List, [], ◌∷◌, ◌++◌, map, Option, None, Some, refl, sym, ap, ◌∙◌}
 use Rattle.std.specs.List.{flat_map, list_all}
 use Rattle.std.proofs.lemmas.Bool.{and_from, and_parts}
 use Rattle.std.proofs.lemmas.List.{append_cancel_right}
 use Rattle.std.proofs.lemmas.List.Folds.{list_all-append}
 use Rattle.doc_tree.specs.Laws.{HasWaysUp, Walks, WellFormed}
-use Rattle.doc_tree.specs.Lines.{Line, starts, declares, has_attribute, ends, has_text, has_comment, has_instruction, first_lines, last_lines, lines_at}
+use Rattle.doc_tree.specs.Lines.{Line, starts, declares, ends, first_lines, last_lines, lines_at}
 use Rattle.doc_tree.specs.Kinds.{can_be_kid}
 use Rattle.doc_tree.specs.Scope.{Decl}
-use Rattle.doc_tree.specs.Table.{Table, Name, Content, root, element, attribute, text, comment, instruction, attrs_of, content_of, kids_of, kind_at, kind_of}
+use Rattle.doc_tree.specs.Table.{Table, Name, Content, root, element, attribute, text, comment, instruction, content_of, kids_of, kind_at, kind_of}
 use Rattle.name_scopes.specs.Declarations.{declarations, plain_attrs}
 use Rattle.name_scopes.specs.QNames.{as_written}
 use Rattle.name_scopes.specs.ScopedTree.{attribute_line, unscoped, written}
 use Rattle.pyx_core.specs.declared.event.Attr.{Attr}
 use Rattle.pyx_core.specs.declared.event.Event.{Event}
 use Rattle.pyx_core.specs.declared.event.Event.TheVariants as event
-use Rattle.sch_flat_reading.proofs.Blocks.{Inner, attributes_quiet, is_attribute, is_loud, is_quiet, split_quiet}
+use Rattle.sch_flat_reading.proofs.Blocks.{is_attribute, is_loud, is_quiet, split_quiet}
 use Rattle.sch_flat_reading.proofs.EventBlocks.{Holds, head_lines, quiet_head, said, said_element}
 use Rattle.sch_flat_reading.proofs.Kids.{Items, items_inner}
 use Rattle.sch_flat_reading.proofs.TreeBlocks.{attributes_told, quiet_attributes, quiet_decls, plain_attributes, told, told_at}

@@ -1,21 +1,16 @@
 -- The title and the diagnostics of a schema, as they are read.
-use Rattle.std.proofs.Common.{◌≡◌, ℕ, Bool, true, false, ◌||◌, cond, List, [], ◌∷◌, ◌++◌, Option, None, Some, map, find, refl, sym, ap, ◌∙◌, subst, append-nil}
-use Rattle.std.specs.List.{flat_map, list_any}
-use Rattle.std.specs.Prelude.{codes, option_and_then, option_map}
-use Rattle.std.specs.Option.{option_to_list}
+use Rattle.std.proofs.Common.{◌≡◌, ℕ, Bool, true, false, cond, List, [], ◌∷◌, ◌++◌, Some, map, find, refl, sym, ap, ◌∙◌, subst, append-nil}
+use Rattle.std.specs.List.{flat_map}
+use Rattle.std.specs.Prelude.{codes, option_and_then}
 use Rattle.std.proofs.lemmas.Grind.{flat_map-append}
 use Rattle.doc_table.proofs.ListLemmas.{mem-head, mem-tail}
-use Rattle.doc_tree.specs.kind.Kind.TheVariants as kind
 use Rattle.doc_tree.specs.Kinds.{can_be_kid}
 use Rattle.doc_tree.specs.Laws.{HasWaysUp, Ordered, Walks, WellFormed}
 use Rattle.doc_tree.specs.Lists.{mem}
 use Rattle.doc_tree.specs.Scope.{HasScopes, xmlns_prefix}
 use Rattle.doc_tree.specs.Table.{Table, attrs_of, content_of, kids_of, kind_of, parent_of}
 use Rattle.doc_tree.specs.Walks.{below, characters_in}
-use Rattle.name_scopes.specs.ScopedTree.{Scoped}
 use Rattle.name_scopes.specs.Scoping.{InScope}
-use Rattle.pyx_core.specs.declared.event.Event.{Event}
-use Rattle.sch_model.specs.declared.flat.FlatSchema.{FlatSchema}
 use Rattle.sch_model.specs.declared.parts.Diagnostic.{Diagnostic}
 use Rattle.sch_model.specs.declared.parts.Part.TheVariants.{Chars}
 use Rattle.sch_rules.specs.declared.word.Word.{Word}
@@ -24,18 +19,17 @@ use Rattle.sch_rules.specs.Elements.{is_ignored, word_above, word_at}
 use Rattle.sch_rules.specs.RawSchema.{counted_text, diagnostic_of, diagnostics_at, holds_text, read_if, read_kids, text_at, title_of}
 use Rattle.sch_rules.specs.Words.{is_word, word_of}
 use Rattle.sch_flat.specs.FlatDocument.{characters, diagnostic_events, part_events}
-use Rattle.sch_flat_reading.specs.Placeless.{placeless_diagnostic}
+use Rattle.sch_model.specs.Placeless.{is_some_part, placeless_diagnostic}
 use Rattle.sch_flat_reading.specs.Readable.{Each, ReadableDiagnostic}
-use Rattle.sch_flat_reading.proofs.Document.{are_kids, diagnostics_element, kid_items, some_list, title_element}
+use Rattle.sch_flat_reading.proofs.Document.{are_kids, diagnostics_element, some_list, title_element}
 use Rattle.sch_flat_reading.proofs.EventBlocks.{diagnostic_chunk, holds_all, holds_characters, holds_some, part_holds, said}
 use Rattle.sch_flat_reading.proofs.Kids.{Items, Pairs, none_left, take_if, take_pairs}
 use Rattle.sch_flat_reading.proofs.Leaves.{AreKids}
 use Rattle.sch_flat_reading.proofs.Messages.{attribute_text, below_text, counts_under, either_nothing, message_read, part_chunk, text_node}
-use Rattle.sch_flat_reading.proofs.Places.{Place, Read, read_element}
+use Rattle.sch_flat_reading.proofs.Places.{Place, read_element}
 use Rattle.sch_flat_reading.proofs.Rules.{ReadTo, read_to_all, silent_element}
 use Rattle.sch_flat_reading.proofs.Schema.{AllWords}
 use Rattle.sch_flat_reading.proofs.TreeBlocks.{told}
-use Rattle.sch_flat_reading.specs.Placeless.{is_some_part}
 
 map-same : {A : Type 0} (xs : List A) → map (λ (x : A). x) xs ≡ xs
 map-same [] = refl

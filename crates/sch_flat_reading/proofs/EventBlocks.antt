@@ -1,5 +1,5 @@
 -- The lines of the events of an element of a schema's document are those of one item.
-use Rattle.std.proofs.Common.{◌≡◌, ℕ, Bool, true, false, List, [], ◌∷◌, ◌++◌, Option, None, Some, map, refl, sym, ap, ◌∙◌, subst, append_assoc}
+use Rattle.std.proofs.Common.{◌≡◌, ℕ, true, List, [], ◌∷◌, ◌++◌, Some, map, refl, sym, ap, ◌∙◌, subst}
 use Rattle.std.specs.Prelude.{codes}
 use Rattle.std.specs.List.{flat_map, list_all}
 use Rattle.std.proofs.lemmas.Bool.{and_from}
@@ -22,8 +22,8 @@ use Rattle.sch_model.specs.declared.parts.Ns.{Ns}
 use Rattle.sch_model.specs.declared.parts.Part.{Part}
 use Rattle.sch_model.specs.declared.parts.Part.TheVariants.{Chars, ValueOf, Name}
 use Rattle.sch_model.specs.declared.parts.Phase.{Phase}
-use Rattle.sch_flat.specs.FlatDocument.{active_events, assertion_attributes, assertion_events, assertion_name, characters, diagnostic_events, element, let_events, ns_events, only_given, part_events, pattern_events, phase_events, rule_events}
-use Rattle.sch_flat_reading.proofs.Blocks.{Block, Inner, element_block, inner_append, inner_flat, inner_nil, is_quiet, text_block}
+use Rattle.sch_flat.specs.FlatDocument.{active_events, assertion_events, assertion_name, characters, diagnostic_events, let_events, ns_events, only_given, part_events, pattern_events, phase_events, rule_events}
+use Rattle.sch_flat_reading.proofs.Blocks.{Block, Inner, element_block, inner_append, inner_nil, is_quiet, text_block}
 
 -- what events tell
 abbrev pub said : List Event → List Line

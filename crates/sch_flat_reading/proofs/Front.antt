@@ -1,20 +1,19 @@
 -- The front of a schema, as it is read.
-use Rattle.std.proofs.Common.{◌≡◌, ℕ, Bool, true, false, List, [], ◌∷◌, ◌++◌, Option, None, Some, map, refl, sym, ap, ◌∙◌, subst}
+use Rattle.std.proofs.Common.{◌≡◌, ℕ, ◌++◌, map, refl, ap, ◌∙◌, subst}
 use Rattle.std.specs.List.{flat_map}
 use Rattle.std.specs.Prelude.{codes}
 use Rattle.std.specs.Option.{option_to_list}
 use Rattle.doc_tree.specs.Laws.{HasWaysUp, Walks, WellFormed}
 use Rattle.doc_tree.specs.Scope.{HasScopes}
-use Rattle.doc_tree.specs.Table.{Table, kids_of}
+use Rattle.doc_tree.specs.Table.{Table}
 use Rattle.name_scopes.specs.ScopedTree.{Scoped}
 use Rattle.name_scopes.specs.Scoping.{InScope}
 use Rattle.sch_model.specs.declared.flat.FlatSchema.{FlatSchema}
-use Rattle.sch_rules.specs.declared.word.Word.{Word}
 use Rattle.sch_rules.specs.declared.word.Word.TheVariants as word
 use Rattle.sch_rules.specs.Attributes.{said as said_at}
-use Rattle.sch_rules.specs.RawSchema.{let_of, ns_of, phase_of, raw_schema, read_if, read_kids, schema_of}
+use Rattle.sch_rules.specs.RawSchema.{let_of, ns_of, phase_of, raw_schema, read_if, read_kids}
 use Rattle.sch_flat.specs.FlatDocument.{flat_events, let_events, ns_events, pattern_events, phase_events}
-use Rattle.sch_flat_reading.specs.Placeless.{placeless_let, placeless_ns, placeless_phase}
+use Rattle.sch_model.specs.Placeless.{placeless_let, placeless_ns, placeless_phase}
 use Rattle.sch_flat_reading.specs.ReadBack.{SameFront}
 use Rattle.sch_flat_reading.proofs.Document.{Found, are_kids, diagnostics_element, found, some_list, title_element}
 use Rattle.sch_flat_reading.proofs.Leaves.{AreKids, all_read, let_read, ns_read, read_all}

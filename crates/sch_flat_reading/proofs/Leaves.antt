@@ -1,6 +1,6 @@
 -- Elements that hold nothing, as they are read.
-use Rattle.std.proofs.Common.{◌≡◌, ℕ, Bool, true, false, cond, List, [], ◌∷◌, ◌++◌, Option, None, Some, map, refl, sym, ap, ◌∙◌, subst}
-use Rattle.std.specs.List.{flat_map, list_any}
+use Rattle.std.proofs.Common.{◌≡◌, ℕ, Bool, true, cond, List, [], ◌∷◌, ◌++◌, Option, Some, map, refl, ap, ◌∙◌}
+use Rattle.std.specs.List.{flat_map}
 use Rattle.std.specs.Prelude.{codes}
 use Rattle.std.specs.Option.{option_map_or}
 use Rattle.doc_tree.specs.Kinds.{can_be_kid}
@@ -14,15 +14,14 @@ use Rattle.sch_model.specs.declared.parts.LetDecl.{LetDecl}
 use Rattle.sch_model.specs.declared.parts.Ns.{Ns}
 use Rattle.sch_rules.specs.declared.word.Word.{Word}
 use Rattle.sch_rules.specs.declared.word.Word.TheVariants as word
-use Rattle.sch_rules.specs.Attributes.{said as said_at}
 use Rattle.sch_rules.specs.Elements.{word_at}
 use Rattle.sch_rules.specs.RawSchema.{active_of, let_of, ns_of, read_if}
 use Rattle.sch_rules.specs.Words.{is_word, word_of}
 use Rattle.sch_flat.specs.FlatDocument.{active_events, let_events, ns_events}
-use Rattle.sch_flat_reading.specs.Placeless.{placeless_active, placeless_let, placeless_ns}
+use Rattle.sch_model.specs.Placeless.{placeless_active, placeless_let, placeless_ns}
 use Rattle.sch_flat_reading.proofs.EventBlocks.{holds_nil, said}
 use Rattle.sch_flat_reading.proofs.Kids.{Items, Pairs}
-use Rattle.sch_flat_reading.proofs.Places.{Place, Read, read_element}
+use Rattle.sch_flat_reading.proofs.Places.{Place, read_element}
 use Rattle.sch_flat_reading.proofs.TreeBlocks.{told}
 
 -- kids of a node

@@ -1,11 +1,10 @@
 -- Messages, as they are read.
-use Rattle.std.proofs.Common.{◌≡◌, ℕ, Bool, true, false, not, ◌&&◌, ◌||◌, cond, List, [], ◌∷◌, ◌++◌, Option, None, Some, map, refl, sym, ap, ◌∙◌, subst, append-nil}
+use Rattle.std.proofs.Common.{◌≡◌, ℕ, Bool, true, false, ◌||◌, cond, List, [], ◌∷◌, ◌++◌, Option, None, Some, map, refl, sym, ap, ◌∙◌, subst, append-nil}
 use Rattle.std.specs.List.{flat_map, list_all, list_any}
 use Rattle.std.specs.Prelude.{codes, option_and_then}
 use Rattle.std.proofs.lemmas.Bool.{and_parts}
 use Rattle.std.proofs.lemmas.Grind.{flat_map-append}
 use Rattle.doc_table.proofs.ListLemmas.{mem-head, mem-tail}
-use Rattle.doc_tree.specs.kind.Kind.{Kind}
 use Rattle.doc_tree.specs.kind.Kind.TheVariants as kind
 use Rattle.doc_tree.specs.Kinds.{can_be_kid, holds_kids}
 use Rattle.doc_tree.specs.Laws.{HasWaysUp, Ordered, Walks, WellFormed}
@@ -15,7 +14,6 @@ use Rattle.doc_tree.specs.Scope.{HasScopes, xmlns_prefix}
 use Rattle.doc_tree.specs.Table.{Table, Content, root, element, attribute, text, comment, instruction, attrs_of, content_of, kids_of, kind_at, kind_of, parent_of}
 use Rattle.doc_tree.specs.Walks.{below, characters_in}
 use Rattle.name_scopes.specs.Scoping.{InScope}
-use Rattle.pyx_core.specs.declared.event.Event.{Event}
 use Rattle.sch_model.specs.declared.parts.Part.{Part}
 use Rattle.sch_model.specs.declared.parts.Part.TheVariants.{Chars, ValueOf, Name}
 use Rattle.sch_rules.specs.declared.word.Word.{Word}
@@ -26,12 +24,12 @@ use Rattle.sch_rules.specs.RawSchema.{chars_before, chars_part, holds_text, join
 use Rattle.sch_rules.specs.Words.{has_text as has_text_word, is_word, word_of}
 use Rattle.sch_flat.specs.FlatDocument.{characters, only_given, part_events}
 use Rattle.sch_flat_laws.specs.Joined.{are_joined}
-use Rattle.sch_flat_reading.specs.Placeless.{is_some_part, placeless_part}
+use Rattle.sch_model.specs.Placeless.{is_some_part, placeless_part}
 use Rattle.sch_flat_reading.proofs.Blocks.{text_block}
 use Rattle.sch_flat_reading.proofs.Document.{are_kids, kid_items}
 use Rattle.sch_flat_reading.proofs.Elements.{told_as}
 use Rattle.sch_flat_reading.proofs.EventBlocks.{Chunk, chunk_element, holds_nil, said}
-use Rattle.sch_flat_reading.proofs.Kids.{Items, Pairs, Taken, none_left, take_if}
+use Rattle.sch_flat_reading.proofs.Kids.{Items, Pairs, none_left, take_if}
 use Rattle.sch_flat_reading.proofs.Leaves.{AreKids}
 use Rattle.sch_flat_reading.proofs.Places.{Place, Read, read_element}
 use Rattle.sch_flat_reading.proofs.TreeBlocks.{told}

@@ -1,9 +1,9 @@
 -- The patterns of a schema, as they are read.
-use Rattle.std.proofs.Common.{◌≡◌, ℕ, List, [], ◌∷◌, ◌++◌, map, refl, sym, ap, ◌∙◌}
+use Rattle.std.proofs.Common.{◌≡◌, map, refl, ap, ◌∙◌}
 use Rattle.std.specs.List.{flat_map}
 use Rattle.doc_tree.specs.Laws.{HasWaysUp, Ordered, Walks, WellFormed}
 use Rattle.doc_tree.specs.Scope.{HasScopes}
-use Rattle.doc_tree.specs.Table.{Table, kids_of}
+use Rattle.doc_tree.specs.Table.{Table}
 use Rattle.name_scopes.specs.ScopedTree.{Scoped}
 use Rattle.name_scopes.specs.Scoping.{InScope}
 use Rattle.sch_model.specs.declared.flat.FlatSchema.{FlatSchema}
@@ -11,7 +11,7 @@ use Rattle.sch_rules.specs.declared.word.Word.TheVariants as word
 use Rattle.sch_rules.specs.RawSchema.{pattern_of, raw_schema, read_if, read_kids}
 use Rattle.sch_flat.specs.FlatDocument.{flat_events, pattern_events}
 use Rattle.sch_flat_laws.specs.Expansion.{raw_pattern}
-use Rattle.sch_flat_reading.specs.Placeless.{placeless_pattern}
+use Rattle.sch_model.specs.Placeless.{placeless_pattern}
 use Rattle.sch_flat_reading.specs.Readable.{Each, ReadablePattern}
 use Rattle.sch_flat_reading.proofs.Document.{found}
 use Rattle.sch_flat_reading.proofs.Front.{words}

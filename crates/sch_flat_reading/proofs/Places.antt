@@ -1,18 +1,14 @@
 -- Elements of a schema's document, and where they stand.
-use Rattle.std.proofs.Common.{◌≡◌, ℕ, Bool, true, false, not, ◌&&◌, ◌||◌, cond, List, [], ◌∷◌, ◌++◌, Option, None, Some, map, refl, sym, ap, ◌∙◌, subst}
+use Rattle.std.proofs.Common.{◌≡◌, ℕ, Bool, true, false, not, ◌||◌, cond, List, [], ◌∷◌, ◌++◌, Option, None, Some, map, refl, sym, ap, ◌∙◌, subst}
 use Rattle.std.specs.List.{flat_map, list_any}
 use Rattle.std.specs.Prelude.{codes, option_and_then}
 use Rattle.std.specs.Str.{bytes_eq}
-use Rattle.doc_tree.specs.kind.Kind.TheVariants as kind
 use Rattle.doc_tree.specs.Kinds.{can_be_kid}
 use Rattle.doc_tree.specs.Laws.{HasWaysUp, Walks, WellFormed}
-use Rattle.doc_tree.specs.Lists.{mem}
 use Rattle.doc_tree.specs.Scope.{Decl, HasScopes, namespace_in, scope_at, xml_prefix, xmlns_prefix}
-use Rattle.doc_tree.specs.Table.{Table, Name, Content, element, attrs_of, content_of, decls_at, kids_of, kind_of, parent_of}
+use Rattle.doc_tree.specs.Table.{Table, Name, Content, attrs_of, content_of, decls_at, kids_of, kind_of, parent_of}
 use Rattle.doc_tree.specs.Walks.{characters_in}
 use Rattle.name_scopes.proofs.ItemNames.{local-at, prefix-at}
-use Rattle.name_scopes.specs.Declarations.{declarations, plain_attrs}
-use Rattle.name_scopes.specs.QNames.{as_written}
 use Rattle.name_scopes.specs.ScopedTree.{attribute_line}
 use Rattle.name_scopes.specs.Scoping.{ContentInScope, ElementInScope, InScope}
 use Rattle.pyx_core.specs.declared.event.Attr.{Attr}
@@ -22,7 +18,7 @@ use Rattle.sch_flat.specs.FlatDocument.{element as sch_element, only_given}
 use Rattle.sch_rules.specs.Attributes.{said as said_at}
 use Rattle.sch_rules.specs.Elements.{element_name, is_foreign, is_ignored, is_other_name, local_in, word_at}
 use Rattle.sch_rules.specs.Words.{schematron, word_of}
-use Rattle.sch_flat_reading.proofs.Attributes.{AllPlain, SayAll, all_plain, are_plain, given_in, given_is, said_in, said_is, say_all}
+use Rattle.sch_flat_reading.proofs.Attributes.{SayAll, all_plain, are_plain, given_in, given_is, said_is, say_all}
 use Rattle.sch_flat_reading.proofs.Elements.{IsElement, is_element}
 use Rattle.sch_flat_reading.proofs.EventBlocks.{Holds, said}
 use Rattle.sch_flat_reading.proofs.Kids.{Items}

@@ -1,6 +1,6 @@
 -- Assertions, rules and patterns, as they are read.
-use Rattle.std.proofs.Common.{◌≡◌, ℕ, Bool, true, false, cond, List, [], ◌∷◌, ◌++◌, Option, None, Some, map, refl, sym, ap, ◌∙◌, subst, append-nil}
-use Rattle.std.specs.List.{flat_map, list_all}
+use Rattle.std.proofs.Common.{◌≡◌, ℕ, Bool, true, false, cond, List, [], ◌∷◌, ◌++◌, Some, map, refl, sym, ap, ◌∙◌, subst, append-nil}
+use Rattle.std.specs.List.{flat_map}
 use Rattle.std.specs.Prelude.{codes}
 use Rattle.std.specs.Option.{option_map_or}
 use Rattle.std.proofs.lemmas.Grind.{flat_map-append}
@@ -15,28 +15,23 @@ use Rattle.sch_model.specs.declared.flat.FlatPattern.{FlatPattern}
 use Rattle.sch_model.specs.declared.flat.FlatRule.{FlatRule}
 use Rattle.sch_model.specs.declared.parts.Assertion.{Assertion}
 use Rattle.sch_model.specs.declared.parts.LetDecl.{LetDecl}
-use Rattle.sch_model.specs.declared.parts.Part.{Part}
-use Rattle.sch_model.specs.declared.raw.RawItem.{RawItem}
 use Rattle.sch_model.specs.declared.raw.RawItem.TheVariants as item
-use Rattle.sch_model.specs.declared.raw.RawPattern.{RawPattern}
-use Rattle.sch_model.specs.declared.raw.RawRule.{RawRule}
 use Rattle.sch_rules.specs.declared.word.Word.{Word}
 use Rattle.sch_rules.specs.declared.word.Word.TheVariants as word
-use Rattle.sch_rules.specs.Attributes.{is_true, said as said_at}
 use Rattle.sch_rules.specs.Elements.{is_ignored, word_above, word_at}
-use Rattle.sch_rules.specs.RawSchema.{assertion_of, chars_part, holds_text, ids_in, item_at, item_of, let_of, message_of, own_part, param_of, part_at, pattern_of, read_if, read_kids, rule_of, text_at}
-use Rattle.sch_rules.specs.Words.{has_text as has_text_word, is_word, word_of}
+use Rattle.sch_rules.specs.RawSchema.{assertion_of, holds_text, ids_in, item_at, item_of, let_of, param_of, part_at, pattern_of, read_if, read_kids, rule_of, text_at}
+use Rattle.sch_rules.specs.Words.{is_word, word_of}
 use Rattle.sch_flat.specs.FlatDocument.{assertion_attributes, assertion_events, assertion_name, element as sch_element, id_list, let_events, part_events, pattern_events, rule_events, spaced}
 use Rattle.sch_flat_laws.specs.Expansion.{raw_pattern, raw_rule}
-use Rattle.sch_flat_reading.specs.Placeless.{is_some_part, placeless_assertion, placeless_item, placeless_let, placeless_part, placeless_pattern, placeless_rule}
+use Rattle.sch_model.specs.Placeless.{placeless_assertion, placeless_item, placeless_let, placeless_pattern, placeless_rule}
 use Rattle.sch_flat_reading.specs.Readable.{Each, ReadableAssertion, ReadablePattern, ReadableRule}
-use Rattle.sch_flat_reading.proofs.Document.{are_kids, kid_items}
-use Rattle.sch_flat_reading.proofs.EventBlocks.{Chunk, Holds, assertion_chunk, holds_all, holds_append, holds_some, let_chunk, part_holds, rule_chunk, said, said_append}
-use Rattle.sch_flat_reading.proofs.Kids.{Items, Pairs, Taken, none_left, take_pairs}
-use Rattle.sch_flat_reading.proofs.Leaves.{AllRead, AreKids, ReadAs, all_read, let_read, read_all}
+use Rattle.sch_flat_reading.proofs.Document.{are_kids}
+use Rattle.sch_flat_reading.proofs.EventBlocks.{assertion_chunk, holds_all, holds_append, holds_some, let_chunk, part_holds, rule_chunk, said, said_append}
+use Rattle.sch_flat_reading.proofs.Kids.{Items, Pairs, none_left, take_pairs}
+use Rattle.sch_flat_reading.proofs.Leaves.{AreKids, all_read, let_read, read_all}
 use Rattle.sch_flat_reading.proofs.Messages.{either_nothing, map_append, message_read}
-use Rattle.sch_flat_reading.proofs.Places.{Place, Read, read_element}
-use Rattle.sch_flat_reading.proofs.Schema.{AllWords, all_words, kids_parts, none_of, skip, stop}
+use Rattle.sch_flat_reading.proofs.Places.{Place, read_element}
+use Rattle.sch_flat_reading.proofs.Schema.{all_words, kids_parts, none_of, skip, stop}
 use Rattle.sch_flat_reading.proofs.TreeBlocks.{told}
 
 -- a node that is read under this word as what another thing says, but for places

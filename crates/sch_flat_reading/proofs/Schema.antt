@@ -1,5 +1,5 @@
 -- What the document element holds, as it is read.
-use Rattle.std.proofs.Common.{◌≡◌, ℕ, Bool, true, false, cond, List, [], ◌∷◌, ◌++◌, Option, None, Some, map, refl, sym, ap, ◌∙◌, subst, append-nil, append_assoc}
+use Rattle.std.proofs.Common.{◌≡◌, ℕ, Bool, true, false, cond, List, [], ◌∷◌, ◌++◌, Some, map, refl, sym, ap, ◌∙◌, subst, append-nil}
 use Rattle.std.specs.List.{flat_map}
 use Rattle.std.specs.Prelude.{codes}
 use Rattle.std.specs.Option.{option_to_list}
@@ -8,7 +8,6 @@ use Rattle.doc_tree.specs.Kinds.{can_be_kid}
 use Rattle.doc_tree.specs.Laws.{HasWaysUp, Walks, WellFormed}
 use Rattle.doc_tree.specs.Scope.{HasScopes, xmlns_prefix}
 use Rattle.doc_tree.specs.Table.{Table, kids_of, kind_of, parent_of}
-use Rattle.name_scopes.specs.ScopedTree.{Scoped}
 use Rattle.name_scopes.specs.Scoping.{InScope}
 use Rattle.pyx_core.specs.declared.event.Event.{Event}
 use Rattle.sch_model.specs.declared.flat.FlatPattern.{FlatPattern}
@@ -16,20 +15,19 @@ use Rattle.sch_model.specs.declared.flat.FlatSchema.{FlatSchema}
 use Rattle.sch_model.specs.declared.parts.Active.{Active}
 use Rattle.sch_model.specs.declared.parts.Diagnostic.{Diagnostic}
 use Rattle.sch_model.specs.declared.parts.LetDecl.{LetDecl}
-use Rattle.sch_model.specs.declared.parts.Ns.{Ns}
 use Rattle.sch_model.specs.declared.parts.Phase.{Phase}
 use Rattle.sch_rules.specs.declared.word.Word.{Word}
 use Rattle.sch_rules.specs.declared.word.Word.TheVariants as word
 use Rattle.sch_rules.specs.Elements.{word_at}
-use Rattle.sch_rules.specs.RawSchema.{active_of, let_of, ns_of, phase_of, read_if, read_kids}
+use Rattle.sch_rules.specs.RawSchema.{active_of, let_of, phase_of, read_if, read_kids}
 use Rattle.sch_rules.specs.Words.{is_word, word_of}
-use Rattle.sch_flat.specs.FlatDocument.{active_events, characters, diagnostic_events, diagnostics_events, flat_events, held_events, let_events, ns_events, pattern_events, phase_events, rule_events, title_events}
-use Rattle.sch_flat_reading.specs.Placeless.{placeless_active, placeless_let, placeless_ns, placeless_phase}
-use Rattle.sch_flat_reading.proofs.Document.{Found, are_kids, diagnostics_chunk, diagnostics_element, diagnostics_is, kid_items, some_list, title_chunk, title_element, title_is}
-use Rattle.sch_flat_reading.proofs.EventBlocks.{Chunk, Holds, active_chunk, diagnostic_chunk, holds_all, holds_append, holds_characters, let_chunk, ns_chunk, pattern_chunk, phase_chunk, rule_chunk, said, said_append}
-use Rattle.sch_flat_reading.proofs.Kids.{Items, Pairs, Taken, none_left, take_pairs}
-use Rattle.sch_flat_reading.proofs.Leaves.{AllRead, AreKids, ReadAs, active_read, all_read, let_read, ns_read, read_all}
-use Rattle.sch_flat_reading.proofs.Places.{Place, Read, read_element}
+use Rattle.sch_flat.specs.FlatDocument.{active_events, characters, diagnostic_events, diagnostics_events, held_events, let_events, ns_events, pattern_events, phase_events, rule_events, title_events}
+use Rattle.sch_model.specs.Placeless.{placeless_active, placeless_let, placeless_phase}
+use Rattle.sch_flat_reading.proofs.Document.{are_kids, diagnostics_chunk, diagnostics_element, diagnostics_is, kid_items, some_list, title_chunk, title_element, title_is}
+use Rattle.sch_flat_reading.proofs.EventBlocks.{active_chunk, diagnostic_chunk, holds_all, holds_append, holds_characters, let_chunk, ns_chunk, pattern_chunk, phase_chunk, rule_chunk, said, said_append}
+use Rattle.sch_flat_reading.proofs.Kids.{Items, Pairs, none_left, take_pairs}
+use Rattle.sch_flat_reading.proofs.Leaves.{AreKids, ReadAs, active_read, all_read, let_read, read_all}
+use Rattle.sch_flat_reading.proofs.Places.{Place, read_element}
 use Rattle.sch_flat_reading.proofs.TreeBlocks.{told}
 
 pub kids_parts : (T : Table) (n : ℕ) (xs ys : List ℕ) → AreKids T n (xs ++ ys) → AreKids T n xs × AreKids T n ys

@@ -1,5 +1,5 @@
 -- The lines of a node and all below it are those of one item.
-use Rattle.std.proofs.Common.{arith, ◌≡◌, ℕ, zero, suc, ◌+◌, ◌≤◌, Bool, true, false, List, [], ◌∷◌, ◌++◌, length, map, Option, None, Some, refl, sym, ap, ◌∙◌, subst, append-nil, append_assoc}
+use Rattle.std.proofs.Common.{arith, ◌≡◌, ℕ, zero, suc, ◌+◌, ◌≤◌, true, List, [], ◌∷◌, ◌++◌, length, map, Option, None, Some, refl, sym, ap, ◌∙◌, subst, append-nil}
 use Rattle.std.specs.List.{flat_map, list_all}
 use Rattle.std.proofs.lemmas.Bool.{and_from}
 use Rattle.std.proofs.lemmas.List.Folds.{list_all-append}
@@ -8,10 +8,10 @@ use Rattle.doc_tree.specs.kind.Kind.TheVariants as kind
 use Rattle.doc_tree.specs.Kinds.{can_be_kid, holds_kids}
 use Rattle.doc_tree.specs.Laws.{HasWaysUp, Walks, WellFormed}
 use Rattle.doc_tree.specs.limits.TheConstants.{MAX_DEPTH}
-use Rattle.doc_tree.specs.Lines.{Line, starts, declares, has_attribute, ends, has_text, has_comment, has_instruction, closes, first_lines, last_lines, lines_at, lines_below, opens}
+use Rattle.doc_tree.specs.Lines.{Line, declares, closes, first_lines, last_lines, lines_at, lines_below, opens}
 use Rattle.doc_tree.specs.Lists.{mem}
 use Rattle.doc_tree.specs.Scope.{Decl}
-use Rattle.doc_tree.specs.Table.{Table, Content, root, element, attribute, text, comment, instruction, attrs_of, content_of, kids_of, kind_at, kind_of, parent_of}
+use Rattle.doc_tree.specs.Table.{Table, Content, root, element, attribute, text, comment, instruction, attrs_of, content_of, kids_of, kind_at, kind_of}
 use Rattle.doc_tree.specs.Walks.{ancestors}
 use Rattle.name_scopes.specs.ScopedTree.{unscoped}
 use Rattle.sch_flat_reading.proofs.Blocks.{Block, Inner, attributes_quiet, comment_block, element_block, inner_append, inner_nil, instruction_block, is_attribute, is_quiet, text_block}

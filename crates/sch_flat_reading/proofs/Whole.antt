@@ -1,7 +1,7 @@
 -- The whole schema, as it is read.
-use Rattle.std.proofs.Common.{◌≡◌, ℕ, Bool, true, false, cond, List, [], ◌∷◌, ◌++◌, Option, None, Some, map, find, refl, sym, ap, ◌∙◌, append-nil}
+use Rattle.std.proofs.Common.{◌≡◌, ℕ, Bool, cond, List, [], ◌∷◌, ◌++◌, Option, None, Some, map, find, refl, sym, ap, ◌∙◌, append-nil}
 use Rattle.std.specs.List.{flat_map}
-use Rattle.std.specs.Prelude.{codes, option_map}
+use Rattle.std.specs.Prelude.{option_map}
 use Rattle.std.specs.Option.{option_to_list}
 use Rattle.doc_tree.specs.Laws.{HasWaysUp, Ordered, Walks, WellFormed}
 use Rattle.doc_tree.specs.Scope.{HasScopes}
@@ -15,23 +15,22 @@ use Rattle.sch_model.specs.declared.parts.Ns.{Ns}
 use Rattle.sch_model.specs.declared.parts.Phase.{Phase}
 use Rattle.sch_model.specs.declared.raw.RawPattern.{RawPattern}
 use Rattle.sch_model.specs.declared.raw.RawSchema.{RawSchema}
-use Rattle.sch_rules.specs.declared.word.Word.{Word}
 use Rattle.sch_rules.specs.declared.word.Word.TheVariants as word
 use Rattle.sch_rules.specs.Elements.{word_at}
 use Rattle.sch_rules.specs.RawSchema.{diagnostics_at, raw_schema, title_of}
 use Rattle.sch_rules.specs.Words.{is_word}
 use Rattle.sch_flat.specs.FlatDocument.{flat_events}
 use Rattle.sch_flat_laws.specs.Expansion.{raw_of}
-use Rattle.sch_flat_reading.specs.Placeless.{placeless_diagnostic, placeless_let, placeless_ns, placeless_pattern, placeless_phase, placeless_schema}
-use Rattle.sch_flat_reading.specs.Readable.{Each, ReadableSchema}
-use Rattle.sch_flat_reading.proofs.Document.{Found, found, some_list, title_element}
+use Rattle.sch_model.specs.Placeless.{placeless_diagnostic, placeless_let, placeless_ns, placeless_pattern, placeless_phase, placeless_schema}
+use Rattle.sch_flat_reading.specs.Readable.{ReadableSchema}
+use Rattle.sch_flat_reading.proofs.Document.{found, title_element}
 use Rattle.sch_flat_reading.proofs.Ends.{diagnostics_read, no_diagnostics_at, not_found, title_read}
-use Rattle.sch_flat_reading.proofs.Front.{Words, front, words}
+use Rattle.sch_flat_reading.proofs.Front.{front, words}
 use Rattle.sch_flat_reading.proofs.Kids.{Pairs}
 use Rattle.sch_flat_reading.proofs.Leaves.{AreKids}
 use Rattle.sch_flat_reading.proofs.Patterns.{patterns}
 use Rattle.sch_flat_reading.proofs.Places.{Place}
-use Rattle.sch_flat_reading.proofs.Schema.{AllWords, Pieces, both_none, pieces, skip}
+use Rattle.sch_flat_reading.proofs.Schema.{AllWords, pieces, skip}
 
 of_parts : Option (List ℕ) → Option (List ℕ) → Option (List ℕ) → List Ns → List LetDecl → List Phase → List RawPattern → List Diagnostic → RawSchema
 of_parts version phase title ns lets phases patterns diagnostics = record {

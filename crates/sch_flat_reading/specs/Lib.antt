@@ -1,4 +1,3 @@
 pub mod Again
-pub mod Placeless
 pub mod ReadBack
 pub mod Readable

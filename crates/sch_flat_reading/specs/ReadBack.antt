@@ -7,7 +7,7 @@ use Rattle.sch_model.specs.declared.raw.RawSchema.{RawSchema}
 use Rattle.sch_rules.specs.RawSchema.{raw_schema}
 use Rattle.sch_flat.specs.FlatDocument.{flat_events}
 use Rattle.sch_flat_laws.specs.Expansion.{raw_of}
-use Rattle.sch_flat_reading.specs.Placeless.{placeless_let, placeless_ns, placeless_phase, placeless_schema}
+use Rattle.sch_model.specs.Placeless.{placeless_let, placeless_ns, placeless_phase, placeless_schema}
 use Rattle.sch_flat_reading.specs.Readable.{ReadableSchema}
 
 -- what a schema says of itself, its prefixes, its lets and its phases are the same but for places

@@ -9,7 +9,7 @@ use Rattle.sch_model.specs.declared.parts.Diagnostic.{Diagnostic}
 use Rattle.sch_rules.specs.RawSchema.{ids_in}
 use Rattle.sch_flat.specs.FlatDocument.{spaced}
 use Rattle.sch_flat_laws.specs.Joined.{are_joined}
-use Rattle.sch_flat_reading.specs.Placeless.{is_some_part}
+use Rattle.sch_model.specs.Placeless.{is_some_part}
 
 -- each item of a list
 abbrev pub Each : {A : Type 0} → (A → Type 0) → List A → Type 0

@@ -1,5 +1,5 @@
 -- Whether a schema's names have their forms doesn't depend on the places of its parts.
-use Rattle.std.proofs.Common.{◌≡◌, List, [], ◌∷◌, map, refl, sym, subst}
+use Rattle.std.proofs.Common.{◌≡◌, List, map, refl, sym, subst}
 use Rattle.std.specs.List.{IsDistinct, flat_map}
 use Rattle.std.specs.Str.{bytes_eq}
 use Rattle.sch_model.specs.declared.flat.FlatPattern.{FlatPattern}
@@ -9,20 +9,11 @@ use Rattle.sch_model.specs.declared.parts.Diagnostic.{Diagnostic}
 use Rattle.sch_model.specs.declared.parts.LetDecl.{LetDecl}
 use Rattle.sch_model.specs.declared.parts.Ns.{Ns}
 use Rattle.sch_model.specs.declared.parts.Phase.{Phase}
-use Rattle.sch_flat_reading.specs.Again.{placeless_flat, placeless_flat_pattern, placeless_flat_rule}
-use Rattle.sch_flat_reading.specs.Placeless.{placeless_diagnostic, placeless_let, placeless_ns, placeless_phase}
+use Rattle.sch_model.specs.Placeless.{placeless_diagnostic, placeless_flat, placeless_flat_pattern, placeless_flat_rule, placeless_let, placeless_ns, placeless_phase}
 use Rattle.sch_flat_reading.specs.Readable.{Each}
 use Rattle.sch_flat_rules.specs.Allowed.{Allowed, AllowedDiagnostic, AllowedLet, AllowedNs, AllowedPattern, AllowedPhase, AllowedRule, pattern_ids}
 use Rattle.sch_flat_rules.proofs.Forgotten.{same_over}
-use Rattle.sch_flat_rules.proofs.Referring.{names_over}
-
-forget-each : {A : Type 0} (P : A → Type 0) (forget : A → A) → ((x : A) → P x → P (forget x)) → (xs : List A) → Each P xs → Each P (map forget xs)
-forget-each P forget to [] h = tt
-forget-each P forget to (x ∷ xs) h = (to x h.0, forget-each P forget to xs h.1)
-
-recall-each : {A : Type 0} (P : A → Type 0) (forget : A → A) → ((x : A) → P (forget x) → P x) → (xs : List A) → Each P (map forget xs) → Each P xs
-recall-each P forget from [] h = tt
-recall-each P forget from (x ∷ xs) h = (from x h.0, recall-each P forget from xs h.1)
+use Rattle.sch_flat_rules.proofs.Referring.{forget_each, names_over, recall_each}
 
 forget-ns : (ns : Ns) → AllowedNs ns → AllowedNs (placeless_ns ns)
 forget-ns ns h = record { prefix = h.prefix; uri = h.uri; binding = h.binding }
@@ -31,10 +22,10 @@ recall-ns : (ns : Ns) → AllowedNs (placeless_ns ns) → AllowedNs ns
 recall-ns ns h = record { prefix = h.prefix; uri = h.uri; binding = h.binding }
 
 forget-lets : (lets : List LetDecl) → Each AllowedLet lets → Each AllowedLet (map placeless_let lets)
-forget-lets lets h = forget-each AllowedLet placeless_let (λ x is. is) lets h
+forget-lets lets h = forget_each AllowedLet placeless_let (λ x is. is) lets h
 
 recall-lets : (lets : List LetDecl) → Each AllowedLet (map placeless_let lets) → Each AllowedLet lets
-recall-lets lets h = recall-each AllowedLet placeless_let (λ x is. is) lets h
+recall-lets lets h = recall_each AllowedLet placeless_let (λ x is. is) lets h
 
 forget-phase : (phase : Phase) → AllowedPhase phase → AllowedPhase (placeless_phase phase)
 forget-phase phase h = record { id = h.id; lets = forget-lets phase.lets h.lets }
@@ -46,14 +37,14 @@ forget-pattern : (pattern : FlatPattern) → AllowedPattern pattern → AllowedP
 forget-pattern pattern h = record {
   id = h.id;
   lets = forget-lets pattern.lets h.lets;
-  rules = forget-each AllowedRule placeless_flat_rule (λ (rule : FlatRule) is. forget-lets rule.lets is) pattern.rules h.rules;
+  rules = forget_each AllowedRule placeless_flat_rule (λ (rule : FlatRule) is. forget-lets rule.lets is) pattern.rules h.rules;
 }
 
 recall-pattern : (pattern : FlatPattern) → AllowedPattern (placeless_flat_pattern pattern) → AllowedPattern pattern
 recall-pattern pattern h = record {
   id = h.id;
   lets = recall-lets pattern.lets h.lets;
-  rules = recall-each AllowedRule placeless_flat_rule (λ (rule : FlatRule) is. recall-lets rule.lets is) pattern.rules h.rules;
+  rules = recall_each AllowedRule placeless_flat_rule (λ (rule : FlatRule) is. recall-lets rule.lets is) pattern.rules h.rules;
 }
 
 -- the names are the same
@@ -71,11 +62,11 @@ diagnostics-same schema = names_over (λ (x : Diagnostic). x.id) (λ (x : Diagno
 
 allowed-forgets : (schema : FlatSchema) → Allowed schema → Allowed (placeless_flat schema)
 allowed-forgets schema h = record {
-  ns = forget-each AllowedNs placeless_ns forget-ns schema.ns h.ns;
+  ns = forget_each AllowedNs placeless_ns forget-ns schema.ns h.ns;
   lets = forget-lets schema.lets h.lets;
-  phases = forget-each AllowedPhase placeless_phase forget-phase schema.phases h.phases;
-  patterns = forget-each AllowedPattern placeless_flat_pattern forget-pattern schema.patterns h.patterns;
-  diagnostics = forget-each AllowedDiagnostic placeless_diagnostic (λ x is. is) schema.diagnostics h.diagnostics;
+  phases = forget_each AllowedPhase placeless_phase forget-phase schema.phases h.phases;
+  patterns = forget_each AllowedPattern placeless_flat_pattern forget-pattern schema.patterns h.patterns;
+  diagnostics = forget_each AllowedDiagnostic placeless_diagnostic (λ x is. is) schema.diagnostics h.diagnostics;
   prefixes_differ = subst (IsDistinct bytes_eq) (sym (prefixes-same schema)) h.prefixes_differ;
   phases_differ = subst (IsDistinct bytes_eq) (sym (phases-same schema)) h.phases_differ;
   patterns_differ = subst (IsDistinct bytes_eq) (sym (patterns-same schema)) h.patterns_differ;
@@ -84,11 +75,11 @@ allowed-forgets schema h = record {
 
 allowed-recalls : (schema : FlatSchema) → Allowed (placeless_flat schema) → Allowed schema
 allowed-recalls schema h = record {
-  ns = recall-each AllowedNs placeless_ns recall-ns schema.ns h.ns;
+  ns = recall_each AllowedNs placeless_ns recall-ns schema.ns h.ns;
   lets = recall-lets schema.lets h.lets;
-  phases = recall-each AllowedPhase placeless_phase recall-phase schema.phases h.phases;
-  patterns = recall-each AllowedPattern placeless_flat_pattern recall-pattern schema.patterns h.patterns;
-  diagnostics = recall-each AllowedDiagnostic placeless_diagnostic (λ x is. is) schema.diagnostics h.diagnostics;
+  phases = recall_each AllowedPhase placeless_phase recall-phase schema.phases h.phases;
+  patterns = recall_each AllowedPattern placeless_flat_pattern recall-pattern schema.patterns h.patterns;
+  diagnostics = recall_each AllowedDiagnostic placeless_diagnostic (λ x is. is) schema.diagnostics h.diagnostics;
   prefixes_differ = subst (IsDistinct bytes_eq) (prefixes-same schema) h.prefixes_differ;
   phases_differ = subst (IsDistinct bytes_eq) (phases-same schema) h.phases_differ;
   patterns_differ = subst (IsDistinct bytes_eq) (patterns-same schema) h.patterns_differ;

@@ -1,8 +1,8 @@
 -- No name that is read of a document that breaks no rule is used twice.
-use Rattle.std.proofs.Common.{◌≡◌, ℕ, Bool, true, false, cond, List, [], ◌∷◌, ◌++◌, Option, None, Some, map, refl, sym, ap, ◌∙◌, subst, append-nil}
+use Rattle.std.proofs.Common.{◌≡◌, ℕ, Bool, true, false, not, cond, List, [], ◌∷◌, ◌++◌, Option, None, Some, map, refl, sym, ap, ap₂, ◌∙◌, subst, append-nil}
 use Rattle.std.specs.List.{IsDistinct, flat_map}
 use Rattle.std.specs.Option.{option_to_list}
-use Rattle.std.specs.Prelude.{codes}
+use Rattle.std.specs.Prelude.{codes, filter}
 use Rattle.std.specs.Str.{bytes_eq}
 use Rattle.std.proofs.lemmas.Grind.{flat_map-append}
 use Rattle.doc_table.proofs.ListLemmas.{mem-head, mem-tail}
@@ -14,6 +14,7 @@ use Rattle.sch_model.specs.declared.parts.Diagnostic.{Diagnostic}
 use Rattle.sch_model.specs.declared.parts.Ns.{Ns}
 use Rattle.sch_model.specs.declared.parts.Phase.{Phase}
 use Rattle.sch_model.specs.declared.raw.RawPattern.{RawPattern}
+use Rattle.sch_model.specs.declared.raw.RawSchema.{RawSchema}
 use Rattle.sch_rules.specs.declared.named.Named.{Named}
 use Rattle.sch_rules.specs.declared.named.Named.TheVariants as named
 use Rattle.sch_rules.specs.declared.word.Word.{Word}
@@ -24,20 +25,41 @@ use Rattle.sch_rules.specs.FirstBroken.{first_broken}
 use Rattle.sch_rules.specs.Keys.{Key, keys_at, keys_for, keys_of}
 use Rattle.sch_rules.specs.RawSchema.{diagnostic_of, diagnostics_at, ns_of, pattern_of, phase_of, raw_schema, read_if, read_kids}
 use Rattle.sch_rules.specs.Words.{is_word}
-use Rattle.sch_abstract.specs.Flat.{flat_pattern, flat_schema}
+use Rattle.sch_expansion.specs.Flat.{concrete_patterns, flat_pattern, flat_schema}
 use Rattle.sch_flat_rules.specs.Allowed.{Allowed, pattern_ids}
-use Rattle.sch_flat_rules.proofs.AllowedParts.{diagnostics_allowed, lets_allowed, ns_allowed, patterns_allowed, phases_allowed}
+use Rattle.sch_flat_rules.proofs.AllowedParts.{diagnostics_allowed, lets_allowed, ns_allowed, patterns_allowed, patterns_stand, phases_allowed}
 use Rattle.sch_flat_rules.proofs.Counting.{Counted, document_counted, held, kid_counted}
 use Rattle.sch_flat_rules.proofs.KeyLemmas.{keys_of_kind, keys_append, one_each}
 use Rattle.sch_flat_rules.proofs.Runs.{Differ, Within, differ_within, kind_distinct, new_differ, within_both, within_front, within_later, within_more}
 use Rattle.sch_flat_rules.proofs.Saying.{present}
+use Rattle.sch_flat_rules.proofs.Standing.{flat_id}
 use Rattle.sch_flat_rules.proofs.Unbroken.{new_over}
 use Rattle.sch_flat_rules.proofs.WordLemmas.{the_word}
 
--- ids of flat patterns
-flat-ids : (patterns : List RawPattern) → flat_map pattern_ids (map flat_pattern patterns) ≡ flat_map (λ (x : RawPattern). option_to_list x.id) patterns
-flat-ids [] = refl
-flat-ids (x ∷ patterns) = ap (λ l. option_to_list x.id ++ l) (flat-ids patterns)
+-- ids of flat patterns: those of the patterns that aren't abstract
+abbrev raw-ids : List RawPattern → List (List ℕ)
+raw-ids patterns = flat_map (λ (x : RawPattern). option_to_list x.id) patterns
+
+flat-ids : (schema : RawSchema) (patterns : List RawPattern) → flat_map pattern_ids (map (flat_pattern schema) patterns) ≡ raw-ids patterns
+flat-ids schema [] = refl
+flat-ids schema (x ∷ patterns) = ap₂ (λ id l. option_to_list id ++ l) (flat_id schema x) (flat-ids schema patterns)
+
+all-within : {A : Type 0} (xs : List A) → Within xs xs
+all-within xs = subst (Within xs) (append-nil xs) (within_front xs [])
+
+kept-within : (kind : Named) (test : RawPattern → Bool) (patterns : List RawPattern) → Within (keys_of_kind kind (raw-ids (filter test patterns))) (keys_of_kind kind (raw-ids patterns))
+kept-within kind test [] = tt
+kept-within kind test (x ∷ patterns) =
+    subst (Within (keys_of_kind kind (raw-ids (filter test (x ∷ patterns))))) (sym (keys_append kind (option_to_list x.id) (raw-ids patterns)))
+    (by (test x) (kept-within kind test patterns))
+  where
+    by : (b : Bool) → Within (keys_of_kind kind (raw-ids (filter test patterns))) (keys_of_kind kind (raw-ids patterns)) →
+        Within (keys_of_kind kind (raw-ids (cond b (x ∷ filter test patterns) (filter test patterns)))) (keys_of_kind kind (option_to_list x.id) ++ keys_of_kind kind (raw-ids patterns))
+    by true rest =
+        subst (λ l. Within l (keys_of_kind kind (option_to_list x.id) ++ keys_of_kind kind (raw-ids patterns))) (sym (keys_append kind (option_to_list x.id) (raw-ids (filter test patterns))))
+        (within_both (keys_of_kind kind (option_to_list x.id)) (keys_of_kind kind (option_to_list x.id)) (keys_of_kind kind (raw-ids (filter test patterns))) (keys_of_kind kind (raw-ids patterns))
+        (all-within (keys_of_kind kind (option_to_list x.id))) rest)
+    by false rest = within_later (keys_of_kind kind (raw-ids (filter test patterns))) (keys_of_kind kind (option_to_list x.id)) (keys_of_kind kind (raw-ids patterns)) rest
 
 named-keys : (kind : Named) (name : Option (List ℕ)) → keys_for kind 0 name ≡ keys_of_kind kind (option_to_list name)
 named-keys kind None = refl
@@ -147,7 +169,7 @@ module _ (T : Table) (formed : WellFormed T) (ordered : Ordered T) (ways : HasWa
         ns = ns_allowed T formed ordered ways none d counted;
         lets = lets_allowed T formed ordered ways none d counted;
         phases = phases_allowed T formed ordered ways none d counted;
-        patterns = patterns_allowed T formed ordered ways none d counted;
+        patterns = patterns_stand schema (patterns_allowed T formed ordered ways none d counted);
         diagnostics = diagnostics_allowed T formed ordered ways none d counted;
         prefixes_differ = subst (IsDistinct bytes_eq) (one_each (λ (x : Ns). x.prefix) schema.ns)
             (kind_distinct named.Prefix refl (flat_map (λ (x : Ns). x.prefix ∷ []) schema.ns)
@@ -155,9 +177,11 @@ module _ (T : Table) (formed : WellFormed T) (ordered : Ordered T) (ways : HasWa
         phases_differ = subst (IsDistinct bytes_eq) (one_each (λ (x : Phase). x.id) schema.phases)
             (kind_distinct named.Phase refl (flat_map (λ (x : Phase). x.id ∷ []) schema.phases)
             (names-differ d counted _ (read_within named.Phase (λ (x : Phase). x.id ∷ []) word.Phase (phase_of T) d counted phase-keys)));
-        patterns_differ = subst (IsDistinct bytes_eq) (sym (flat-ids schema.patterns))
-            (kind_distinct named.Pattern refl (flat_map (λ (x : RawPattern). option_to_list x.id) schema.patterns)
-            (names-differ d counted _ (read_within named.Pattern (λ (x : RawPattern). option_to_list x.id) word.Pattern (pattern_of T) d counted pattern-keys)));
+        patterns_differ = subst (IsDistinct bytes_eq) (sym (flat-ids schema (concrete_patterns schema)))
+            (kind_distinct named.Pattern refl (raw-ids (concrete_patterns schema))
+            (differ_within (keys_of_kind named.Pattern (raw-ids (concrete_patterns schema))) (keys_of_kind named.Pattern (raw-ids schema.patterns))
+            (kept-within named.Pattern (λ (pattern : RawPattern). not pattern.is_abstract) schema.patterns)
+            (names-differ d counted _ (read_within named.Pattern (λ (x : RawPattern). option_to_list x.id) word.Pattern (pattern_of T) d counted pattern-keys))));
         diagnostics_differ = subst (IsDistinct bytes_eq) (one_each (λ (x : Diagnostic). x.id) schema.diagnostics)
             (kind_distinct named.Diagnostic refl (flat_map (λ (x : Diagnostic). x.id ∷ []) schema.diagnostics)
             (names-differ d counted _

@@ -1,17 +1,19 @@
 -- The names that are read of a document that breaks no rule have their forms.
-use Rattle.std.proofs.Common.{◌≡◌, ℕ, Bool, true, false, not, ◌||◌, cond, List, [], ◌∷◌, ◌++◌, Option, None, Some, map, refl, sym, subst}
+use Rattle.std.proofs.Common.{◌≡◌, ℕ, Bool, true, false, not, ◌||◌, cond, List, [], ◌∷◌, ◌++◌, Option, None, Some, refl}
 use Rattle.std.specs.List.{flat_map}
 use Rattle.std.specs.Option.{option_to_list}
 use Rattle.std.specs.Prelude.{codes}
 use Rattle.std.specs.Str.{bytes_eq}
-use Rattle.std.proofs.lemmas.Grind.{flat_map-append}
 use Rattle.doc_table.proofs.ListLemmas.{mem-head, mem-tail}
 use Rattle.doc_tree.specs.Laws.{HasWaysUp, Ordered, WellFormed}
 use Rattle.doc_tree.specs.Lists.{mem}
 use Rattle.doc_tree.specs.Table.{Table, kids_of}
 use Rattle.sch_base.specs.Names.{is_ncname}
+use Rattle.sch_model.specs.declared.raw.RawItem.{RawItem}
+use Rattle.sch_model.specs.declared.raw.RawItem.TheVariants as item
 use Rattle.sch_model.specs.declared.raw.RawPattern.{RawPattern}
 use Rattle.sch_model.specs.declared.raw.RawRule.{RawRule}
+use Rattle.sch_model.specs.declared.raw.RawSchema.{RawSchema}
 use Rattle.sch_rules.specs.declared.word.Word.{Word}
 use Rattle.sch_rules.specs.declared.word.Word.TheVariants as word
 use Rattle.sch_rules.specs.Attributes.{said, said_text}
@@ -20,14 +22,15 @@ use Rattle.sch_rules.specs.FirstBroken.{first_broken}
 use Rattle.sch_rules.specs.Rules.{is_bad_binding}
 use Rattle.sch_rules.specs.RawSchema.{diagnostic_of, diagnostics_at, item_at, item_of, let_of, ns_of, pattern_of, phase_of, read_if, read_kids, rule_of}
 use Rattle.sch_rules.specs.Words.{is_word}
-use Rattle.sch_abstract.specs.Flat.{flat_pattern, flat_rule, let_in}
+use Rattle.sch_references.specs.Extends.{abstract_rules}
+use Rattle.sch_expansion.specs.Flat.{flat_schema, let_in, let_with, rule_with}
 use Rattle.sch_flat_reading.specs.Readable.{Each}
 use Rattle.sch_flat_rules.specs.Allowed.{AllowedDiagnostic, AllowedLet, AllowedNs, AllowedPattern, AllowedPhase, AllowedRule, IsName}
 use Rattle.sch_flat_rules.proofs.Counting.{Counted, held, kid_counted}
 use Rattle.sch_flat_rules.proofs.KeyLemmas.{or_parts}
-use Rattle.sch_flat_rules.proofs.Readable.{each_map}
 use Rattle.sch_flat_rules.proofs.Saying.{form_said, present}
 use Rattle.sch_flat_rules.proofs.Sound.{each_append}
+use Rattle.sch_flat_rules.proofs.Standing.{HoldsIn, abstract_hold, each_map, each_to, lets_hold, patterns_hold, rules_hold}
 use Rattle.sch_flat_rules.proofs.Unbroken.{Held}
 use Rattle.sch_flat_rules.proofs.WordLemmas.{the_word}
 
@@ -42,6 +45,31 @@ named-by b rest h = not-not b (or_parts (not b) rest h).0
 some-text : (text : List ℕ) → bytes_eq text [] ≡ false → text ≡ [] → ⊥
 some-text [] h e = cc
 some-text (byte ∷ text) h e = cc
+
+-- an item and a pattern whose names have their forms
+abbrev AllowedItem : RawItem → Type 0
+AllowedItem (item.Let decl) = AllowedLet decl
+AllowedItem (item.Assertion assertion) = Unit {0}
+AllowedItem (item.Extends node name) = Unit {0}
+
+pub record AllowedRaw (pattern : RawPattern) : Type 0 where
+  pub id : Each IsName (option_to_list pattern.id)
+  pub lets : Each AllowedLet pattern.lets
+  pub rules : Each (HoldsIn AllowedItem) pattern.rules
+
+rule-stands : (change : List ℕ → List ℕ) (rule : RawRule) (items : List RawItem) → HoldsIn AllowedItem rule → Each AllowedItem items → AllowedRule (rule_with change rule items)
+rule-stands change rule items own h = each_map AllowedLet (let_with change) (flat_map let_in items) (lets_hold AllowedItem AllowedLet (λ decl is. is) items h)
+
+pub patterns_stand : (schema : RawSchema) → Each AllowedRaw schema.patterns → Each AllowedPattern (flat_schema schema).patterns
+patterns_stand schema each =
+    let rules = abstract_hold AllowedItem schema (each_to AllowedRaw (λ (pattern : RawPattern). Each (HoldsIn AllowedItem) pattern.rules) (λ pattern h. h.rules) schema.patterns each) in
+    patterns_hold schema AllowedRaw AllowedPattern (λ change. Unit {0})
+    (λ change pattern origin any own its. record {
+      id = own.id;
+      lets = each_map AllowedLet (let_with change) origin.lets its.lets;
+      rules = rules_hold AllowedItem (abstract_rules schema) rules change (HoldsIn AllowedItem) AllowedRule (λ rule h. h) (rule-stands change) origin.rules its.rules;
+    })
+    (λ pattern own. record { id = own.id; lets = tt; rules = tt }) tt (λ pattern own. tt) each
 
 module _ (T : Table) (formed : WellFormed T) (ordered : Ordered T) (ways : HasWaysUp T) (none : first_broken T ≡ None) where
   at : (k : ℕ) (w : Word) → Counted T k → word_at T k ≡ Some w → Held T k (Some w)
@@ -98,42 +126,38 @@ module _ (T : Table) (formed : WellFormed T) (ordered : Ordered T) (ways : HasWa
   phases_allowed n counted = each_kid word.Phase (phase_of T) AllowedPhase n counted phase-allowed (kids_of T n) (λ k h. h)
 
   -- the lets of a rule
-  item-allowed : (k : ℕ) (w : Option Word) → (word_at T k ≡ w) → (word_at T k ≡ Some word.Let → AllowedLet (let_of T k)) → Each AllowedLet (flat_map let_in (item_of T k w))
+  item-allowed : (k : ℕ) (w : Option Word) → (word_at T k ≡ w) → (word_at T k ≡ Some word.Let → AllowedLet (let_of T k)) → Each AllowedItem (item_of T k w)
   item-allowed k (Some word.Let) is allowed = (allowed is, tt)
-  item-allowed k (Some word.Assert) is allowed = tt
-  item-allowed k (Some word.Report) is allowed = tt
-  item-allowed k (Some word.Extends) is allowed = tt
+  item-allowed k (Some word.Assert) is allowed = (tt, tt)
+  item-allowed k (Some word.Report) is allowed = (tt, tt)
+  item-allowed k (Some word.Extends) is allowed = (tt, tt)
   item-allowed k _ is allowed = tt
 
-  items-allowed : (n : ℕ) → Counted T n → (ks : List ℕ) → ((k : ℕ) → mem k ks ≡ true → mem k (kids_of T n) ≡ true) → Each AllowedLet (flat_map let_in (flat_map (item_at T) ks))
+  items-allowed : (n : ℕ) → Counted T n → (ks : List ℕ) → ((k : ℕ) → mem k ks ≡ true → mem k (kids_of T n) ≡ true) → Each AllowedItem (flat_map (item_at T) ks)
   items-allowed n counted [] within = tt
   items-allowed n counted (k ∷ ks) within =
-      subst (Each AllowedLet) (sym (flat_map-append let_in (item_at T k) (flat_map (item_at T) ks)))
-      (each_append AllowedLet (flat_map let_in (item_at T k)) (flat_map let_in (flat_map (item_at T) ks))
+      each_append AllowedItem (item_at T k) (flat_map (item_at T) ks)
       (item-allowed k (word_at T k) refl (λ is. let-allowed k (kid_counted T formed ordered ways none n k word.Let counted (within k (mem-head k ks)) is) is))
-      (items-allowed n counted ks (λ j h. within j (mem-tail j k ks h))))
+      (items-allowed n counted ks (λ j h. within j (mem-tail j k ks h)))
 
-  rule-allowed : (k : ℕ) → Counted T k → word_at T k ≡ Some word.Rule → AllowedRule (flat_rule (rule_of T k))
+  rule-allowed : (k : ℕ) → Counted T k → word_at T k ≡ Some word.Rule → HoldsIn AllowedItem (rule_of T k)
   rule-allowed k counted is = items-allowed k counted (kids_of T k) (λ j h. h)
 
-  pattern-allowed : (k : ℕ) → Counted T k → word_at T k ≡ Some word.Pattern → AllowedPattern (flat_pattern (pattern_of T k))
+  pattern-allowed : (k : ℕ) → Counted T k → word_at T k ≡ Some word.Pattern → AllowedRaw (pattern_of T k)
   pattern-allowed k counted is =
       let h = at k word.Pattern counted is in
       record {
         id = by (said T k (codes "id")) (λ value says. named-by _ false (form_said T k word.Pattern (codes "id") value h.formed says));
         lets = lets_allowed k counted;
-        rules = each_map AllowedRule flat_rule (read_kids T word.Rule (rule_of T) k)
-            (each_kid word.Rule (rule_of T) (λ (rule : RawRule). AllowedRule (flat_rule rule)) k counted rule-allowed (kids_of T k) (λ j h. h));
+        rules = each_kid word.Rule (rule_of T) (HoldsIn AllowedItem) k counted rule-allowed (kids_of T k) (λ j h. h);
       }
     where
       by : (id : Option (List ℕ)) → ((value : List ℕ) → id ≡ Some value → IsName value) → Each IsName (option_to_list id)
       by None name = tt
       by (Some value) name = (name value refl, tt)
 
-  pub patterns_allowed : (n : ℕ) → Counted T n → Each AllowedPattern (map flat_pattern (read_kids T word.Pattern (pattern_of T) n))
-  patterns_allowed n counted =
-      each_map AllowedPattern flat_pattern (read_kids T word.Pattern (pattern_of T) n)
-      (each_kid word.Pattern (pattern_of T) (λ (pattern : RawPattern). AllowedPattern (flat_pattern pattern)) n counted pattern-allowed (kids_of T n) (λ j h. h))
+  pub patterns_allowed : (n : ℕ) → Counted T n → Each AllowedRaw (read_kids T word.Pattern (pattern_of T) n)
+  patterns_allowed n counted = each_kid word.Pattern (pattern_of T) AllowedRaw n counted pattern-allowed (kids_of T n) (λ j h. h)
 
   diagnostic-allowed : (k : ℕ) → Counted T k → word_at T k ≡ Some word.Diagnostic → AllowedDiagnostic (diagnostic_of T k)
   diagnostic-allowed k counted is =

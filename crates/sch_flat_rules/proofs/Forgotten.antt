@@ -1,12 +1,11 @@
 -- What doesn't depend on the places of a schema's parts: its document, its size, and whether it is concrete.
 use Rattle.std.proofs.Common.{◌≡◌, ℕ, suc, ◌+◌, Bool, not, ◌&&◌, List, [], ◌∷◌, ◌++◌, Option, Some, length, map, length-append, refl, sym, ap, ap₂, ◌∙◌}
-use Rattle.std.specs.List.{flat_map, list_all}
-use Rattle.std.specs.Prelude.{codes, is_none, nat_le, nat_lt}
+use Rattle.std.specs.List.{flat_map}
+use Rattle.std.specs.Prelude.{codes, nat_le, nat_lt}
 use Rattle.std.proofs.lemmas.List.{length-map}
 use Rattle.doc_tree.specs.limits.TheConstants.{MAX_LIVE_NODES}
 use Rattle.pyx_core.specs.declared.event.Event.{Event}
 use Rattle.sch_base.specs.declared.limits.TheConstants.{MAX_ASSERTIONS, MAX_LETS, MAX_RULES, MAX_TEXT_BYTES}
-use Rattle.sch_model.specs.Concrete.{is_concrete, is_concrete_item, is_concrete_pattern, is_concrete_rule}
 use Rattle.sch_model.specs.declared.flat.FlatPattern.{FlatPattern}
 use Rattle.sch_model.specs.declared.flat.FlatRule.{FlatRule}
 use Rattle.sch_model.specs.declared.flat.FlatSchema.{FlatSchema}
@@ -16,27 +15,17 @@ use Rattle.sch_model.specs.declared.parts.LetDecl.{LetDecl}
 use Rattle.sch_model.specs.declared.parts.Part.{Part}
 use Rattle.sch_model.specs.declared.parts.Part.TheVariants.{Chars, ValueOf, Name}
 use Rattle.sch_model.specs.declared.parts.Phase.{Phase}
-use Rattle.sch_model.specs.declared.raw.RawItem.{RawItem}
-use Rattle.sch_model.specs.declared.raw.RawItem.TheVariants as item
-use Rattle.sch_model.specs.declared.raw.RawPattern.{RawPattern}
-use Rattle.sch_model.specs.declared.raw.RawRule.{RawRule}
-use Rattle.sch_model.specs.declared.raw.RawSchema.{RawSchema}
 use Rattle.sch_rules.specs.Rules.{name_if}
-use Rattle.sch_abstract.specs.Sizes.{all_assertions, all_lets, all_rules, pattern_lets, size_rules}
+use Rattle.sch_sizes.specs.Sizes.{all_assertions, all_lets, all_rules, pattern_lets, size_rules}
 use Rattle.sch_flat.specs.FlatDocument.{active_events, assertion_attributes, assertion_events, assertion_name, diagnostic_events, diagnostics_events, element, flat_events, let_events, ns_events, part_events, pattern_events, phase_events, rule_events, title_events}
 use Rattle.sch_flat.specs.FlatSize.{bytes_of, is_small, nodes_of}
-use Rattle.sch_flat_reading.specs.Again.{placeless_flat, placeless_flat_pattern, placeless_flat_rule}
-use Rattle.sch_flat_reading.specs.Placeless.{placeless_active, placeless_assertion, placeless_diagnostic, placeless_item, placeless_let, placeless_ns, placeless_part, placeless_pattern, placeless_phase, placeless_rule, placeless_schema}
+use Rattle.sch_model.specs.Placeless.{placeless_active, placeless_assertion, placeless_diagnostic, placeless_flat, placeless_flat_pattern, placeless_flat_rule, placeless_let, placeless_ns, placeless_part, placeless_phase}
 use Rattle.sch_flat_reading.proofs.TreeBlocks.{map_append}
 
 -- what is the same of each item
 pub same_over : {A B : Type 0} (f : A → List B) (forget : A → A) → ((x : A) → f (forget x) ≡ f x) → (xs : List A) → flat_map f (map forget xs) ≡ flat_map f xs
 same_over f forget same [] = refl
 same_over f forget same (x ∷ xs) = ap₂ (λ l m. l ++ m) (same x) (same_over f forget same xs)
-
-same-all : {A : Type 0} (p : A → Bool) (forget : A → A) → ((x : A) → p (forget x) ≡ p x) → (xs : List A) → list_all p (map forget xs) ≡ list_all p xs
-same-all p forget same [] = refl
-same-all p forget same (x ∷ xs) = ap₂ (λ a b. a && b) (same x) (same-all p forget same xs)
 
 -- the document
 part-same : (part : Part) → part_events (placeless_part part) ≡ part_events part
@@ -153,19 +142,3 @@ sizes_same schema =
     ∙ ap (λ n. rules-with (length (all_rules schema)) n (length (all_lets (placeless_flat schema))) (is_small (placeless_flat schema))) (assertions-count schema)
     ∙ ap (λ n. rules-with (length (all_rules schema)) (length (all_assertions schema)) n (is_small (placeless_flat schema))) (lets-count schema)
     ∙ ap (rules-with (length (all_rules schema)) (length (all_assertions schema)) (length (all_lets schema))) (small-same schema)
-
--- whether it is concrete
-item-concrete : (x : RawItem) → is_concrete_item (placeless_item x) ≡ is_concrete_item x
-item-concrete (item.Let decl) = refl
-item-concrete (item.Assertion assertion) = refl
-item-concrete (item.Extends node rule) = refl
-
-rule-concrete : (rule : RawRule) → is_concrete_rule (placeless_rule rule) ≡ is_concrete_rule rule
-rule-concrete rule = ap (λ b. not rule.is_abstract && b) (same-all is_concrete_item placeless_item item-concrete rule.items)
-
-pattern-concrete : (pattern : RawPattern) → is_concrete_pattern (placeless_pattern pattern) ≡ is_concrete_pattern pattern
-pattern-concrete pattern =
-    ap (λ b. not pattern.is_abstract && (is_none pattern.is_a && b)) (same-all is_concrete_rule placeless_rule rule-concrete pattern.rules)
-
-pub concrete_same : (schema : RawSchema) → is_concrete (placeless_schema schema) ≡ is_concrete schema
-concrete_same schema = same-all is_concrete_pattern placeless_pattern pattern-concrete schema.patterns

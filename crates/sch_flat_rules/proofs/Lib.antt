@@ -5,6 +5,7 @@ pub mod AllowedParts
 pub mod Counting
 pub mod DocumentRules
 pub mod Elements
+pub mod Filling
 pub mod Forgotten
 pub mod Forms
 pub mod JoinedAgain
@@ -19,5 +20,6 @@ pub mod Referring
 pub mod Runs
 pub mod Saying
 pub mod Sound
+pub mod Standing
 pub mod Unbroken
 pub mod WordLemmas

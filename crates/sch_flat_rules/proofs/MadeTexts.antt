@@ -7,10 +7,8 @@ use Rattle.std.specs.Str.{is_utf8}
 use Rattle.std.proofs.Math.Utf8.{scalar, scalars}
 use Rattle.std.proofs.lemmas.Bool.{and_from, and_parts, ltb-true}
 use Rattle.std.proofs.lemmas.Str.{IsUtf8-from_ascii, IsUtf8-nil, chars-IsAscii, chars-encodes, chars-nil, scalars-chars}
-use Rattle.doc_tree.specs.Scope.{scope_at}
 use Rattle.doc_tree.specs.Table.{Table, Content, root, element, attribute, text, comment, instruction, attrs_of, content_of, value_at, value_of}
 use Rattle.doc_tree.specs.Walks.{characters_in}
-use Rattle.name_scopes.specs.Scoping.{ContentInScope, InScope}
 use Rattle.pyx_core.proofs.TextLemmas.{made_of, of_chars_append, utf8_of}
 use Rattle.pyx_core.specs.Nesting.{of_chars}
 use Rattle.sch_base.specs.Characters.{is_whitespace, is_xml_char}
@@ -18,6 +16,7 @@ use Rattle.sch_rules.specs.Attributes.{is_called, said, said_text}
 use Rattle.sch_rules.specs.RawSchema.{ids_in, pieces, with_character, without_empty}
 use Rattle.sch_flat.specs.FlatDocument.{spaced}
 use Rattle.sch_flat_reading.specs.Readable.{Each}
+use Rattle.sch_flat_rules.specs.Accepted.{MadeContent, MadeOfChars}
 
 abbrev pub Made : List ℕ → Type 0
 Made value = of_chars value ≡ true
@@ -39,10 +38,10 @@ made_flat f each [] = made_nil
 made_flat f each (x ∷ xs) = of_chars_append (f x) (flat_map f xs) (each x) (made_flat f each xs)
 
 -- the characters of pieces are those of the text
-is-good : ℕ → Bool
+pub is-good : ℕ → Bool
 is-good c = is_xml_char c && scalar c
 
-all-good : (cs : List ℕ) → list_all is_xml_char cs ≡ true → scalars cs ≡ true → list_all is-good cs ≡ true
+pub all-good : (cs : List ℕ) → list_all is_xml_char cs ≡ true → scalars cs ≡ true → list_all is-good cs ≡ true
 unfolding is-good
 all-good [] h k = refl
 all-good (c ∷ cs) h k =
@@ -59,7 +58,7 @@ good-made (c ∷ cs) h =
     let rest = good-made cs parts.1 in
     (and_from (is_xml_char c) (list_all is_xml_char cs) own.0 rest.0, and_from (scalar c) (scalars cs) own.1 rest.1)
 
-abbrev GoodPiece : List ℕ → Type 0
+abbrev pub GoodPiece : List ℕ → Type 0
 GoodPiece cs = list_all is-good cs ≡ true
 
 good-with : (c : ℕ) (ps : List (List ℕ)) → is-good c ≡ true → Each GoodPiece ps → Each GoodPiece (with_character c ps)
@@ -75,7 +74,7 @@ good-pieces (c ∷ cs) h =
     by true is rest = (refl, rest)
     by false is rest = good-with c (pieces cs) is rest
 
-made-encoded : (cs : List ℕ) → GoodPiece cs → Made (encode_utf8_all cs)
+pub made-encoded : (cs : List ℕ) → GoodPiece cs → Made (encode_utf8_all cs)
 made-encoded cs h =
     let parts = good-made cs h in
     made_of (encode_utf8_all cs) (cs, (parts.1, refl)) (ap (list_all is_xml_char) (chars-encodes cs parts.1) ∙ parts.0)
@@ -95,7 +94,7 @@ ascii-below [] h i = omega arith
 ascii-below (b ∷ bytes) h zero = ltb-true b 128 (and_parts (ltb b 128) (list_all (λ (b : ℕ). ltb b 128) bytes) h).0
 ascii-below (b ∷ bytes) h (suc i) = ascii-below bytes (and_parts (ltb b 128) (list_all (λ (b : ℕ). ltb b 128) bytes) h).1 i
 
-made-ascii : (bytes : List ℕ) → list_all (λ (b : ℕ). ltb b 128) bytes ≡ true → list_all is_xml_char bytes ≡ true → Made bytes
+pub made-ascii : (bytes : List ℕ) → list_all (λ (b : ℕ). ltb b 128) bytes ≡ true → list_all is_xml_char bytes ≡ true → Made bytes
 made-ascii bytes low made =
     made_of bytes (IsUtf8-from_ascii bytes (ascii-below bytes low)) (ap (list_all is_xml_char) (chars-IsAscii bytes (ascii-below bytes low)) ∙ made)
 
@@ -126,23 +125,23 @@ made_ids value h =
     made-spaced (ids_in value) (made-kept (map encode_utf8_all (pieces (chars value))) (made-pieces (pieces (chars value)) (good-pieces (chars value) good)))
 
 -- what a document says is made of Chars
-module _ (T : Table) (in_scope : InScope T) where
+module _ (T : Table) (made : MadeOfChars T) where
   made-value : (a : ℕ) → Made (value_of T a)
-  made-value a = by (content_of T a) (in_scope a)
+  made-value a = by (content_of T a) (made a)
     where
-      by : (content : Option Content) → ContentInScope (scope_at T a) content → Made (value_at content)
+      by : (content : Option Content) → MadeContent content → Made (value_at content)
       by None here = made_nil
       by (Some root) here = made_nil
       by (Some (element its decls)) here = made_nil
-      by (Some (attribute its value)) here = here.made
+      by (Some (attribute its value)) here = here
       by (Some (text characters)) here = here
       by (Some (comment characters)) here = here
-      by (Some (instruction its body)) here = here.made
+      by (Some (instruction its body)) here = here
 
   pub made_characters : (n : ℕ) → Made (characters_in (content_of T n))
-  made_characters n = by (content_of T n) (in_scope n)
+  made_characters n = by (content_of T n) (made n)
     where
-      by : (content : Option Content) → ContentInScope (scope_at T n) content → Made (characters_in content)
+      by : (content : Option Content) → MadeContent content → Made (characters_in content)
       by None here = made_nil
       by (Some root) here = made_nil
       by (Some (element its decls)) here = made_nil

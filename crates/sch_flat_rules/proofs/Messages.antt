@@ -13,7 +13,7 @@ use Rattle.sch_rules.specs.Attributes.{said, said_text}
 use Rattle.sch_rules.specs.Elements.{is_ignored, word_at}
 use Rattle.sch_rules.specs.RawSchema.{chars_before, chars_part, joined, message_of, own_part, part_at, text_at}
 use Rattle.sch_rules.specs.Words.{is_word}
-use Rattle.sch_flat_reading.specs.Placeless.{is_some_part}
+use Rattle.sch_model.specs.Placeless.{is_some_part}
 
 some-chars : (characters : List ℕ) → list_all is_some_part (chars_part characters) ≡ true
 some-chars [] = refl

@@ -28,7 +28,7 @@ use Rattle.sch_rules.specs.Keys.{Key, keys_for}
 use Rattle.sch_rules.specs.Rules.{has_bad_form, is_bad_binding}
 use Rattle.sch_rules.specs.Words.{holds, word_of}
 use Rattle.sch_flat.specs.FlatDocument.{active_events, let_events, ns_events, part_events, phase_events}
-use Rattle.sch_flat_reading.specs.Placeless.{is_some_part}
+use Rattle.sch_model.specs.Placeless.{is_some_part}
 use Rattle.sch_flat_reading.specs.Readable.{Each}
 use Rattle.sch_flat_reading.proofs.Document.{are_kids, kid_items}
 use Rattle.sch_flat_reading.proofs.EventBlocks.{active_chunk, holds_all, holds_append, holds_nil, let_chunk, said, said_append}

@@ -7,13 +7,12 @@ use Rattle.std.proofs.lemmas.Bool.{and_parts}
 use Rattle.std.proofs.lemmas.Slice.Eq.{bytes_eq-Decides}
 use Rattle.std.proofs.lemmas.Str.{IsUtf8-nil}
 use Rattle.doc_tree.specs.NameTests.{named}
-use Rattle.doc_tree.specs.Scope.{scope_at}
 use Rattle.doc_tree.specs.Table.{Table, Name, Content, root, element, attribute, text, comment, instruction, attrs_of, content_of, name_of, value_at, value_of}
-use Rattle.name_scopes.specs.Scoping.{ContentInScope, InScope}
 use Rattle.pyx_core.proofs.TextLemmas.{utf8_of}
 use Rattle.sch_rules.specs.declared.word.Word.{Word}
 use Rattle.sch_rules.specs.Attributes.{is_called, said, said_text}
 use Rattle.sch_rules.specs.Rules.{bad_attribute, first_bad, first_missing, has_bad_form, ill_formed, name_if}
+use Rattle.sch_flat_rules.specs.Accepted.{MadeContent, MadeOfChars}
 use Rattle.sch_flat_rules.proofs.Unbroken.{or_none}
 
 -- an attribute that is not missing
@@ -64,21 +63,21 @@ pub form_said : (T : Table) (n : ℕ) (w : Word) (name value : List ℕ) → ill
 form_said T n w name value none says = form-over T n w name value (attrs_of T n) none says
 
 -- what is said is text
-value-utf8 : (T : Table) → InScope T → (a : ℕ) → IsUtf8 (value_of T a)
-value-utf8 T in_scope a = by (content_of T a) (in_scope a)
+value-utf8 : (T : Table) → MadeOfChars T → (a : ℕ) → IsUtf8 (value_of T a)
+value-utf8 T made a = by (content_of T a) (made a)
   where
-    by : (content : Option Content) → ContentInScope (scope_at T a) content → IsUtf8 (value_at content)
+    by : (content : Option Content) → MadeContent content → IsUtf8 (value_at content)
     by None here = IsUtf8-nil
     by (Some root) here = IsUtf8-nil
     by (Some (element its decls)) here = IsUtf8-nil
-    by (Some (attribute its value)) here = utf8_of value here.made
+    by (Some (attribute its value)) here = utf8_of value here
     by (Some (text characters)) here = utf8_of characters here
     by (Some (comment characters)) here = utf8_of characters here
-    by (Some (instruction its body)) here = utf8_of body here.made
+    by (Some (instruction its body)) here = utf8_of body here
 
-pub said_utf8 : (T : Table) → InScope T → (n : ℕ) (name : List ℕ) → IsUtf8 (said_text T n name)
-said_utf8 T in_scope n name = by (find (is_called T name) (attrs_of T n))
+pub said_utf8 : (T : Table) → MadeOfChars T → (n : ℕ) (name : List ℕ) → IsUtf8 (said_text T n name)
+said_utf8 T made n name = by (find (is_called T name) (attrs_of T n))
   where
     by : (a : Option ℕ) → IsUtf8 (option_map_or (λ (value : List ℕ). value) (option_map (value_of T) a) [])
     by None = IsUtf8-nil
-    by (Some a) = value-utf8 T in_scope a
+    by (Some a) = value-utf8 T made a

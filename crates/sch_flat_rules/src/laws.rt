@@ -1,6 +1,11 @@
 //! Laws of the definitions, for the proofs of callers.
 
-ghost use Rattle.sch_flat_rules.specs.Accepted.{ExpansionIsAcceptedAgain, ExpansionsAreDocuments, FlatDocumentsAreAllowed, FlatDocumentsBreakNoRule, ReadingsAreReadable};
+ghost use Rattle.sch_flat_rules.specs.Accepted.{ExpansionIsAcceptedAgain, ExpansionsAreDocuments, FlatDocumentsAreAllowed, FlatDocumentsBreakNoRule, ReadingsAreReadable, ScopedTreesAreMade};
+
+/// The texts of a tree whose names are in scope are made of Chars.
+pub fn scoped_trees_are_made()
+    ensures { ScopedTreesAreMade }
+{}
 
 /// The document that a flat schema is breaks no rule, where the schema's names have the forms that the rules want, and no
 /// name is used twice.
@@ -26,6 +31,7 @@ pub fn flat_documents_are_allowed()
     ensures { FlatDocumentsAreAllowed }
 {
     sch_flat_reading::expansion_stays();
+    scoped_trees_are_made();
     readings_are_readable();
 }
 
@@ -34,9 +40,9 @@ pub fn flat_documents_are_allowed()
 pub fn expansion_is_accepted_again()
     ensures { ExpansionIsAcceptedAgain }
 {
-    sch_flat_laws::flat_schemas_stay();
     sch_flat_reading::flat_schemas_are_read_back();
     sch_flat_reading::expansion_stays();
+    scoped_trees_are_made();
     flat_documents_break_no_rule();
     readings_are_readable();
 }

@@ -1,1 +1,1 @@
-pub mod Concrete
+pub mod Placeless

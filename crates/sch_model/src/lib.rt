@@ -1,7 +1,6 @@
 //! Schemas of Schematron (ISO/IEC 19757-3:2016) as values: as they are read, and without their abstract parts.
 #![tactic(auto)]
 
-mod concrete;
 mod fault;
 mod flat;
 mod parts;

@@ -63,9 +63,6 @@ fn told(alloc: Global, text: &str, is_measured: bool) -> Result<String, Fail> {
         Ok(raw) => raw,
         Err(error) => return broken(alloc, &tree, &error),
     };
-    if !raw.is_concrete() {
-        return Err("a schema with abstract parts".into());
-    }
     match expand(alloc, raw) {
         Ok(flat) if is_measured => size(alloc, &flat),
         Ok(flat) => held(alloc, &flat),

@@ -1,13 +1,9 @@
--- The schema has abstract parts, or a broken reference, or is the one without abstract parts.
-use Rattle.std.proofs.Common.{◌∙◌, sym}
-use Rattle.sch_cli.proofs.SchemaLemmas.{goes_on, stops_at_abstract, stops_at_reference}
+-- The schema breaks a rule on references or sizes, or is the one without abstract parts.
+use Rattle.sch_cli.proofs.SchemaLemmas.{goes_on, stops_at_reference}
 use Rattle.sch_cli.proofs.schema.flat_of.Goals as goal
 
-pub returns-then-not-is_concrete-clause-told : goal.returns-then-not-is_concrete-clause-told
-returns-then-not-is_concrete-clause-told c = stops_at_abstract c.args.tree.now.nodes c.args.raw (sym c.is_concrete.ensures ∙ c.if-not-is_concrete.true)
-
 pub returns-in-Ok-clause-told : goal.returns-in-Ok-clause-told
-returns-in-Ok-clause-told c = goes_on c.args.tree.now.nodes c.args.raw c.in-Ok.flat (sym c.is_concrete.ensures ∙ c.if-not-is_concrete.false) c.in-Ok.ensures.accepted c.in-Ok.ensures.expanded
+returns-in-Ok-clause-told c = goes_on c.args.tree.now.nodes c.args.raw c.in-Ok.flat c.in-Ok.ensures.accepted c.in-Ok.ensures.expanded
 
 pub returns-in-Err-clause-told : goal.returns-in-Err-clause-told
-returns-in-Err-clause-told c = stops_at_reference c.args.tree.now.nodes c.args.raw (sym c.is_concrete.ensures ∙ c.if-not-is_concrete.false) c.in-Err.error c.in-Err.ensures.refused c.refused.result c.refused.ensures.refusal
+returns-in-Err-clause-told c = stops_at_reference c.args.tree.now.nodes c.args.raw c.in-Err.error c.in-Err.ensures.refused c.refused.result c.refused.ensures.refusal

@@ -1,4 +1,0 @@
-pub mod Capped
-pub mod Ended
-pub mod KnownIds
-pub mod Onto
