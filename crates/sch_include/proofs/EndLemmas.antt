@@ -1,0 +1,45 @@
+-- Ends of the steps of a walk.
+use Rattle.std.proofs.Common.{◌≡◌, ℕ, List, [], refl, sym, subst}
+use Rattle.std.specs.Prelude.{Result, Ok, Err, OnOk}
+use Rattle.sch_io.specs.Files.{Files}
+use Rattle.sch_io.specs.ShelfState.{ShelfState}
+use Rattle.sch_include.specs.declared.fault.IncludeError.{IncludeError}
+use Rattle.sch_include.specs.declared.fault.IncludeError.TheVariants as error
+use Rattle.sch_include.specs.declared.joiner.Joiner.{Joiner}
+use Rattle.sch_include.specs.declared.source.OpenFile.{OpenFile}
+use Rattle.sch_include.specs.inner.Joining.{Shows, TakesFile, Walks, WalksFile, WalksKids}
+use Rattle.sch_include.proofs.KidLemmas.{shows-memory}
+use Rattle.sch_include.proofs.NodeLemmas.{walks-memory}
+
+pub shows-end : (s : ShelfState) (a : List (List ℕ)) (r : Result (Unit {0}) IncludeError) → r ≡ Err error.Memory → Shows {T = Unit {0}} s s a a r
+shows-end s a r is = subst (λ (o : Result (Unit {0}) IncludeError). Shows {T = Unit {0}} s s a a o) (sym is) (shows-memory s a)
+
+pub walks-end : (old new : Joiner) (file : OpenFile) (n p : ℕ) (F : Files → Type 0) (r : Result (Unit {0}) IncludeError) → r ≡ Err error.Memory → Walks old new file n p r F
+walks-end old new file n p F r is = subst (λ (o : Result (Unit {0}) IncludeError). Walks old new file n p o F) (sym is) (walks-memory old new file n p F)
+
+-- what one call shows, then the next that failed
+pub shows-passed : (s u : ShelfState) (a c : List (List ℕ)) (r : Result (Unit {0}) IncludeError) (x : IncludeError) → r ≡ Err x → Shows {T = Unit {0}} s u a c (Err x) → Shows {T = Unit {0}} s u a c r
+shows-passed s u a c r x is h = subst (λ (o : Result (Unit {0}) IncludeError). Shows {T = Unit {0}} s u a c o) (sym is) h
+
+pub kids-passed : (old new : Joiner) (file : OpenFile) (n : ℕ) (ns : List ℕ) (p : ℕ) (F : Files → Type 0) (r : Result (Unit {0}) IncludeError) (x : IncludeError) → r ≡ Err x → WalksKids old new file n ns p (Err x) F → WalksKids old new file n ns p r F
+kids-passed old new file n ns p F r x is h = subst (λ (o : Result (Unit {0}) IncludeError). WalksKids old new file n ns p o F) (sym is) h
+
+pub walks-passed : (old new : Joiner) (file : OpenFile) (n p : ℕ) (F : Files → Type 0) (r : Result (Unit {0}) IncludeError) (x : IncludeError) → r ≡ Err x → Walks old new file n p (Err x) F → Walks old new file n p r F
+walks-passed old new file n p F r x is h = subst (λ (o : Result (Unit {0}) IncludeError). Walks old new file n p o F) (sym is) h
+
+pub takes-passed : (old new : Joiner) (file : OpenFile) (n p : ℕ) (name : List ℕ) (F : Files → Type 0) (r : Result (Unit {0}) IncludeError) (x : IncludeError) → r ≡ Err x → TakesFile old new file n p name (Err x) F → TakesFile old new file n p name r F
+takes-passed old new file n p name F r x is h = subst (λ (o : Result (Unit {0}) IncludeError). TakesFile old new file n p name o F) (sym is) h
+
+pub file-passed : (old new : Joiner) (file : OpenFile) (p : ℕ) (F : Files → Type 0) (r : Result (Unit {0}) IncludeError) (x : IncludeError) → r ≡ Err x → WalksFile old new file p (Err x) F → WalksFile old new file p r F
+file-passed old new file p F r x is h = subst (λ (o : Result (Unit {0}) IncludeError). WalksFile old new file p o F) (sym is) h
+
+pub file-memory : (old new : Joiner) (file : OpenFile) (p : ℕ) (F : Files → Type 0) → WalksFile old new file p (Err error.Memory) F
+file-memory old new file p F = record { told = []; gives = λ files are depth deep. tt; joins = λ ok. absurd (cc) }
+
+pub on-ok : (r : Result (Unit {0}) IncludeError) (P : Type 0) → (r ≡ Ok tt → P) → OnOk r P
+on-ok (Ok done) P h = h refl
+on-ok (Err e) P h = tt
+
+pub on-err : (r : Result (Unit {0}) IncludeError) (x : IncludeError) (P : Type 0) → r ≡ Err x → OnOk r P
+on-err (Ok done) x P is = absurd (cc)
+on-err (Err e) x P is = tt

@@ -1,0 +1,12 @@
+pub mod GrowLemmas
+pub mod CopyLemmas
+pub mod WalkLemmas
+pub mod OneParts
+pub mod LoadLemmas
+pub mod FolderLemmas
+pub mod PartLemmas
+pub mod KidLemmas
+pub mod NodeLemmas
+pub mod TakeLemmas
+pub mod FileLemmas
+pub mod EndLemmas

@@ -1,0 +1,33 @@
+-- Each kind of leaf has its copy.
+use Rattle.std.proofs.Common.{ℕ, refl, sym, ◌∙◌, subst}
+use Rattle.std.specs.Prelude.{IfOk}
+use Rattle.doc_tree.specs.Growth.{Grew}
+use Rattle.doc_tree.specs.Table.{Table, comment, instruction, numbered, text}
+use Rattle.sch_include.proofs.CopyLemmas.{comment-copied, instruction-copied, leaf-refused, text-copied}
+use Rattle.sch_include.proofs.copy.copy_leaf.Goals as goal
+use Rattle.sch_include.proofs.copy.copy_leaf.Goals.{then-is_text, else-is_text+then-is_comment, else-is_text+else-is_comment+in_ok-name}
+
+pub unlimited-requires : goal.unlimited-requires
+unlimited-requires c = elim c.if-is_text.branch [
+  | then-is_text w ↦ leaf-refused c.args.tree.now.nodes c.args.parent c.args.source.now.nodes c.args.n c.requires.takes c.args.tree.now.nodes w.append_node-appended.result c.if-is_text.appended (text w.value.result.now) refl w.appended-is w.value.ensures (λ F. refl) w.append_node-appended.ensures.refused
+  | else-is_text+then-is_comment w ↦ leaf-refused c.args.tree.now.nodes c.args.parent c.args.source.now.nodes c.args.n c.requires.takes c.args.tree.now.nodes w.append_node.result c.if-is_text.appended (comment w.value-then-is_comment.result.now) refl w.appended-is w.value-then-is_comment.ensures (λ F. refl) w.append_node.ensures.refused
+  | else-is_text+else-is_comment+in_ok-name w ↦
+      leaf-refused c.args.tree.now.nodes c.args.parent c.args.source.now.nodes c.args.n c.requires.takes w.copy_name.new.tree.nodes w.append_node-else-is_comment.result c.if-is_text.appended (instruction (numbered w.copy_name.new.tree.names w.in_ok-name.name) w.value-else-is_comment.result.now)
+      w.in_ok-name.ensures.nodes w.appended-is w.value-else-is_comment.ensures (λ F. refl) w.append_node-else-is_comment.ensures.refused
+]
+
+pub returns : goal.returns
+returns c = elim c.if-is_text.branch [
+  | then-is_text w ↦ rw w.tree-is
+      (text-copied c.args.tree.now.nodes w.append_node-appended.new.self.nodes c.args.parent c.args.source.now.nodes c.args.n c.laws-2.ensures.well_formed c.requires.takes w.append_node-appended.result c.if-is_text.appended c.unlimited.result w.appended-is c.unlimited.ensures
+      w.value.result.now w.value.ensures (sym c.is_text.ensures ∙ w.if-is_text.true) w.append_node-appended.ensures.grew)
+  | else-is_text+then-is_comment w ↦ rw w.tree-is
+      (comment-copied c.args.tree.now.nodes w.append_node.new.self.nodes c.args.parent c.args.source.now.nodes c.args.n c.laws-2.ensures.well_formed c.requires.takes w.append_node.result c.if-is_text.appended c.unlimited.result w.appended-is c.unlimited.ensures
+      w.value-then-is_comment.result.now w.value-then-is_comment.ensures (sym w.is_comment.ensures ∙ w.if-is_comment.true) w.append_node.ensures.grew)
+  | else-is_text+else-is_comment+in_ok-name w ↦ rw w.tree-is
+      (instruction-copied c.args.tree.now.nodes w.append_node-else-is_comment.new.self.nodes c.args.parent c.args.source.now.nodes c.args.n c.laws-2.ensures.well_formed c.requires.takes w.append_node-else-is_comment.result c.if-is_text.appended c.unlimited.result w.appended-is c.unlimited.ensures
+      (numbered w.copy_name.new.tree.names w.in_ok-name.name) w.value-else-is_comment.result.now w.value-else-is_comment.ensures c.requires.leaf (sym c.is_text.ensures ∙ w.if-is_text.false) (sym w.is_comment.ensures ∙ w.if-is_comment.false)
+      w.in_ok-name.ensures.name
+      (subst (λ (F : Table). IfOk w.append_node-else-is_comment.result (λ (k : ℕ). Grew F w.append_node-else-is_comment.new.self.nodes c.args.parent k (instruction (numbered w.copy_name.new.tree.names w.in_ok-name.name) w.value-else-is_comment.result.now)))
+      w.in_ok-name.ensures.nodes w.append_node-else-is_comment.ensures.grew))
+]

@@ -1,0 +1,3 @@
+pub mod Deep
+pub mod Growing
+pub mod Joining
