@@ -1,5 +1,9 @@
 //! Schemas as they are read.
 
+ghost use Rattle.std.specs.Prelude.{◌≡◌};
+ghost use Rattle.std.specs.Option.{option_copied, option_to_list};
+ghost use Rattle.sch_model.specs.Items.{extended_in};
+
 use crate::parts::{Assertion, DiagnosticList, Head, LetDecl, LetDeclList, NsList, PhaseList};
 use doc_tree::NodeId;
 use sch_base::{ItemList, Text};
@@ -19,6 +23,18 @@ pub enum RawItem {
     Assertion(Assertion),
     /// The lets and assertions of an abstract rule stand here.
     Extends { node: NodeId, rule: Text },
+}
+
+impl RawItem {
+    /// The name of the rule that it extends.
+    pub fn extended(&self) -> Option<&str>
+        ensures { option_to_list (option_copied result) ≡ extended_in self.now }
+    {
+        match self {
+            RawItem::Extends { rule, .. } => Some(rule.as_str()),
+            RawItem::Let(_) | RawItem::Assertion(_) => None,
+        }
+    }
 }
 
 /// A rule; an abstract one has an id and no context.

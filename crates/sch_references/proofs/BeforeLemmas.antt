@@ -4,7 +4,8 @@ use Rattle.std.specs.List.{flat_map, list_all}
 use Rattle.std.specs.Str.{bytes_eq}
 use Rattle.sch_model.specs.declared.raw.RawRule.{RawRule}
 use Rattle.sch_references.specs.Cycles.{leads_to}
-use Rattle.sch_references.specs.Extends.{extended_in, is_id, is_named}
+use Rattle.sch_model.specs.Items.{extended_in}
+use Rattle.sch_references.specs.Extends.{is_id, is_named}
 use Rattle.sch_references.specs.Placed.{IsPlaceOf}
 use Rattle.sch_references.specs.inner.Order.{Found, Sorted, StandsBefore, is_settled, is_sorted_among, settles}
 use Rattle.sch_references.specs.inner.Ways.{Each, Own, follows, is_followed}

@@ -12,7 +12,8 @@ use Rattle.sch_model.specs.declared.raw.RawSchema.{RawSchema}
 use Rattle.sch_rules.specs.FirstBroken.{fault_of, least}
 use Rattle.sch_rules.specs.Rules.{name_if}
 use Rattle.sch_references.specs.Cycles.{leads_back, leads_to}
-use Rattle.sch_references.specs.Extends.{abstract_rules, extended_in, is_id, is_named, items_named}
+use Rattle.sch_model.specs.Items.{extended_in}
+use Rattle.sch_references.specs.Extends.{abstract_rules, is_id, is_named, items_named}
 use Rattle.sch_references.specs.Order.{IsOrderOf, extends_only, is_sorted}
 use Rattle.sch_references.specs.Places.{Place, first_among}
 use Rattle.sch_references.specs.References.{Known, abstract_id, concrete_id, head_place, is_among, item_places, known_in, origin_place, pattern_places, phase_places, places_with, reference_places, rule_places, unknown_rule}

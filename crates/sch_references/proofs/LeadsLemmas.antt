@@ -5,7 +5,8 @@ use Rattle.std.specs.Str.{bytes_eq}
 use Rattle.sch_model.specs.declared.raw.RawItem.{RawItem}
 use Rattle.sch_model.specs.declared.raw.RawRule.{RawRule}
 use Rattle.sch_references.specs.Cycles.{leads, leads_to}
-use Rattle.sch_references.specs.Extends.{extended_by, extended_in, is_id, is_named, items_named}
+use Rattle.sch_model.specs.Items.{extended_in}
+use Rattle.sch_references.specs.Extends.{extended_by, is_id, is_named, items_named}
 use Rattle.sch_references.specs.References.{is_among}
 use Rattle.sch_references.specs.inner.Ways.{Each, Leads, Own, follows, is_followed}
 use Rattle.sch_references.proofs.NamedLemmas.{bytes-turned, id-of, items-none, look-up, or-cases, or-left, or-right, same-bytes}

@@ -9,7 +9,8 @@ use Rattle.std.proofs.lemmas.List.Folds.{list_any-append}
 use Rattle.sch_model.specs.declared.raw.RawItem.{RawItem}
 use Rattle.sch_model.specs.declared.raw.RawRule.{RawRule}
 use Rattle.sch_references.specs.Cycles.{leads_to}
-use Rattle.sch_references.specs.Extends.{extended_in, is_named}
+use Rattle.sch_model.specs.Items.{extended_in}
+use Rattle.sch_references.specs.Extends.{is_named}
 use Rattle.sch_references.specs.Placed.{IsPlaceOf}
 use Rattle.sch_references.specs.References.{is_among}
 use Rattle.sch_references.specs.inner.Firsts.{left, with_rule}

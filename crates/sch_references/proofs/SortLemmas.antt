@@ -7,7 +7,8 @@ use Rattle.std.proofs.lemmas.List.Folds.{list_all-append, list_any-append}
 use Rattle.sch_model.specs.declared.raw.RawItem.{RawItem}
 use Rattle.sch_model.specs.declared.raw.RawRule.{RawRule}
 use Rattle.sch_references.specs.Cycles.{leads}
-use Rattle.sch_references.specs.Extends.{extended_by, extended_in, is_id, is_named, items_named}
+use Rattle.sch_model.specs.Items.{extended_in}
+use Rattle.sch_references.specs.Extends.{extended_by, is_id, is_named, items_named}
 use Rattle.sch_references.specs.Placed.{IsPlaceOf}
 use Rattle.sch_references.specs.References.{is_among}
 use Rattle.sch_references.specs.declared.search.Frame.{Frame}

@@ -3,8 +3,8 @@
 use Rattle.std.specs.Prelude.{ℕ, Bool, false, List, [], ◌∷◌, Option, None, Some, filter, if◌then◌else◌}
 use Rattle.std.specs.List.{flat_map, list_any}
 use Rattle.std.specs.Str.{bytes_eq}
+use Rattle.sch_model.specs.Items.{extended_in}
 use Rattle.sch_model.specs.declared.raw.RawItem.{RawItem}
-use Rattle.sch_model.specs.declared.raw.RawItem.TheVariants as item
 use Rattle.sch_model.specs.declared.raw.RawRule.{RawRule}
 use Rattle.sch_model.specs.declared.raw.RawSchema.{RawSchema}
 
@@ -25,12 +25,6 @@ is_named rules name = list_any (λ rule. is_id name rule.id) rules
 abbrev pub items_named : List RawRule → List ℕ → List RawItem
 items_named [] name = []
 items_named (rule ∷ rules) name = if is_id name rule.id then rule.items else items_named rules name
-
--- the name that an item extends
-abbrev pub extended_in : RawItem → List (List ℕ)
-extended_in (item.Let _) = []
-extended_in (item.Assertion _) = []
-extended_in (item.Extends node name) = name ∷ []
 
 -- the names that the rule with this id extends
 abbrev pub extended_by : List RawRule → List ℕ → List (List ℕ)

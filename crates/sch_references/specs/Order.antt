@@ -3,7 +3,8 @@ use Rattle.std.specs.Prelude.{◌≡◌, ℕ, ◌≤◌, Bool, true, ◌&&◌, L
 use Rattle.std.specs.List.{flat_map, list_all}
 use Rattle.sch_model.specs.declared.raw.RawItem.{RawItem}
 use Rattle.sch_model.specs.declared.raw.RawRule.{RawRule}
-use Rattle.sch_references.specs.Extends.{extended_in, is_named, items_named}
+use Rattle.sch_model.specs.Items.{extended_in}
+use Rattle.sch_references.specs.Extends.{is_named, items_named}
 
 -- whether each `extends` among the items names one of the rules
 abbrev pub extends_only : List RawRule → List RawItem → Bool

@@ -3,7 +3,7 @@
 ghost use Rattle.std.specs.Prelude.{◌≡◌, [], IfOk, OnOk};
 ghost use Rattle.std.specs.List.{flat_map};
 ghost use Rattle.sch_references.specs.Cycles.{leads_to};
-ghost use Rattle.sch_references.specs.Extends.{extended_in};
+ghost use Rattle.sch_model.specs.Items.{extended_in};
 ghost use Rattle.sch_references.specs.References.{is_among};
 ghost use Rattle.sch_references.specs.inner.Ways.{Adds, AddsAll};
 

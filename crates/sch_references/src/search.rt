@@ -1,24 +1,13 @@
 //! The search for an order in which each rule stands after those that it extends: depth first, with a stack of its own.
 
 ghost use Rattle.std.specs.Prelude.{◌≡◌, ℕ, List, [], ◌∷◌, true, IfOk, OnOk};
-ghost use Rattle.std.specs.Option.{option_copied, option_to_list};
-ghost use Rattle.sch_references.specs.Extends.{extended_in, is_named};
+ghost use Rattle.sch_references.specs.Extends.{is_named};
 ghost use Rattle.sch_references.specs.inner.Order.{Found};
 ghost use Rattle.sch_references.specs.inner.Sorting.{After, Busy, Idle, IsLess, NextExtends, Visited, work};
 
 use crate::order::RuleOrder;
 use sch_model::{RawItem, RawRule};
 use std::alloc::AllocError;
-
-/// The name that an item extends.
-fn extended(item: &RawItem) -> Option<&str>
-    ensures { option_to_list (option_copied result) ≡ extended_in item.now }
-{
-    match item {
-        RawItem::Extends { rule, .. } => Some(rule.as_str()),
-        RawItem::Let(_) | RawItem::Assertion(_) => None,
-    }
-}
 
 /// A rule that is being followed: the name that led to it, and the items that are left.
 #[derive(Drop)]
@@ -102,7 +91,7 @@ impl<'a> Search<'a> {
     {
         match top.rest.split_first() {
             None => self.leave(rules, top),
-            Some((item, rest)) => match extended(item) {
+            Some((item, rest)) => match item.extended() {
                 Some(name) => self.follow(rules, top, name, rest),
                 None => Ok(Step::Next(Frame { rest, ..top })),
             },

@@ -10,7 +10,8 @@ use Rattle.sch_model.specs.declared.raw.RawPattern.{RawPattern}
 use Rattle.sch_model.specs.declared.raw.RawRule.{RawRule}
 use Rattle.sch_expansion.specs.Flat.{concrete_rules}
 use Rattle.sch_expansion.specs.Stands.{ExtendsAreReplaced, replaced, stands_for}
-use Rattle.sch_references.specs.Extends.{extended_in, is_id, is_named, items_named}
+use Rattle.sch_model.specs.Items.{extended_in}
+use Rattle.sch_references.specs.Extends.{is_id, is_named, items_named}
 use Rattle.sch_references.specs.Order.{IsOrderOf, extends_only, is_sorted}
 use Rattle.sch_references.specs.Placed.{IsPlaceOf}
 use Rattle.sch_sizes.specs.declared.amount.Amount.{Amount}

@@ -3,7 +3,8 @@ use Rattle.std.specs.Prelude.{◌≡◌, ℕ, ◌+◌, ◌≤◌, Bool, true, fa
 use Rattle.std.specs.List.{flat_map, list_all}
 use Rattle.sch_model.specs.declared.raw.RawItem.{RawItem}
 use Rattle.sch_model.specs.declared.raw.RawRule.{RawRule}
-use Rattle.sch_references.specs.Extends.{extended_in, is_named}
+use Rattle.sch_model.specs.Items.{extended_in}
+use Rattle.sch_references.specs.Extends.{is_named}
 use Rattle.sch_references.specs.inner.Firsts.{left}
 use Rattle.sch_references.specs.inner.Ways.{Cyclic, Each, Own}
 

@@ -5,7 +5,8 @@ use Rattle.std.specs.Str.{bytes_eq}
 use Rattle.sch_model.specs.declared.raw.RawItem.{RawItem}
 use Rattle.sch_model.specs.declared.raw.RawRule.{RawRule}
 use Rattle.sch_references.specs.Cycles.{leads}
-use Rattle.sch_references.specs.Extends.{extended_by, extended_in, is_named, items_named}
+use Rattle.sch_model.specs.Items.{extended_in}
+use Rattle.sch_references.specs.Extends.{extended_by, is_named, items_named}
 use Rattle.sch_references.specs.References.{is_among}
 use Rattle.sch_references.specs.inner.Firsts.{left}
 

@@ -1,7 +1,7 @@
 -- The items so far do not extend it.
 use Rattle.std.proofs.Common.{◌≡◌, drop}
 use Rattle.std.specs.List.{flat_map}
-use Rattle.sch_references.specs.Extends.{extended_in}
+use Rattle.sch_model.specs.Items.{extended_in}
 use Rattle.sch_references.specs.References.{is_among}
 use Rattle.sch_references.proofs.reach.is_extended.Given as goal
 

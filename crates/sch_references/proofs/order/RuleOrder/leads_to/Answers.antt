@@ -1,7 +1,7 @@
 -- A rule is followed, up to all, unless it extends the id.
 use Rattle.std.proofs.Common.{arith, ap, sym, ◌∙◌, subst}
 use Rattle.std.specs.List.{flat_map}
-use Rattle.sch_references.specs.Extends.{extended_in}
+use Rattle.sch_model.specs.Items.{extended_in}
 use Rattle.sch_references.specs.References.{is_among}
 use Rattle.sch_references.specs.inner.Ways.{Adds, AddsAll}
 use Rattle.sch_references.proofs.ReachLemmas.{all-longer, reach-end, reach-found, reach-next, reach-start}

@@ -1,7 +1,7 @@
 -- Those so far were met.
 use Rattle.std.proofs.Common.{take}
 use Rattle.std.specs.List.{flat_map}
-use Rattle.sch_references.specs.Extends.{extended_in}
+use Rattle.sch_model.specs.Items.{extended_in}
 use Rattle.sch_references.specs.inner.Ways.{AddsAll}
 use Rattle.sch_references.proofs.order.RuleOrder.meet_items.Given as goal
 
