@@ -9,9 +9,9 @@ use Rattle.sch_model.specs.declared.raw.RawSchema.{RawSchema}
 use Rattle.sch_references.specs.Extends.{abstract_rules}
 use Rattle.sch_references.specs.Order.{IsOrderOf}
 use Rattle.sch_expansion.specs.Filled.{filled}
-use Rattle.sch_expansion.specs.Flat.{concrete_rules, flat_pattern, flat_pattern_by, instance_of, let_with, pattern_from, rule_with}
+use Rattle.sch_expansion.specs.Flat.{concrete_rules, flat_pattern, flat_pattern_by, instance_of, let_with, pattern_among, pattern_from, rule_with}
 use Rattle.sch_expansion.specs.Stands.{replaced}
-use Rattle.sch_expansion.specs.inner.FlatBy.{flat_as, flat_by, pattern_among}
+use Rattle.sch_expansion.specs.inner.FlatBy.{flat_as, flat_by}
 use Rattle.sch_expansion.proofs.LevelLemmas.{stands-ordered}
 
 -- a pattern by what rules stand for

@@ -15,7 +15,7 @@ use Rattle.sch_model.specs.declared.raw.RawPattern.{RawPattern}
 use Rattle.sch_references.specs.Extends.{is_id}
 use Rattle.sch_expansion.specs.Filled.{value_of}
 use Rattle.sch_expansion.specs.Pieces.{value_at}
-use Rattle.sch_expansion.specs.inner.FlatBy.{pattern_among}
+use Rattle.sch_expansion.specs.Flat.{pattern_among}
 use Rattle.sch_expansion.specs.inner.Places.{abstract_id, param_names, place_in}
 use Rattle.std.specs.Prelude.{◌&&◌, slice_get}
 

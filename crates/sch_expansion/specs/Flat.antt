@@ -81,9 +81,13 @@ pattern_from rules change pattern origin = record {
 abbrev pub bare_pattern : RawPattern → FlatPattern
 bare_pattern pattern = record { node = pattern.node; id = pattern.id; lets = []; rules = [] }
 
--- the abstract pattern with this id
+-- the abstract pattern with this id among patterns
+abbrev pub pattern_among : List RawPattern → List ℕ → Option RawPattern
+pattern_among patterns name = find (λ pattern. pattern.is_abstract && is_id name pattern.id) patterns
+
+-- and in a schema
 abbrev pub pattern_named : RawSchema → List ℕ → Option RawPattern
-pattern_named schema name = find (λ pattern. pattern.is_abstract && is_id name pattern.id) schema.patterns
+pattern_named schema name = pattern_among schema.patterns name
 
 -- an instance, by its abstract pattern; one of none has no lets and no rules
 abbrev pub instance_of : List RawRule → RawPattern → Option RawPattern → FlatPattern

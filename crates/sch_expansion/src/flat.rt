@@ -3,9 +3,9 @@
 ghost use Rattle.std.specs.Prelude.{◌≡◌, Some, filter, map, not, IfOk};
 ghost use Rattle.sch_references.specs.Extends.{abstract_rules};
 ghost use Rattle.sch_references.specs.Order.{IsOrderOf};
-ghost use Rattle.sch_expansion.specs.Flat.{bare_pattern, concrete_patterns, flat_pattern, flat_rule, instance_of, pattern_from};
+ghost use Rattle.sch_expansion.specs.Flat.{bare_pattern, concrete_patterns, flat_pattern, flat_rule, instance_of, pattern_among, pattern_from};
 ghost use Rattle.sch_expansion.specs.inner.Copies.{change_of};
-ghost use Rattle.sch_expansion.specs.inner.FlatBy.{flat_by, pattern_among};
+ghost use Rattle.sch_expansion.specs.inner.FlatBy.{flat_by};
 
 use crate::copies::{Copier, copy_option};
 use crate::expansion::Expansion;

@@ -15,3 +15,4 @@ mod places;
 pub use filling::{Filling, Piece};
 pub use flat::flat_patterns;
 pub use laws::extends_are_replaced;
+pub use origins::Origins;

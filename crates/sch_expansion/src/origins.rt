@@ -2,7 +2,7 @@
 
 ghost use Rattle.std.specs.Prelude.{◌≡◌, ◌∷◌, [], ℕ, List, map, slice_get, IfOk, OnOk};
 ghost use Rattle.std.specs.Option.{option_copied, option_or};
-ghost use Rattle.sch_expansion.specs.inner.FlatBy.{pattern_among};
+ghost use Rattle.sch_expansion.specs.Flat.{pattern_among};
 ghost use Rattle.sch_expansion.specs.inner.Places.{abstract_id, kept_in, place_in};
 
 use crate::places::Places;
@@ -14,7 +14,7 @@ use std::marker::Model;
 ///
 /// An abstract one is found by its id in constant time; of two with one id the first counts.
 #[derive(Drop)]
-pub(crate) struct Origins<'s> {
+pub struct Origins<'s> {
     patterns: &'s [RawPattern],
     places: Places,
 }
@@ -57,7 +57,7 @@ fn pattern_places(alloc: Global, patterns: &[RawPattern]) -> Result<Places, Allo
 
 impl<'s> Origins<'s> {
     /// The patterns, with the ids of the abstract ones to be looked up.
-    pub(crate) fn new(alloc: Global, patterns: &'s [RawPattern]) -> Result<Origins<'s>, AllocError>
+    pub fn new(alloc: Global, patterns: &'s [RawPattern]) -> Result<Origins<'s>, AllocError>
         ensures { IfOk result (λ origins. origins ≡ patterns.now) }
     {
         match pattern_places(alloc, patterns) {
@@ -81,7 +81,7 @@ impl<'s> Origins<'s> {
     }
 
     /// The abstract pattern with this id.
-    pub(crate) fn named(&self, name: &str) -> Option<&RawPattern>
+    pub fn named(&self, name: &str) -> Option<&RawPattern>
         ensures { option_copied result ≡ pattern_among self.now name.now }
     {
         match self.place(name) {

@@ -59,31 +59,31 @@ module _ (schema : RawSchema) (ordered : List RawRule) (order : IsOrderOf (abstr
   instance_counted pattern (Some origin) = counted_right (abstract_rules schema) ordered order replacing (filled pattern.params) amounts is pattern origin
 
   origin_counted : (pattern : RawPattern) (name : Option (List ℕ)) →
-      found_from (changed counts (λ text. text)) (looked amounts ordered) pattern (origin_by schema pattern name) ≡ cap (flat_amount counts (flat_pattern_by schema pattern name))
+      found_from (changed counts (λ text. text)) (looked amounts ordered) pattern (origin_by schema.patterns pattern name) ≡ cap (flat_amount counts (flat_pattern_by schema pattern name))
   origin_counted pattern None = counted_right (abstract_rules schema) ordered order replacing (λ text. text) amounts is pattern pattern
   origin_counted pattern (Some name) = instance_counted pattern (pattern_named schema name)
 
-  concrete_counted : (pattern : RawPattern) → cap (concrete_found (changed counts (λ text. text)) (looked amounts ordered) schema pattern) ≡ cap (concrete_meant counts schema pattern)
+  concrete_counted : (pattern : RawPattern) → cap (concrete_found (changed counts (λ text. text)) (looked amounts ordered) schema.patterns pattern) ≡ cap (concrete_meant counts schema pattern)
   concrete_counted pattern = by pattern.is_abstract
     where
-      by : (b : Bool) → cap (cond b nothing (found_from (changed counts (λ text. text)) (looked amounts ordered) pattern (origin_by schema pattern pattern.is_a))) ≡
+      by : (b : Bool) → cap (cond b nothing (found_from (changed counts (λ text. text)) (looked amounts ordered) pattern (origin_by schema.patterns pattern pattern.is_a))) ≡
           cap (cond b nothing (flat_amount counts (flat_pattern schema pattern)))
       by true = refl
       by false = ap cap (origin_counted pattern pattern.is_a) ∙ cap-cap (flat_amount counts (flat_pattern schema pattern))
 
-  patterns_right : cap (sum_all (concrete_found (changed counts (λ text. text)) (looked amounts ordered) schema) schema.patterns) ≡ cap (sum_all (flat_amount counts) (flat_schema schema).patterns)
+  patterns_right : cap (sum_all (concrete_found (changed counts (λ text. text)) (looked amounts ordered) schema.patterns) schema.patterns) ≡ cap (sum_all (flat_amount counts) (flat_schema schema).patterns)
   patterns_right =
-      sum_same_cap (concrete_found (changed counts (λ text. text)) (looked amounts ordered) schema) (concrete_meant counts schema) schema.patterns concrete_counted
+      sum_same_cap (concrete_found (changed counts (λ text. text)) (looked amounts ordered) schema.patterns) (concrete_meant counts schema) schema.patterns concrete_counted
       ∙ ap cap (patterns_apart counts schema)
 
   -- the counts of a schema
-  pub counts_right : cap (plus (base_counts schema) (cap (sum_all (concrete_found (changed counts (λ text. text)) (looked amounts ordered) schema) schema.patterns))) ≡ cap (schema_counts (flat_schema schema))
+  pub counts_right : cap (plus (base_counts schema) (cap (sum_all (concrete_found (changed counts (λ text. text)) (looked amounts ordered) schema.patterns) schema.patterns))) ≡ cap (schema_counts (flat_schema schema))
   counts_right =
       let own = many 0 0 (length schema.lets) in
       let phases = flat_map (λ phase. phase.lets) schema.phases in
       let patterns = (flat_schema schema).patterns in
       let held = flat_map pattern_lets patterns in
-      let found = sum_all (concrete_found (changed counts (λ text. text)) (looked amounts ordered) schema) schema.patterns in
+      let found = sum_all (concrete_found (changed counts (λ text. text)) (looked amounts ordered) schema.patterns) schema.patterns in
       cap_parts (base_counts schema) (cap found) (plus own (sum_all phase_lets schema.phases)) (sum_all (flat_amount counts) patterns)
       (cap-cap (plus own (cap (sum_all phase_lets schema.phases)))
       ∙ cap_parts own (cap (sum_all phase_lets schema.phases)) own (sum_all phase_lets schema.phases) refl (cap-cap (sum_all phase_lets schema.phases)))

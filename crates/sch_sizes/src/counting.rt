@@ -16,6 +16,7 @@ use crate::origin::origin_of;
 use crate::pattern::{Scale, Whole};
 use crate::sum::{Weighing, sum_over};
 use crate::table::amounts_of;
+use sch_expansion::Origins;
 use sch_model::{Assertion, LetDecl, Phase, RawPattern, RawRule, RawSchema};
 use sch_references::RuleOrder;
 use std::alloc::{AllocError, Global};
@@ -55,18 +56,18 @@ impl Weighing<Phase> for Counting {
 /// The patterns of a schema that aren't abstract, as they are counted.
 #[derive(Drop)]
 struct Patterns<'a, 'r> {
-    schema: &'a RawSchema,
+    origins: &'a Origins<'a>,
     whole: Whole<'a, 'r, Counting>,
 }
 
 impl<'a, 'r> Weighing<RawPattern> for Patterns<'a, 'r> {
-    ghost amount = { λ patterns pattern. concrete_found (changed counts (λ text. text)) (looked patterns.whole.amounts.now patterns.whole.rules.now) patterns.schema.now pattern };
+    ghost amount = { λ patterns pattern. concrete_found (changed counts (λ text. text)) (looked patterns.whole.amounts.now patterns.whole.rules.now) patterns.origins.now pattern };
 
     fn amount_of(&self, item: &RawPattern) -> Amount {
         if item.is_abstract {
             return Amount::none();
         }
-        self.whole.of_origin(item, origin_of(self.schema, item))
+        self.whole.of_origin(item, origin_of(self.origins, item))
     }
 }
 
@@ -82,8 +83,10 @@ fn base_counts(schema: &RawSchema) -> Amount
 pub(crate) fn counts_of<'a>(
     alloc: Global,
     schema: &'a RawSchema,
+    origins: &'a Origins<'a>,
     rules: &'a RuleOrder<'_>,
 ) -> Result<Amount, AllocError>
+    requires { origins.now ≡ schema.now.patterns }
     ensures { IfOk result (λ amount. IsOrderOf (abstract_rules schema.now) rules.now → ExtendsAreReplaced (abstract_rules schema.now) →
         amount ≡ cap (schema_counts (flat_schema schema.now))) }
 {
@@ -95,7 +98,7 @@ pub(crate) fn counts_of<'a>(
         amounts: amounts.as_slice(),
     };
     let patterns = Patterns {
-        schema: &*schema,
+        origins: &*origins,
         whole,
     };
     let sum = sum_over::<RawPattern, _>(&patterns, schema.patterns.as_slice());

@@ -21,13 +21,12 @@ ghost use Rattle.sch_sizes.specs.Sizes.{size_places};
 
 use crate::amount::Amount;
 use crate::counting::counts_of;
-use crate::origin::pattern_named;
 use crate::pattern::{Scale, Whole};
 use crate::sizing::Sizing;
 use crate::table::{amounts_for, amounts_of};
 use doc_tree::MAX_LIVE_NODES;
 use sch_base::{MAX_ASSERTIONS, MAX_LETS, MAX_RULES, MAX_TEXT_BYTES};
-use sch_expansion::extends_are_replaced;
+use sch_expansion::{Origins, extends_are_replaced};
 use sch_flat::{FlatSize, SchemaParts, size_with_patterns};
 use sch_model::{NodeId, RawPattern, RawSchema, SchemaError, SchemaFault, Text};
 use sch_references::RuleOrder;
@@ -62,10 +61,12 @@ fn instance_size(
 fn pattern_size<'a>(
     alloc: Global,
     schema: &RawSchema,
+    origins: &Origins<'_>,
     rules: &'a RuleOrder<'_>,
     plain: &'a [Amount],
     pattern: &RawPattern,
 ) -> Result<Amount, AllocError>
+    requires { origins.now ≡ schema.now.patterns }
     ensures { IfOk result (λ amount. IsOrderOf (abstract_rules schema.now) rules.now → ExtendsAreReplaced (abstract_rules schema.now) →
         plain.now ≡ stands_amounts (changed sizes (λ text. text)) (abstract_rules schema.now) rules.now →
         amount ≡ cap (of_events (pattern_events (flat_pattern schema.now pattern.now)))) }
@@ -79,7 +80,7 @@ fn pattern_size<'a>(
         };
         return Ok(whole.of_pattern(pattern, pattern));
     };
-    match pattern_named(schema, name) {
+    match origins.named(name.as_str()) {
         Some(origin) => instance_size(alloc, rules, pattern, origin),
         None => Ok(scale.of_pattern(pattern)),
     }
@@ -89,8 +90,10 @@ fn pattern_size<'a>(
 fn patterns_size<'a>(
     alloc: Global,
     schema: &'a RawSchema,
+    origins: &Origins<'_>,
     rules: &'a RuleOrder<'_>,
 ) -> Result<Amount, AllocError>
+    requires { origins.now ≡ schema.now.patterns }
     ensures { IfOk result (λ amount. IsOrderOf (abstract_rules schema.now) rules.now → ExtendsAreReplaced (abstract_rules schema.now) →
         amount ≡ cap (of_events (flat_map pattern_events (flat_schema schema.now).patterns))) }
 {
@@ -99,7 +102,7 @@ fn patterns_size<'a>(
     let mut sum = Amount::none();
     for pattern in schema.patterns.as_slice() {
         if !pattern.is_abstract {
-            let amount = pattern_size(alloc, schema, &*rules, plain.as_slice(), pattern)?;
+            let amount = pattern_size(alloc, schema, origins, &*rules, plain.as_slice(), pattern)?;
             sum = sum.plus(amount);
         }
     }
@@ -135,7 +138,8 @@ fn check_with(alloc: Global, schema: &RawSchema, rules: &RuleOrder<'_>) -> Resul
     ensures { ExtendsAreReplaced (abstract_rules schema.now) → Ended (first_among (size_places schema.now)) result }
 {
     let node = schema.head.node;
-    let counts = counts_of(alloc, schema, rules)?;
+    let origins = Origins::new(alloc, schema.patterns.as_slice())?;
+    let counts = counts_of(alloc, &*schema, &origins, &*rules)?;
     if counts.rule_count > MAX_RULES as u64 {
         return refuse(alloc, 16, node, "4096");
     }
@@ -145,7 +149,7 @@ fn check_with(alloc: Global, schema: &RawSchema, rules: &RuleOrder<'_>) -> Resul
     if counts.let_count > MAX_LETS as u64 {
         return refuse(alloc, 18, node, "1024");
     }
-    let patterns = patterns_size(alloc, schema, rules)?;
+    let patterns = patterns_size(alloc, &*schema, &origins, &*rules)?;
     if fits(schema, patterns.size()) {
         return Ok(());
     }
@@ -156,7 +160,7 @@ fn check_with(alloc: Global, schema: &RawSchema, rules: &RuleOrder<'_>) -> Resul
 /// lets, or a document larger than a document may be. It is told at the schema's element, by the first of these limits.
 ///
 /// Nothing is expanded. Time is linear in the schema and, for each instance, in the texts of its abstract pattern and, where a
-/// rule of that extends one, of the abstract rules; besides, each instance looks for its abstract pattern among the patterns.
+/// rule of that extends one, of the abstract rules.
 pub fn check_sizes(
     alloc: Global,
     schema: &RawSchema,

@@ -1,14 +1,9 @@
 -- Patterns without abstract parts, by the abstract rules and the patterns of their schema.
-use Rattle.std.specs.Prelude.{ℕ, ◌&&◌, List, Option, None, Some, find}
+use Rattle.std.specs.Prelude.{ℕ, List, Option, None, Some}
 use Rattle.sch_model.specs.declared.flat.FlatPattern.{FlatPattern}
 use Rattle.sch_model.specs.declared.raw.RawPattern.{RawPattern}
 use Rattle.sch_model.specs.declared.raw.RawRule.{RawRule}
-use Rattle.sch_references.specs.Extends.{is_id}
-use Rattle.sch_expansion.specs.Flat.{instance_of, pattern_from}
-
--- the abstract pattern with this id among the patterns
-abbrev pub pattern_among : List RawPattern → List ℕ → Option RawPattern
-pattern_among patterns name = find (λ pattern. pattern.is_abstract && is_id name pattern.id) patterns
+use Rattle.sch_expansion.specs.Flat.{instance_of, pattern_among, pattern_from}
 
 -- a pattern by what it is an instance of
 abbrev pub flat_as : List RawRule → List RawPattern → RawPattern → Option (List ℕ) → FlatPattern

@@ -5,7 +5,7 @@ use Rattle.sch_model.specs.declared.flat.FlatSchema.{FlatSchema}
 use Rattle.sch_model.specs.declared.parts.Phase.{Phase}
 use Rattle.sch_model.specs.declared.raw.RawPattern.{RawPattern}
 use Rattle.sch_model.specs.declared.raw.RawSchema.{RawSchema}
-use Rattle.sch_expansion.specs.Flat.{flat_pattern, pattern_named}
+use Rattle.sch_expansion.specs.Flat.{flat_pattern, pattern_among}
 use Rattle.sch_sizes.specs.declared.amount.Amount.{Amount}
 use Rattle.sch_sizes.specs.inner.Amounts.{cap, many, nothing, plus, sum_all}
 use Rattle.sch_sizes.specs.inner.Sums.{flat_amount, pattern_found}
@@ -13,19 +13,19 @@ use Rattle.sch_sizes.specs.inner.Weights.{FlatWeights, Weights}
 use Rattle.sch_sizes.specs.Sizes.{all_assertions, all_lets, all_rules}
 
 -- the pattern whose lets and rules a pattern has
-abbrev pub origin_by : RawSchema → RawPattern → Option (List ℕ) → Option RawPattern
-origin_by schema pattern None = Some pattern
-origin_by schema pattern (Some name) = pattern_named schema name
+abbrev pub origin_by : List RawPattern → RawPattern → Option (List ℕ) → Option RawPattern
+origin_by patterns pattern None = Some pattern
+origin_by patterns pattern (Some name) = pattern_among patterns name
 
 -- a pattern with the lets and rules of another one, or bare
 abbrev pub found_from : Weights → (List ℕ → Amount) → RawPattern → Option RawPattern → Amount
 found_from weights look pattern None = cap (weights.pattern_weight pattern)
 found_from weights look pattern (Some origin) = pattern_found weights look pattern origin
 
--- a pattern that isn't abstract
-abbrev pub concrete_found : Weights → (List ℕ → Amount) → RawSchema → RawPattern → Amount
-concrete_found weights look schema pattern =
-    if pattern.is_abstract then nothing else found_from weights look pattern (origin_by schema pattern pattern.is_a)
+-- a pattern that isn't abstract, among the patterns of its schema
+abbrev pub concrete_found : Weights → (List ℕ → Amount) → List RawPattern → RawPattern → Amount
+concrete_found weights look patterns pattern =
+    if pattern.is_abstract then nothing else found_from weights look pattern (origin_by patterns pattern pattern.is_a)
 
 -- what a pattern is meant to amount to
 abbrev pub concrete_meant : FlatWeights → RawSchema → RawPattern → Amount

@@ -13,7 +13,7 @@ returns c = λ order replacing.
     let schema = c.args.schema.now in
     let ordered = c.args.rules.now in
     let amounts = c.as_slice.result.now in
-    let found = concrete_found (changed counts (λ text. text)) (looked amounts ordered) schema in
+    let found = concrete_found (changed counts (λ text. text)) (looked amounts ordered) in
     c.plus.ensures
-    ∙ ap₂ (λ a b. cap (plus a b)) c.base_counts.ensures (c.sum_over-sum.ensures ∙ ap (λ patterns. cap (sum_all found patterns)) c.as_slice-2.ensures)
+    ∙ ap₂ (λ a b. cap (plus a b)) c.base_counts.ensures (c.sum_over-sum.ensures ∙ ap₂ (λ all patterns. cap (sum_all (found all) patterns)) c.requires c.as_slice-2.ensures)
     ∙ counts_right schema ordered order replacing amounts (c.as_slice.ensures.value ∙ c.in_ok-amounts.ensures (abstract_rules schema) order replacing)
