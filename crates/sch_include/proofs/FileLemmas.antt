@@ -1,9 +1,10 @@
 -- A file takes the place of an include.
-use Rattle.std.proofs.Common.{◌≡◌, ◌≢◌, inl, inr, ℕ, suc, ◌+◌, ◌-◌, ◌*◌, ◌<◌, ◌≤◌, true, false, List, [], ◌∷◌, ◌++◌, length, None, Some, refl, sym, ap, ap₂, ◌∙◌, subst, true≢false, arith}
+use Rattle.std.proofs.Common.{◌≡◌, ◌≢◌, inl, inr, ℕ, suc, ◌+◌, ◌-◌, ◌≤◌, true, false, List, [], ◌∷◌, ◌++◌, length, Option, None, Some, refl, sym, ap, ap₂, ◌∙◌, subst, true≢false, arith}
 use Rattle.std.specs.Prelude.{Result, Ok, Err, nat_lt, codes}
 use Rattle.std.proofs.lemmas.Bool.{ltb-false}
 use Rattle.sch_base.specs.declared.limits.TheConstants.{MAX_INCLUDE_DEPTH}
 use Rattle.sch_io.specs.Files.{Files}
+use Rattle.sch_io.specs.ShelfState.{ShelfState}
 use Rattle.doc_tree.specs.kind.Kind.TheVariants as kinds
 use Rattle.doc_tree.specs.Kinds.{can_be_kid, is_element, is_text}
 use Rattle.doc_tree.specs.Laws.{HasWaysUp, Ordered, WellFormed}
@@ -20,17 +21,17 @@ use Rattle.sch_include.specs.declared.fault.IncludeKind.TheVariants as kind
 use Rattle.sch_include.specs.declared.joiner.Joiner.{Joiner}
 use Rattle.sch_include.specs.declared.source.OpenFile.{OpenFile}
 use Rattle.sch_include.specs.inner.Growing.{Receives}
+use Rattle.sch_include.specs.Ends.{faults_with, misses_with}
 use Rattle.sch_include.specs.Includes.{is_include}
 use Rattle.sch_include.specs.Parts.{Standing, With}
 use Rattle.doc_tree.specs.NameTests.{has_name}
 use Rattle.sch_rules.specs.Words.{schematron}
-use Rattle.std.proofs.Math.Nat.{suc-mul}
-use Rattle.std.specs.Prelude.{IsErrAnd}
+use Rattle.std.specs.Prelude.{IsErrAnd, OnOk}
 use Rattle.sch_include.specs.inner.Deep.{is_deep_at}
 use Rattle.sch_include.specs.Taking.{Loading, From, Opening, Placing, Reading, Source, Taking, elements_above, fault_of, fitting, in_place_of, included_source, is_too_deep, text_below}
-use Rattle.sch_include.specs.inner.Joining.{CanWalk, Gives, IsFile, Joins, Keeps, LoadsFile, TakesFile, WalksFile, entered_source, fit_fault, source_of, standing_of}
+use Rattle.sch_include.specs.inner.Joining.{CanWalk, Gives, IsFile, Joins, Keeps, LoadsFile, Shows, TakesFile, WalksFile, entered_source, fit_fault, source_of, standing_of}
 use Rattle.sch_include.proofs.NodeLemmas.{deep-bound, none-is}
-use Rattle.sch_include.proofs.TakeLemmas.{and-left, choose-none, choose-some, chosen-none, document-depth, document-kind, document-lives, element-is}
+use Rattle.sch_include.proofs.TakeLemmas.{and-left, choose-none, choose-some, chosen-none, document-depth, document-kind, document-lives, element-is, fit-kind}
 
 -- an element of a file stands below some node, and not too deep
 pub element-kind : (T : Table) (n : ℕ) → is_include T n ≡ true → kind_of T n ≡ Some kinds.Element
@@ -72,7 +73,7 @@ module _ (old placed : Joiner) (file included : OpenFile) (n p : ℕ) (can : Can
     little = subst (λ (m : ℕ). m ≤ MAX_LIVE_TEXT_BYTES) (ap (λ (m : ℕ). (m + text_below included.tree.now.nodes (document_element included.tree.now.nodes)) - text_below file.tree.now.nodes n) standing_text ∙ sym text)
         (ltb-false MAX_LIVE_TEXT_BYTES ((standing.text + text_below included.tree.now.nodes (document_element included.tree.now.nodes)) - text_below file.tree.now.nodes n) tests.2)
 
-    pub placed-can : WellFormed included.tree.now.nodes → Ordered included.tree.now.nodes → HasWaysUp included.tree.now.nodes → CanWalk placed included (document_element included.tree.now.nodes) p
+    placed-can : WellFormed included.tree.now.nodes → Ordered included.tree.now.nodes → HasWaysUp included.tree.now.nodes → CanWalk placed included (document_element included.tree.now.nodes) p
     placed-can its_formed its_ordered its_ways =
         let element : kind_of included.tree.now.nodes (document_element included.tree.now.nodes) ≡ Some kinds.Element = document-kind included.tree.now.nodes its_formed its_ordered its_ways is_file.document in
         record {
@@ -91,7 +92,7 @@ module _ (old placed : Joiner) (file included : OpenFile) (n p : ℕ) (can : Can
           files = subst (λ (names : List (List ℕ)). length names ≤ MAX_INCLUDE_DEPTH + 1) (sym reading) can.files;
         }
 
-  pub placed-keeps : (new : Joiner) → Keeps placed new included (document_element included.tree.now.nodes) → Keeps old new file n
+  placed-keeps : (new : Joiner) → Keeps placed new included (document_element included.tree.now.nodes) → Keeps old new file n
   placed-keeps new keeps = record {
     reading = keeps.reading ∙ reading;
     nodes = omega (arith, keeps.nodes, nodes, can.room, ap (λ (t : Contents). length (order t.nodes)) tree);
@@ -100,7 +101,7 @@ module _ (old placed : Joiner) (file included : OpenFile) (n p : ℕ) (can : Can
     little = keeps.little;
   }
 
-  pub placed-joins : (new : Joiner) (told : List Line) → WellFormed included.tree.now.nodes → Ordered included.tree.now.nodes → HasWaysUp included.tree.now.nodes → Joins placed.tree.nodes new.tree.nodes p included.tree.now.nodes (document_element included.tree.now.nodes) told → Joins old.tree.nodes new.tree.nodes p file.tree.now.nodes n told
+  placed-joins : (new : Joiner) (told : List Line) → WellFormed included.tree.now.nodes → Ordered included.tree.now.nodes → HasWaysUp included.tree.now.nodes → Joins placed.tree.nodes new.tree.nodes p included.tree.now.nodes (document_element included.tree.now.nodes) told → Joins old.tree.nodes new.tree.nodes p file.tree.now.nodes n told
   placed-joins new told its_formed its_ordered its_ways joins =
       let same : Joins old.tree.nodes new.tree.nodes p included.tree.now.nodes (document_element included.tree.now.nodes) told = subst (λ (t : Contents). Joins t.nodes new.tree.nodes p included.tree.now.nodes (document_element included.tree.now.nodes) told) tree joins in
       record {
@@ -129,6 +130,18 @@ opened-gives files depth source n name T a b placed told (Err error.Memory) load
 abbrev Unread : IncludeError → Result Contents IncludeError
 Unread e = Err e
 
+abbrev Read : Contents → Result Contents IncludeError
+Read tree = Ok tree
+
+pub read≢memory : (tree : Contents) → Read tree ≡ Err error.Memory → ⊥
+read≢memory tree h = cc
+
+abbrev Refused : IncludeKind → Option IncludeKind
+Refused found = Some found
+
+pub refused≢none : (found : IncludeKind) → Refused found ≡ None → ⊥
+refused≢none found h = cc
+
 -- a file that is no tree
 pub unopened-takes : (old new : Joiner) (file : OpenFile) (n p : ℕ) (name : List ℕ) (e : IncludeError) (F : Files → Type 0) → ((files : Files) → F files → LoadsFile files name (Err e)) → new ≡ record old { opened = new.opened } →
     ((Unread e ≡ Err error.Memory → ⊥) → new.opened ≡ old.opened ++ name ∷ []) → TakesFile old new file n p name (Err e) F
@@ -148,7 +161,7 @@ module _ (old opened : Joiner) (file : OpenFile) (n p : ℕ) (name : List ℕ) (
   fitting-at = ap (fitting (source_of old file) n name T) (opened-standing old opened name same noted)
 
   -- a file that doesn't fit
-  pub unfit-takes : (after : Joiner) (found : IncludeKind) → after ≡ opened → fit_fault file.tree.now.nodes n T above_new (standing_of opened) ≡ Some found → TakesFile old after file n p name (Err (error.Fault (fault_of found name))) F
+  pub unfit-takes : (after : Joiner) (found : IncludeKind) → after ≡ opened → Some found ≡ fit_fault file.tree.now.nodes n T above_new (standing_of opened) → TakesFile old after file n p name (Err (error.Fault (fault_of found name))) F
   unfit-takes after found kept fault = record {
     told = [];
     gives = λ files are depth deep. record {
@@ -167,10 +180,10 @@ module _ (old opened : Joiner) (file : OpenFile) (n p : ℕ) (name : List ℕ) (
           (is_too_deep (elements_above (source_of old file) n) T)
           (nat_lt MAX_LIVE_TEXT_BYTES ((opened.text + text_below T (document_element T)) - text_below file.tree.now.nodes n))
           kind.TooManyNodes kind.TreeTooDeep kind.TooMuchText found name (in_place_of (source_of old file) n T (standing_of opened))
-          (ap (λ (d : ℕ). fit_fault file.tree.now.nodes n T d (standing_of opened)) (sym above_is) ∙ fault)
+          (ap (λ (d : ℕ). fit_fault file.tree.now.nodes n T d (standing_of opened)) (sym above_is) ∙ sym fault)
 
   -- a file that fits, and was walked
-  pub fit-takes : (placed new : Joiner) (included : OpenFile) (result : Result (Unit {0}) IncludeError) → fit_fault file.tree.now.nodes n T above_new (standing_of opened) ≡ None → included.tree.now.nodes ≡ T → included.name.now ≡ name → included.above ≡ above_new →
+  fit-takes : (placed new : Joiner) (included : OpenFile) (result : Result (Unit {0}) IncludeError) → fit_fault file.tree.now.nodes n T above_new (standing_of opened) ≡ None → included.tree.now.nodes ≡ T → included.name.now ≡ name → included.above ≡ above_new →
       placed ≡ record opened { nodes = placed.nodes; text = placed.text } → placed.nodes ≡ (opened.nodes + length (below T (document_element T))) - length (below file.tree.now.nodes n) →
       placed.text ≡ (opened.text + text_below T (document_element T)) - text_below file.tree.now.nodes n →
       (walks : WalksFile placed new included p result F) → (result ≡ Ok tt → Joins old.tree.nodes new.tree.nodes p file.tree.now.nodes n walks.told) → TakesFile old new file n p name result F
@@ -211,8 +224,95 @@ node-shallow joiner file n p can ordered is =
     deep-bound file.tree.now.nodes file.above n (element-is (kind_of file.tree.now.nodes n) is)
     (none-is (is_deep_at file.tree.now.nodes file.above) (order file.tree.now.nodes) n can.shallow (sym (ordered.live_in_order n) ∙ can.lives))
 
--- one file more may be read inside another
-pub measure-enter : (r k x : ℕ) → r ≤ MAX_INCLUDE_DEPTH → x < k → ((MAX_INCLUDE_DEPTH + 1) - (r + 1)) * k + x < ((MAX_INCLUDE_DEPTH + 1) - r) * k
-measure-enter r k x few less =
-    let more : (MAX_INCLUDE_DEPTH + 1) - r ≡ suc ((MAX_INCLUDE_DEPTH + 1) - (r + 1)) = omega (arith, few) in
-    omega (arith, less, ap (λ (m : ℕ). m * k) more ∙ suc-mul ((MAX_INCLUDE_DEPTH + 1) - (r + 1)) k)
+-- where a file's document element stands in the whole tree
+pub above-include : (old : Joiner) (file : OpenFile) (n p : ℕ) → CanWalk old file n p → is_include file.tree.now.nodes n ≡ true → WellFormed file.tree.now.nodes → HasWaysUp file.tree.now.nodes →
+    (depth : ℕ) → depth ≡ length (ancestors file.tree.now.nodes n) → (file.above + depth) - 1 ≡ elements_above (source_of old file) n
+above-include old file n p can is formed ways depth depth_is = omega (arith, depth_is, element-depth file.tree.now.nodes n formed ways can.lives (element-kind file.tree.now.nodes n is))
+
+-- a file that was opened and fits in the place of an include
+pub record Fitted (old opened placed : Joiner) (file included : OpenFile) (n p : ℕ) : Type 0 where
+  pub can : CanWalk old file n p
+  pub is : is_include file.tree.now.nodes n ≡ true
+  pub formed : WellFormed file.tree.now.nodes
+  pub ordered : Ordered file.tree.now.nodes
+  pub ways : HasWaysUp file.tree.now.nodes
+  pub same : opened ≡ record old { opened = opened.opened }
+  pub placed_is : placed ≡ record opened { nodes = placed.nodes; text = placed.text }
+  pub nodes : placed.nodes ≡ (opened.nodes + length (below included.tree.now.nodes (document_element included.tree.now.nodes))) - length (below file.tree.now.nodes n)
+  pub text : placed.text ≡ (opened.text + text_below included.tree.now.nodes (document_element included.tree.now.nodes)) - text_below file.tree.now.nodes n
+  pub fits : None ≡ fit_fault file.tree.now.nodes n included.tree.now.nodes included.above (standing_of opened)
+  pub above_is : included.above ≡ (file.above + length (ancestors file.tree.now.nodes n)) - 1
+  pub is_file : IsFile included.tree.now.nodes
+  pub its_formed : WellFormed included.tree.now.nodes
+  pub its_ordered : Ordered included.tree.now.nodes
+  pub its_ways : HasWaysUp included.tree.now.nodes
+
+module _ (old opened placed : Joiner) (file included : OpenFile) (n p : ℕ) (fitted : Fitted old opened placed file included n p) where
+  kept_nodes : opened.nodes ≡ old.nodes
+  kept_nodes = ap (λ (j : Joiner). j.nodes) fitted.same
+
+  kept_text : opened.text ≡ old.text
+  kept_text = ap (λ (j : Joiner). j.text) fitted.same
+
+  kept_tree : placed.tree ≡ old.tree
+  kept_tree = ap (λ (j : Joiner). j.tree) fitted.placed_is ∙ ap (λ (j : Joiner). j.tree) fitted.same
+
+  kept_reading : placed.reading.items ≡ old.reading.items
+  kept_reading = ap (λ (j : Joiner). j.reading.items) fitted.placed_is ∙ ap (λ (j : Joiner). j.reading.items) fitted.same
+
+  counted : placed.nodes ≡ (old.nodes + length (below included.tree.now.nodes (document_element included.tree.now.nodes))) - length (below file.tree.now.nodes n)
+  counted = fitted.nodes ∙ ap (λ (m : ℕ). (m + length (below included.tree.now.nodes (document_element included.tree.now.nodes))) - length (below file.tree.now.nodes n)) kept_nodes
+
+  weighed : placed.text ≡ (old.text + text_below included.tree.now.nodes (document_element included.tree.now.nodes)) - text_below file.tree.now.nodes n
+  weighed = fitted.text ∙ ap (λ (m : ℕ). (m + text_below included.tree.now.nodes (document_element included.tree.now.nodes)) - text_below file.tree.now.nodes n) kept_text
+
+  pub fitted-can : CanWalk placed included (document_element included.tree.now.nodes) p
+  fitted-can =
+      placed-can old placed file included n p fitted.can fitted.is fitted.formed fitted.ordered fitted.ways kept_tree kept_reading counted weighed fitted.above_is fitted.is_file
+      (standing_of opened) kept_nodes kept_text (sym fitted.fits) fitted.its_formed fitted.its_ordered fitted.its_ways
+
+  pub fitted-keeps : (new : Joiner) → Keeps placed new included (document_element included.tree.now.nodes) → Keeps old new file n
+  fitted-keeps = placed-keeps old placed file included n p fitted.can fitted.is fitted.formed fitted.ordered fitted.ways kept_tree kept_reading counted weighed fitted.above_is fitted.is_file
+
+  module _ (new : Joiner) (name : List ℕ) (F G : Files → Type 0) (result : Result (Unit {0}) IncludeError) (walks : WalksFile placed new included p result G) (later : (files : Files) → F files → G files) where
+    abbrev earlier : WalksFile placed new included p result F
+    earlier = record { told = walks.told; gives = λ files are. walks.gives files (later files are); joins = walks.joins }
+
+    pub fitted-takes : ((files : Files) → F files → Loading files name (Ok included.tree.now.nodes)) → opened.opened ≡ old.opened ++ name ∷ [] → included.name.now ≡ name → TakesFile old new file n p name result F
+    fitted-takes loads noted name_is =
+        fit-takes old opened file n p name included.tree.now.nodes included.above F loads fitted.same noted
+        (above-elements old placed file included n p fitted.can fitted.is fitted.formed fitted.ordered fitted.ways kept_tree kept_reading counted weighed fitted.above_is fitted.is_file)
+        placed new included result (sym fitted.fits) refl name_is refl fitted.placed_is fitted.nodes fitted.text earlier
+        (λ ok. placed-joins old placed file included n p fitted.can fitted.is fitted.formed fitted.ordered fitted.ways kept_tree kept_reading counted weighed fitted.above_is fitted.is_file
+        new walks.told fitted.its_formed fitted.its_ordered fitted.its_ways (walks.joins ok))
+
+-- want of memory
+pub takes-memory : (old new : Joiner) (file : OpenFile) (n p : ℕ) (name : List ℕ) (F : Files → Type 0) → TakesFile old new file n p name (Err error.Memory) F
+takes-memory old new file n p name F = record { told = []; gives = λ files are depth deep. tt; joins = λ ok. absurd (cc) }
+
+-- what an error shows is the same whatever was wanted
+pub shows-error : {A B : Type 0} (s u : ShelfState) (a c : List (List ℕ)) (e : IncludeError) → Shows {T = A} s u a c (Err e) → Shows {T = B} s u a c (Err e)
+shows-error s u a c (error.Fault fault) h = record { held = h.held; noted = h.noted; later = h.later; misses = h.misses; faults = h.faults; last = h.last }
+shows-error s u a c error.Memory h = record { held = h.held; noted = h.noted; later = h.later; misses = h.misses; faults = h.faults; last = h.last }
+
+-- a limit that a tree passes is no miss, and no fault of the outside
+pub unfit-kind : (S : Table) (n : ℕ) (T : Table) (above : ℕ) (standing : Standing) (found : IncludeKind) → Some found ≡ fit_fault S n T above standing → (before : ℕ) → (misses_with found before ≡ before) × (faults_with found before ≡ before)
+unfit-kind S n T above standing found fault =
+    fit-kind (nat_lt MAX_LIVE_NODES ((standing.nodes + length (below T (document_element T))) - length (below S n))) (is_too_deep above T)
+    (nat_lt MAX_LIVE_TEXT_BYTES ((standing.text + text_below T (document_element T)) - text_below S n)) found (sym fault)
+
+-- a file was opened, and a limit refused it
+pub shows-unfit : {A : Type 0} (s u : ShelfState) (a b c : List (List ℕ)) (x : A) (found : IncludeKind) (name told : List ℕ) → Shows {T = A} s u a b (Ok x) → c ≡ b → u.opened ≡ s.opened ++ name ∷ [] → told ≡ name →
+    ((before : ℕ) → (misses_with found before ≡ before) × (faults_with found before ≡ before)) → Shows {T = Unit {0}} s u a c (Err (error.Fault (fault_of found told)))
+shows-unfit s u a b c x found name told one same noted told_is kind_is = record {
+  held = one.held;
+  noted = λ base was. one.noted base was ∙ ap (λ (l : List (List ℕ)). base ++ l) (sym same);
+  later = (one.later.0, same ∙ one.later.1);
+  misses = one.misses ∙ sym (kind_is s.misses).0;
+  faults = one.faults ∙ sym (kind_is s.faults).1;
+  last = λ of_file. (s.opened, noted ∙ ap (λ (l : List ℕ). s.opened ++ l ∷ []) (sym told_is));
+}
+
+pub on-then : (r : Result (Unit {0}) IncludeError) (P Q : Type 0) → (P → Q) → OnOk r P → OnOk r Q
+on-then (Ok done) P Q f h = f h
+on-then (Err e) P Q f h = tt

@@ -10,3 +10,4 @@ pub mod NodeLemmas
 pub mod TakeLemmas
 pub mod FileLemmas
 pub mod EndLemmas
+pub mod WholeLemmas

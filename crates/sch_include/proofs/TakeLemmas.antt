@@ -131,7 +131,7 @@ document-at T h = by (find (λ k. is_element (kind_of T k)) (kids_of T 0)) refl
         absurd (omega (arith, one, none-counted (λ k. is_element (kind_of T k)) (kids_of T 0) e))
     by (Some k) e = record { element = element-is (kind_of T k) (found-is (λ k. is_element (kind_of T k)) (kids_of T 0) k e); among = found-mem (λ k. is_element (kind_of T k)) (kids_of T 0) k e }
 
-upto-length : (n : ℕ) → length (upto n) ≡ n
+pub upto-length : (n : ℕ) → length (upto n) ≡ n
 upto-length zero = refl
 upto-length (suc n) = length-append (upto n) (n ∷ []) ∙ (ap (λ (m : ℕ). m + 1) (upto-length n) ∙ omega arith)
 
@@ -187,7 +187,7 @@ misses-none kind.TreeTooDeep before h = (refl, refl)
 misses-none kind.TooMuchText before h = (refl, refl)
 
 -- the limits name no miss and no failure of the outside
-fit-kind : (a b c : Bool) (found : IncludeKind) → (if a then Some kind.TooManyNodes else if b then Some kind.TreeTooDeep else if c then Some kind.TooMuchText else None) ≡ Some found → (before : ℕ) → (misses_with found before ≡ before) × (faults_with found before ≡ before)
+pub fit-kind : (a b c : Bool) (found : IncludeKind) → (if a then Some kind.TooManyNodes else if b then Some kind.TreeTooDeep else if c then Some kind.TooMuchText else None) ≡ Some found → (before : ℕ) → (misses_with found before ≡ before) × (faults_with found before ≡ before)
 fit-kind true b c found h before = let same : found ≡ kind.TooManyNodes = (cc) in rw same (refl, refl)
 fit-kind false true c found h before = let same : found ≡ kind.TreeTooDeep = (cc) in rw same (refl, refl)
 fit-kind false false true found h before = let same : found ≡ kind.TooMuchText = (cc) in rw same (refl, refl)

@@ -1,5 +1,5 @@
 -- How the reading of a schema with its includes ends, and what it shows of the outside.
-use Rattle.std.specs.Prelude.{◌≡◌, ℕ, Bool, true, false, List, [], ◌∷◌, ◌++◌, Result, Ok, Err}
+use Rattle.std.specs.Prelude.{◌≡◌, ℕ, Bool, true, false, List, [], ◌∷◌, ◌++◌, Option, Some, Result, Ok, Err, IfErr}
 use Rattle.sch_io.specs.Counts.{one_more}
 use Rattle.sch_io.specs.Files.{Files}
 use Rattle.doc_tree.specs.Table.{Contents}
@@ -54,7 +54,12 @@ abbrev pub IsFirst : List ℕ → List (List ℕ) → Type 0
 IsFirst name [] = Unit {0}
 IsFirst name (first ∷ more) = first ≡ name
 
--- the files that were opened
-pub record Opens (name : List ℕ) (old new opened : List (List ℕ)) : Type 0 where
-  pub named_first : IsFirst name opened
+-- what came of a schema's file, where the shelf may tell its files: the files that were opened for it, in their order, and the answer;
+-- none is opened only for want of memory
+pub record IsRead (files_are : Option Files) (name : List ℕ) (old new : List (List ℕ)) (result : Result Contents IncludeError) : Type 0 where
+  pub opened : List (List ℕ)
   pub noted : new ≡ old ++ opened
+  pub named_first : IsFirst name opened
+  pub some : opened ≡ [] → result ≡ Err error.Memory
+  pub last : IfErr result (NamesLast opened)
+  pub answered : (files : Files) → files_are ≡ Some files → IsAnswered files name opened result

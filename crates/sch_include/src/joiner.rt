@@ -1,6 +1,6 @@
 //! The tree of a schema under way: files are read and put together.
 
-ghost use Rattle.std.specs.Prelude.{◌≡◌, ℕ, List, ◌+◌, ◌-◌, ◌≤◌, ◌∷◌, [], ◌++◌, true, length, None, Some, Ok, Err, nat_lt, IfOk, IfErr, OnOk, MatchOption};
+ghost use Rattle.std.specs.Prelude.{◌≡◌, ◌⊎◌, ℕ, List, ◌+◌, ◌-◌, ◌≤◌, ◌∷◌, [], ◌++◌, true, length, None, Some, Ok, Err, nat_lt, IfOk, IfErr, OnOk, MatchOption};
 ghost use Rattle.std.specs.List.{list_any};
 ghost use Rattle.std.specs.Str.{bytes_eq};
 ghost use Rattle.sch_io.specs.Files.{Files};
@@ -12,9 +12,8 @@ ghost use Rattle.doc_tree.specs.Walks.{ancestors, below};
 ghost use Rattle.sch_rules.specs.Elements.{document_element};
 ghost use Rattle.sch_include.specs.Includes.{is_include};
 ghost use Rattle.sch_include.specs.Taking.{fault_of, included_name, text_below};
-ghost use Rattle.sch_include.specs.inner.Joining.{CanWalk, CanWalkKids, IsFault, IsFile, IsNamed, Keeps, Loads, LoadsFile, Shows, TakesFile, Walks, WalksFile, WalksKids, faults_of_loading, fit_fault, misses_of_loading, refused_kind, source_of, standing_of};
+ghost use Rattle.sch_include.specs.inner.Joining.{IsFault, IsFile, IsNamed, Loads, LoadsFile, Shows, faults_of_loading, fit_fault, misses_of_loading, refused_kind, source_of, standing_of};
 
-use crate::copy::copy_node;
 use crate::fault::{IncludeError, IncludeFault, IncludeKind};
 use crate::href::{file_named, has_fragment, has_scheme};
 use crate::source::{
@@ -97,7 +96,9 @@ impl Joiner {
         ensures shows { Shows (S.state shelf.old) (S.state shelf.new) self.old.opened self.new.opened result }
         ensures told { (files : Files) → (S.state shelf.old).files ≡ Some files → LoadsFile files name.now result }
         ensures is_file { IfOk result (λ tree. IsFile tree.nodes) }
+        ensures noted { (result ≡ Err IncludeError.Memory → ⊥) → (S.state shelf.new).opened ≡ (S.state shelf.old).opened ++ name.now ∷ [] }
         ensures opened { (result ≡ Err IncludeError.Memory → ⊥) → self.new.opened ≡ self.old.opened ++ name.now ∷ [] }
+        ensures once { (self.new.opened ≡ self.old.opened) ⊎ (self.new.opened ≡ self.old.opened ++ name.now ∷ []) }
         ensures same { self.new ≡ record self.old { opened = self.new.opened } }
     {
         let told = Text::copy(self.alloc, name)?;
@@ -110,7 +111,7 @@ impl Joiner {
     }
 
     /// Notes that a file is being read.
-    fn enter(&mut self, name: &str) -> Result<(), AllocError>
+    pub(crate) fn enter(&mut self, name: &str) -> Result<(), AllocError>
         ensures entered { OnOk result (self.new.reading.items ≡ self.old.reading.items ++ name.now ∷ []) }
         ensures tree { self.new.tree ≡ self.old.tree }
         ensures nodes { self.new.nodes ≡ self.old.nodes }
@@ -122,7 +123,7 @@ impl Joiner {
     }
 
     /// Notes that the file which was entered last is read.
-    fn leave(&mut self)
+    pub(crate) fn leave(&mut self)
         ensures left { (before : List (List ℕ)) (name : List ℕ) → self.old.reading.items ≡ before ++ name ∷ [] → self.new.reading.items ≡ before }
         ensures tree { self.new.tree ≡ self.old.tree }
         ensures nodes { self.new.nodes ≡ self.old.nodes }
@@ -133,7 +134,7 @@ impl Joiner {
     }
 
     /// The name of the file that an include names, or what refuses it.
-    fn included_name(&self, source: &OpenFile, n: NodeId) -> Result<Text, IncludeError>
+    pub(crate) fn included_name(&self, source: &OpenFile, n: NodeId) -> Result<Text, IncludeError>
         ensures { IsNamed (included_name (source_of self.now source.now) (standing_of self.now) n) result }
     {
         let href = match href(source.tree, n) {
@@ -186,7 +187,13 @@ impl Joiner {
     }
 
     /// Counts the document element of a tree in place of a node, or tells the limit that the tree then passes.
-    fn fit(&mut self, source: &Tree, n: NodeId, tree: &Tree, above: usize) -> Option<IncludeKind>
+    pub(crate) fn fit(
+        &mut self,
+        source: &Tree,
+        n: NodeId,
+        tree: &Tree,
+        above: usize,
+    ) -> Option<IncludeKind>
         requires lives { is_live source.now.nodes n ≡ true }
         requires room { length (below source.now.nodes n) ≤ self.old.nodes }
         requires few { self.old.nodes ≤ MAX_LIVE_NODES }
@@ -220,7 +227,7 @@ impl Joiner {
 }
 
 /// How many nodes stand above a node.
-fn depth_of(tree: &Tree, n: NodeId) -> usize
+pub(crate) fn depth_of(tree: &Tree, n: NodeId) -> usize
     ensures { result ≡ length (ancestors tree.now.nodes n) }
 {
     tree.laws();

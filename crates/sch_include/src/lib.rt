@@ -5,9 +5,12 @@
 mod copy;
 mod fault;
 mod href;
+mod including;
 mod joiner;
 mod laws;
 mod source;
+mod walk;
 
 pub use fault::{IncludeError, IncludeFault, IncludeKind};
+pub use including::include_all;
 pub use laws::one_inclusion;

@@ -10,7 +10,7 @@ use Rattle.doc_tree.specs.Growth.{ends_in_text}
 use Rattle.doc_tree.specs.InOrder.{IsInOrder}
 use Rattle.doc_tree.specs.Kinds.{can_be_kid, is_document, is_text}
 use Rattle.doc_tree.specs.Laws.{WellFormed}
-use Rattle.doc_tree.specs.Lines.{Line}
+use Rattle.doc_tree.specs.Lines.{Line, lines}
 use Rattle.doc_tree.specs.Table.{AllLive, Contents, Table, is_live, kids_of, kind_of, value_of}
 use Rattle.doc_tree.specs.Walks.{above, ancestors, below, is_open, order, text_bytes}
 use Rattle.name_scopes.specs.Scoping.{InScope}
@@ -24,6 +24,7 @@ use Rattle.sch_include.specs.declared.joiner.Refusal.{Refusal}
 use Rattle.sch_include.specs.declared.joiner.Refusal.TheVariants as refusal
 use Rattle.sch_include.specs.declared.source.OpenFile.{OpenFile}
 use Rattle.sch_include.specs.Ends.{NamesLast, faults_of_including, faults_with, misses_of_including, misses_with}
+use Rattle.sch_include.specs.Included.{WholeFile}
 use Rattle.sch_include.specs.Parts.{InTurn, Part, Standing}
 use Rattle.sch_include.specs.Taking.{Loading, Opening, Placing, Reading, Source, Taking, Walked, fault_of, is_too_deep, text_below}
 use Rattle.sch_rules.specs.Elements.{document_element}
@@ -194,3 +195,7 @@ pub record TakesFile (old new : Joiner) (file : OpenFile) (n p : ℕ) (name : Li
   pub gives : (files : Files) → files_are files → (depth : ℕ) → suc depth + length old.reading.items ≡ MAX_INCLUDE_DEPTH + 2 →
       Gives (Opening files name (Placing (Taking files depth) (source_of old file) n name)) (standing_of old) (standing_of new) told result
   pub joins : result ≡ Ok tt → Joins old.tree.nodes new.tree.nodes p file.tree.now.nodes n told
+
+-- the whole of a schema's own file was read from its root on
+pub record ReadsWhole (old new : Joiner) (T : Table) (name : List ℕ) (result : Result (Unit {0}) IncludeError) (files_are : Files → Type 0) : Type 0 where
+  pub gives : (files : Files) → files_are files → Gives (WholeFile files name T) (standing_of old) (standing_of new) (lines new.tree.nodes) result

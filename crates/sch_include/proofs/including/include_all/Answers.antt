@@ -1,0 +1,34 @@
+-- The schema's own file is opened, and read where it is a document.
+use Rattle.sch_include.proofs.WholeLemmas.{counted-stopped, is-unread, read-passed, read-stopped, read-through, read-unopened, tree-read}
+use Rattle.sch_include.proofs.including.include_all.Goals as goal
+
+pub returns-in_err-tree-clause-read : goal.returns-in_err-tree-clause-read
+returns-in_err-tree-clause-read g c =
+    read-passed (g.S.Shelf.state c.args.shelf.now) (g.S.Shelf.state c.open.new.shelf) c.args.name.now c.from_residual-in_err-tree.result c.in_err-tree.field-0.0
+    (is-unread c.from_residual-in_err-tree.result c.in_err-tree.field-0.0 c.from_residual-in_err-tree.ensures.1)
+    (read-unopened (g.S.Shelf.state c.args.shelf.now) (g.S.Shelf.state c.open.new.shelf) c.args.name.now c.in_ok-joiner.joiner.opened c.in_ok-joiner.ensures.opened c.open.new.self.opened c.in_err-tree.field-0.0
+    c.in_err-tree.ensures.shows c.in_err-tree.ensures.once c.in_err-tree.ensures.opened c.in_err-tree.ensures.told)
+
+pub returns-in_err-read_whole-clause-read : goal.returns-in_err-read_whole-clause-read
+returns-in_err-read_whole-clause-read g c =
+    read-passed (g.S.Shelf.state c.args.shelf.now) (g.S.Shelf.state c.read_whole.new.shelf) c.args.name.now c.from_residual-in_err-read_whole.result c.in_err-read_whole.field-0.0
+    (is-unread c.from_residual-in_err-read_whole.result c.in_err-read_whole.field-0.0 c.from_residual-in_err-read_whole.ensures.1)
+    (read-stopped (g.S.Shelf.state c.args.shelf.now) (g.S.Shelf.state c.open.new.shelf) c.args.name.now c.in_ok-joiner.joiner.opened c.in_ok-joiner.ensures.opened (g.S.Shelf.state c.read_whole.new.shelf) c.in_ok-tree.tree
+    c.open.new.self c.read_whole.new.self (c.in_ok-tree.ensures.opened (tree-read c.in_ok-tree.tree)) c.in_ok-tree.ensures.shows c.in_ok-tree.ensures.told c.in_err-read_whole.field-0.0 c.in_err-read_whole.ensures.shows c.in_err-read_whole.ensures.reads)
+
+pub returns-in_err-read_whole-clause-misses : goal.returns-in_err-read_whole-clause-misses
+returns-in_err-read_whole-clause-misses g c =
+    (counted-stopped (g.S.Shelf.state c.args.shelf.now) (g.S.Shelf.state c.open.new.shelf) c.args.name.now c.in_ok-joiner.joiner.opened c.in_ok-joiner.ensures.opened (g.S.Shelf.state c.read_whole.new.shelf) c.in_ok-tree.tree
+    c.open.new.self c.read_whole.new.self (c.in_ok-tree.ensures.opened (tree-read c.in_ok-tree.tree)) c.in_ok-tree.ensures.shows c.in_err-read_whole.field-0.0 c.in_err-read_whole.ensures.shows c.from_residual-in_err-read_whole.result
+    (is-unread c.from_residual-in_err-read_whole.result c.in_err-read_whole.field-0.0 c.from_residual-in_err-read_whole.ensures.1)).0
+
+pub returns-in_err-read_whole-clause-faults : goal.returns-in_err-read_whole-clause-faults
+returns-in_err-read_whole-clause-faults g c =
+    (counted-stopped (g.S.Shelf.state c.args.shelf.now) (g.S.Shelf.state c.open.new.shelf) c.args.name.now c.in_ok-joiner.joiner.opened c.in_ok-joiner.ensures.opened (g.S.Shelf.state c.read_whole.new.shelf) c.in_ok-tree.tree
+    c.open.new.self c.read_whole.new.self (c.in_ok-tree.ensures.opened (tree-read c.in_ok-tree.tree)) c.in_ok-tree.ensures.shows c.in_err-read_whole.field-0.0 c.in_err-read_whole.ensures.shows c.from_residual-in_err-read_whole.result
+    (is-unread c.from_residual-in_err-read_whole.result c.in_err-read_whole.field-0.0 c.from_residual-in_err-read_whole.ensures.1)).1
+
+pub returns-clause-read : goal.returns-clause-read
+returns-clause-read g c =
+    read-through (g.S.Shelf.state c.args.shelf.now) (g.S.Shelf.state c.open.new.shelf) c.args.name.now c.in_ok-joiner.joiner.opened c.in_ok-joiner.ensures.opened (g.S.Shelf.state c.read_whole.new.shelf) c.in_ok-tree.tree
+    c.open.new.self c.read_whole.new.self (c.in_ok-tree.ensures.opened (tree-read c.in_ok-tree.tree)) c.in_ok-tree.ensures.shows c.in_ok-tree.ensures.told c.in_ok-read_whole.ensures.shows c.in_ok-read_whole.ensures.reads c.in_ok-read_whole.ensures.document
