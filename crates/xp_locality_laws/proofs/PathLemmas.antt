@@ -35,7 +35,7 @@ AllLocal T U touched L M (m ∷ ms) [] = ⊥
 AllLocal T U touched L M (m ∷ ms) (n ∷ ns) = Local T U touched L M m n × AllLocal T U touched L M ms ns
 
 module _ (T U : Table) (touched : Cell → Bool) (L M : Lets) (changed : Changed T U touched) where
-  same-passes : (axis : Axis) (node_test : NodeTest) (n : ℕ) → Stays T U n → passes T axis node_test n ≡ passes U axis node_test n
+  pub same-passes : (axis : Axis) (node_test : NodeTest) (n : ℕ) → Stays T U n → passes T axis node_test n ≡ passes U axis node_test n
   same-passes axis Any n stays = refl
   same-passes axis Star n stays = ap (is_principal axis) (changed.agree.kind n stays)
   same-passes axis (InNamespace uri) n stays =
