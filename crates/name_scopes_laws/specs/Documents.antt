@@ -1,0 +1,13 @@
+-- Texts that are documents (Namespaces in XML 1.0, section 6).
+use Rattle.std.specs.Prelude.{◌≡◌, ℕ, ◌≤◌, List, length, None}
+use Rattle.doc_tree.specs.limits.TheConstants.{MAX_LIVE_TEXT_BYTES}
+use Rattle.doc_tree.specs.Table.{Table}
+use Rattle.pyx_core.specs.Nesting.{bare}
+use Rattle.pyx_core.specs.Reading.{events_of}
+use Rattle.pyx_core.specs.declared.mode.Mode.TheVariants.{Document}
+use Rattle.name_scopes.specs.DocFaults.{doc_fault}
+use Rattle.name_scopes.specs.ScopedTree.{Scoped}
+
+-- a text without fault, and no larger than a tree's text may be, has a tree
+abbrev pub DocumentsHaveTrees : Type 0
+DocumentsHaveTrees = (bytes : List ℕ) → doc_fault bytes ≡ None → length bytes ≤ MAX_LIVE_TEXT_BYTES → (T : Table) × Scoped (bare (events_of Document bytes)) T
