@@ -1,5 +1,8 @@
 pub mod SchemaLemmas
 pub mod EndLemmas
+pub mod EventLemmas
+pub mod FileLemmas
+pub mod OpenLemmas
 pub mod RunLemmas
 pub mod EvaluationLemmas
 pub mod StateLemmas

@@ -1,5 +1,5 @@
 -- The reading of a schema's tree: where it stops and where it goes on.
-use Rattle.std.proofs.Common.{◌≡◌, ◌∙◌, ℕ, ◌==◌, Bool, true, false, not, List, [], ◌∷◌, Option, None, Some, is_some, Result, Ok, Err, inl, inr, refl, sym, ap, subst, if◌then◌else◌, codes}
+use Rattle.std.proofs.Common.{◌≡◌, ◌∙◌, ℕ, ◌==◌, Bool, true, false, List, [], ◌∷◌, Option, None, Some, is_some, Result, Ok, Err, inl, inr, refl, sym, ap, subst, if◌then◌else◌, codes}
 use Rattle.std.proofs.lemmas.Bool.{eqb-true}
 use Rattle.doc_tree.specs.Table.{Table, Facts, entry_at, content_at, kind_at, parent_at, is_live, kind_of}
 use Rattle.doc_tree.specs.Walks.{above, ancestors}
@@ -17,11 +17,10 @@ use Rattle.sch_abstract.specs.FirstFault as abstract
 use Rattle.sch_read.specs.Refused.{Refused}
 use Rattle.sch_abstract.specs.Flat.{flat_schema}
 use Rattle.svrl_out.specs.Locations.{location_of, steps_of, step_by}
-use Rattle.sch_cli.specs.Includes.{has_include}
 use Rattle.sch_cli.specs.Output.{Output}
 use Rattle.sch_cli.specs.Output.{stopped}
 use Rattle.sch_cli.specs.Refusals.{schema_rule_line}
-use Rattle.sch_cli.specs.Stages.{Flattening, Reading, not_yet, refused_rule, stop_at, stop_if}
+use Rattle.sch_cli.specs.Stages.{Flattening, Reading, refused_rule, stop_at, stop_if}
 use Rattle.sch_cli.specs.declared.refusal.SchemaRefusal.TheVariants.{Rule}
 use Rattle.sch_cli.specs.declared.status.Status.TheVariants as status
 use Rattle.sch_cli.specs.declared.stop.Stop.{Stop}
@@ -69,34 +68,19 @@ pub refusal_told : (T : Table) (e : SchemaError) (fault : SchemaFault) (location
 refusal_told T e fault location is at = subst (λ (x : SchemaError). IsRefusal T x (SchemaRefused (Rule fault location))) (sym is)
     (ap (λ (l : List ℕ). stopped status.SchemaRefused (schema_rule_line l fault)) at)
 
--- the reading of a schema's tree stops at an include
-pub stops_at_include : (T : Table) → has_include T ≡ true → Reading T (Err not_yet)
-stops_at_include T is = inl (not_yet, stopped_there (has_include T) not_yet T is, refl)
-
--- at the first broken rule
-pub stops_at_rule : (T : Table) → has_include T ≡ false → (e : SchemaError) → Refused T e → (stop : Stop) → IsRefusal T e stop →
-    ByCause (λ output. Reading T (Err output)) (λ _. ⊥) ⊥ (Unit {0}) stop
-stops_at_rule T no_include e first stop = refusal_stops (Reading T) T e stop (λ fault is. inr (
-  T,
-  passed (has_include T) not_yet T no_include,
-  inl (refused_rule T fault, broken_there (first_broken T) (refused_rule T) (raw_schema T) fault (subst (Refused T) is first), refl),
-))
+-- the reading of a schema's tree stops at the first broken rule
+pub stops_at_rule : (T : Table) (e : SchemaError) → Refused T e → (stop : Stop) → IsRefusal T e stop → ByCause (λ output. Reading T (Err output)) (λ _. ⊥) ⊥ (Unit {0}) stop
+stops_at_rule T e first stop = refusal_stops (Reading T) T e stop
+    (λ fault is. inl (refused_rule T fault, broken_there (first_broken T) (refused_rule T) (raw_schema T) fault (subst (Refused T) is first), refl))
 
 -- and else it comes to the schema as it is read
-pub comes_to_raw : (T : Table) (raw : RawSchema) → has_include T ≡ false → first_broken T ≡ None → raw ≡ raw_schema T → (result : Result FlatSchema Stop) →
+pub comes_to_raw : (T : Table) (raw : RawSchema) → first_broken T ≡ None → raw ≡ raw_schema T → (result : Result FlatSchema Stop) →
     Gives (λ flat. Flattening T raw (Ok flat)) (λ output. Flattening T raw (Err output)) (λ _. ⊥) result →
     Gives (λ flat. Reading T (Ok flat)) (λ output. Reading T (Err output)) (λ _. ⊥) result
-comes_to_raw T raw no_include none is (Ok flat) gives = inr (
-  T,
-  passed (has_include T) not_yet T no_include,
-  inr (raw_schema T, unbroken (first_broken T) (refused_rule T) (raw_schema T) none, subst (λ (r : RawSchema). Flattening T r (Ok flat)) is gives),
-)
-comes_to_raw T raw no_include none is (Err stop) gives = by_cause (λ output. Flattening T raw (Err output)) (λ output. Reading T (Err output)) (λ _. ⊥) (λ _. ⊥) ⊥ ⊥ (Unit {0}) (Unit {0})
-    (λ s stops. inr (
-      T,
-      passed (has_include T) not_yet T no_include,
-      inr (raw_schema T, unbroken (first_broken T) (refused_rule T) (raw_schema T) none, subst (λ (r : RawSchema). Flattening T r (Err (stopped_by s))) is stops),
-    ))
+comes_to_raw T raw none is (Ok flat) gives =
+    inr (raw_schema T, unbroken (first_broken T) (refused_rule T) (raw_schema T) none, subst (λ (r : RawSchema). Flattening T r (Ok flat)) is gives)
+comes_to_raw T raw none is (Err stop) gives = by_cause (λ output. Flattening T raw (Err output)) (λ output. Reading T (Err output)) (λ _. ⊥) (λ _. ⊥) ⊥ ⊥ (Unit {0}) (Unit {0})
+    (λ s stops. inr (raw_schema T, unbroken (first_broken T) (refused_rule T) (raw_schema T) none, subst (λ (r : RawSchema). Flattening T r (Err (stopped_by s))) is stops))
     (λ name no. no) (λ w. w) (λ m. m) stop gives
 
 -- which stops at the first rule broken by references or sizes

@@ -1,6 +1,5 @@
 pub mod Commands
 pub mod Documents
-pub mod Includes
 pub mod Refusals
 pub mod Output
 pub mod Stages

@@ -1,7 +1,10 @@
 -- What a run gives: the bytes for the output, the line for the error output, and the status.
 use Rattle.std.specs.Prelude.{ℕ, List, [], ◌++◌, codes, Option, None, Some, if◌then◌else◌}
 use Rattle.pyx_core.specs.Escapes.{escaped}
+use Rattle.pyx_core.specs.Written.{text_of}
 use Rattle.doc_tree.specs.Table.{Table}
+use Rattle.sch_model.specs.declared.flat.FlatSchema.{FlatSchema}
+use Rattle.sch_flat.specs.FlatDocument.{flat_events}
 use Rattle.sch_compiled.specs.declared.state_fault.StateFault.{StateFault}
 use Rattle.sch_compiled.specs.declared.plan.Plan.{Plan}
 use Rattle.sch_units.specs.Validity.{finds, first_fault, pair_outcome}
@@ -23,9 +26,6 @@ stopped status line = record { out = []; err = line; ends = status }
 abbrev pub usage_line : List ℕ
 usage_line = codes "sch: usage\n"
 
-abbrev pub not_yet_line : List ℕ
-not_yet_line = codes "sch: not yet\n"
-
 abbrev pub faulted_line : List ℕ
 faulted_line = codes "sch: faulted\n"
 
@@ -40,6 +40,10 @@ write_fault_line = codes "sch: write fault\n"
 
 abbrev pub memory_line : List ℕ
 memory_line = codes "sch: out of memory\n"
+
+-- a schema without abstract parts, as the text of its document
+abbrev pub expanded : FlatSchema → Output
+expanded flat = record { out = text_of (flat_events flat); err = []; ends = Clean }
 
 -- the report of a tree by a plan, from the outcome of each node under each active pattern
 abbrev pub report_of : Plan → Table → List ℕ

@@ -7,6 +7,8 @@ use Rattle.name_scopes.specs.declared.fault.DocKind.{DocKind}
 use Rattle.name_scopes.specs.declared.fault.DocKind.TheVariants.{Pyx, NoPrefix, SameAttribute, BadDeclaration, BothQuotes, TooManyNodes, TooDeep}
 use Rattle.name_scopes.specs.declared.fault.DocFault.{DocFault}
 use Rattle.pyx_core.specs.Escapes.{escaped}
+use Rattle.sch_include.specs.declared.fault.IncludeKind.{IncludeKind}
+use Rattle.sch_include.specs.declared.fault.IncludeKind.TheVariants as include
 use Rattle.sch_model.specs.declared.fault.SchemaFault.{SchemaFault}
 use Rattle.sch_cli.specs.declared.refusal.FileRefusal.{FileRefusal}
 use Rattle.sch_cli.specs.declared.refusal.FileRefusal.TheVariants.{TooLarge, Faulted}
@@ -62,6 +64,30 @@ abbrev pub schema_file_line : List ℕ → FileRefusal → List ℕ
 schema_file_line name refusal =
     codes "sch: schema refused: " ++ (escaped name ++ (codes " " ++ (reason_text refusal ++ codes "\n")))
 
+-- the names of the kinds of faults of an include
+abbrev pub include_words : IncludeKind → List ℕ
+include_words include.NoHref = codes "NoHref"
+include_words include.Scheme = codes "Scheme"
+include_words include.Fragment = codes "Fragment"
+include_words include.Cycle = codes "Cycle"
+include_words include.TooDeep = codes "TooDeep"
+include_words include.TooMany = codes "TooMany"
+include_words include.Missing = codes "Missing"
+include_words include.Failed = codes "Failed"
+include_words include.TooLarge = codes "TooLarge"
+include_words (include.Doc fault) = codes "Doc"
+include_words include.TooManyNodes = codes "TooManyNodes"
+include_words include.TreeTooDeep = codes "TreeTooDeep"
+include_words include.TooMuchText = codes "TooMuchText"
+
+-- what is wrong with an include of a schema
+unfoldable pub include_text : IncludeKind → List ℕ
+include_text kind = codes "sch: schema refused: include " ++ (include_words kind ++ codes " ")
+
+-- the line of a schema with an include that is refused; the name has the escapes of PYX
+abbrev pub include_line : IncludeKind → List ℕ → List ℕ
+include_line kind name = include_text kind ++ (escaped name ++ codes "\n")
+
 -- which rule a schema breaks, by its number, and at which location
 unfoldable pub rule_text : ℕ → List ℕ → List ℕ
 rule_text rule location = codes "sch: schema refused: rule " ++ (decimal rule ++ (codes " at " ++ (location ++ codes ": ")))
@@ -72,10 +98,12 @@ schema_rule_line location fault = rule_text fault.rule location ++ (escaped faul
 
 -- the line of a refused schema
 abbrev pub schema_refused_line : SchemaRefusal → List ℕ
-schema_refused_line (schema.File name refusal) = schema_file_line name.now refusal
+schema_refused_line (schema.File name refusal) = schema_file_line name refusal
+schema_refused_line (schema.Include kind name) = include_line kind name
 schema_refused_line (schema.Rule fault location) = schema_rule_line location fault
 
 -- the file that the line of a refused schema names
 abbrev pub file_in : SchemaRefusal → Option (List ℕ)
-file_in (schema.File name refusal) = Some name.now
+file_in (schema.File name refusal) = Some name
+file_in (schema.Include kind name) = None
 file_in (schema.Rule fault location) = None

@@ -7,13 +7,13 @@ use Rattle.sch_io.specs.Wrote.{Appends, Wrote}
 use Rattle.sch_io.specs.declared.error.Failed.{Failed}
 use Rattle.sch_cli.specs.Status.{code_of}
 use Rattle.sch_cli.specs.declared.status.Status.{Status}
-use Rattle.sch_cli.specs.declared.status.Status.TheVariants.{Clean, Findings, Usage, SchemaRefused, DocumentRefused, ScriptRefused, Faulted, Missing, ReadFault, WriteFault, Memory, NotYet}
+use Rattle.sch_cli.specs.declared.status.Status.TheVariants.{Clean, Findings, Usage, SchemaRefused, DocumentRefused, ScriptRefused, Faulted, Missing, ReadFault, WriteFault, Memory}
 use Rattle.sch_cli.specs.declared.refusal.DocumentRefusal.{DocumentRefusal}
 use Rattle.sch_cli.specs.declared.refusal.SchemaRefusal.{SchemaRefusal}
 use Rattle.sch_cli.specs.Refusals.{document_refused_line, file_in, schema_refused_line}
 use Rattle.sch_cli.specs.Commands.{Command, expand, validate, command_of}
-use Rattle.sch_cli.specs.Output.{Output, usage_line, not_yet_line, faulted_line, missing_line, read_fault_line, write_fault_line, memory_line}
-use Rattle.sch_cli.specs.CommandOutput.{IsOutput, ComesTo, IsNamedIn}
+use Rattle.sch_cli.specs.Output.{Output, usage_line, faulted_line, missing_line, read_fault_line, write_fault_line, memory_line}
+use Rattle.sch_cli.specs.CommandOutput.{ComesTo, IsOpenedBy, IsOutput, Opens}
 
 -- a front of the text was appended
 abbrev pub AppendsFront : Option (List ℕ) → Option (List ℕ) → List ℕ → Type 0
@@ -23,13 +23,27 @@ AppendsFront old new text = (done left : List ℕ) × (text ≡ done ++ left) ×
 abbrev pub Tells : SinkLog → SinkLog → List ℕ → Type 0
 Tells old new line = (result : Result (Unit {0}) Failed) × Wrote old new line result
 
--- files were opened in this order, each once, perhaps not all of them
-abbrev pub OpensInOrder : List (List ℕ) → List (List ℕ) → List (List ℕ) → Type 0
-OpensInOrder names old new = (opened left : List (List ℕ)) × (names ≡ opened ++ left) × (new ≡ old ++ opened)
+-- files were opened, those that the command opens
+pub record OpensFiles (command : Option Command) (old new : List (List ℕ)) : Type 0 where
+  pub opened : List (List ℕ)
+  pub noted : new ≡ old ++ opened
+  pub which : Opens command opened
 
--- the file of that name was opened last
-abbrev pub IsLast : List ℕ → List (List ℕ) → Type 0
-IsLast name opened = (earlier : List (List ℕ)) × (opened ≡ earlier ++ name ∷ [])
+-- over a shelf that tells its files these decide which are opened for a schema, and whether the document may be; memory may run out
+-- before
+pub record OpensDecided (command : Option Command) (files : Files) (old new : List (List ℕ)) : Type 0 where
+  pub opened : List (List ℕ)
+  pub noted : new ≡ old ++ opened
+  pub which : IsOpenedBy command files opened
+
+abbrev pub OpensOver : Option Files → Option Command → List (List ℕ) → List (List ℕ) → Status → Type 0
+OpensOver files command old new Memory = Unit {0}
+OpensOver None command old new status = Unit {0}
+OpensOver (Some files) command old new status = OpensDecided command files old new
+
+-- the file of that name was opened last, and in this run
+abbrev pub IsLast : List ℕ → List (List ℕ) → List (List ℕ) → Type 0
+IsLast name old new = (earlier : List (List ℕ)) × (new ≡ (old ++ earlier) ++ name ∷ [])
 
 -- an output that may be has this status, and its bytes and its line were written
 pub record Decided (is_output : Output → Type 0) (written told : List ℕ → Type 0) (status : Status) : Type 0 where
@@ -52,7 +66,6 @@ comes_to_end Missing = false
 comes_to_end ReadFault = false
 comes_to_end WriteFault = false
 comes_to_end Memory = false
-comes_to_end NotYet = false
 
 -- a front was written of an output that may be and that comes to its end
 pub record Fronted (is_output : Output → Type 0) (written : List ℕ → Type 0) : Type 0 where
@@ -82,7 +95,6 @@ EndsBy is_output comes_to written told DocumentRefused = Decided is_output writt
 EndsBy is_output comes_to written told ScriptRefused = Decided is_output written told ScriptRefused
 EndsBy is_output comes_to written told Faulted = Decided is_output written told Faulted
 EndsBy is_output comes_to written told Missing = Decided is_output written told Missing
-EndsBy is_output comes_to written told NotYet = Decided is_output written told NotYet
 EndsBy is_output comes_to written told ReadFault = Unread comes_to written told
 EndsBy is_output comes_to written told WriteFault = Fronted is_output written × told write_fault_line
 EndsBy is_output comes_to written told Memory = (written [] ⊎ Fronted is_output written) × told memory_line
@@ -92,21 +104,20 @@ abbrev pub Ends : Option Files → List (List ℕ) → (List ℕ → Type 0) →
 Ends None words written told status = Unit {0}
 Ends (Some files) words written told status = EndsBy (IsOutput words files) (ComesTo (command_of words) files) written told status
 
--- the line of a status; a name in it is of the command's file that was opened last
-abbrev pub IsLineOf : Option Command → List (List ℕ) → Status → List ℕ → Type 0
-IsLineOf command opened Clean line = line ≡ []
-IsLineOf command opened Findings line = line ≡ []
-IsLineOf command opened Usage line = line ≡ usage_line
-IsLineOf command opened SchemaRefused line = (refusal : SchemaRefusal)
-    × IfSome (file_in refusal) (λ name. IsNamedIn command name × IsLast name opened) × (line ≡ schema_refused_line refusal)
-IsLineOf command opened DocumentRefused line = (refusal : DocumentRefusal) × (line ≡ document_refused_line refusal)
-IsLineOf command opened ScriptRefused line = ⊥
-IsLineOf command opened Faulted line = line ≡ faulted_line
-IsLineOf command opened Missing line = (name : List ℕ) × IsNamedIn command name × IsLast name opened × (line ≡ missing_line name)
-IsLineOf command opened ReadFault line = (name : List ℕ) × IsNamedIn command name × IsLast name opened × (line ≡ read_fault_line name)
-IsLineOf command opened WriteFault line = line ≡ write_fault_line
-IsLineOf command opened Memory line = line ≡ memory_line
-IsLineOf command opened NotYet line = line ≡ not_yet_line
+-- the line of a status; the file that it names is the one that was opened last
+abbrev pub IsLineOf : List (List ℕ) → List (List ℕ) → Status → List ℕ → Type 0
+IsLineOf old new Clean line = line ≡ []
+IsLineOf old new Findings line = line ≡ []
+IsLineOf old new Usage line = line ≡ usage_line
+IsLineOf old new SchemaRefused line = (refusal : SchemaRefusal)
+    × IfSome (file_in refusal) (λ name. IsLast name old new) × (line ≡ schema_refused_line refusal)
+IsLineOf old new DocumentRefused line = (refusal : DocumentRefusal) × (line ≡ document_refused_line refusal)
+IsLineOf old new ScriptRefused line = ⊥
+IsLineOf old new Faulted line = line ≡ faulted_line
+IsLineOf old new Missing line = (name : List ℕ) × IsLast name old new × (line ≡ missing_line name)
+IsLineOf old new ReadFault line = (name : List ℕ) × IsLast name old new × (line ≡ read_fault_line name)
+IsLineOf old new WriteFault line = line ≡ write_fault_line
+IsLineOf old new Memory line = line ≡ memory_line
 
 -- whether a run ends with the wanted status
 abbrev pub is_status : Status → Status → Bool
@@ -129,10 +140,9 @@ may_write Missing = false
 may_write ReadFault = false
 may_write WriteFault = true
 may_write Memory = true
-may_write NotYet = false
 
--- the command is one that this program does not carry out yet, whatever the files are
-abbrev pub IsNotBuilt : Option Command → Type 0
-IsNotBuilt None = ⊥
-IsNotBuilt (Some (expand schema)) = Unit {0}
-IsNotBuilt (Some (validate phase schema document)) = ⊥
+-- whether a run of a command that ends so may have evaluated: expansions never do
+abbrev pub may_evaluate : Option Command → Status → Bool
+may_evaluate None status = false
+may_evaluate (Some (expand schema)) status = false
+may_evaluate (Some (validate phase schema document)) status = may_write status

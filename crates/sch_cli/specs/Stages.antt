@@ -1,11 +1,15 @@
--- The stages of a validation in the order of the work: each goes on with a value, or stops the run with its output. The
--- first stage that stops the run gives the output.
+-- The stages of a run in the order of the work: each goes on with a value, or stops the run with its output. The first stage that
+-- stops the run gives the output.
 use Rattle.std.specs.Prelude.{◌≡◌, ◌⊎◌, ℕ, ◌*◌, nat_lt, Bool, true, false, List, length, Option, None, Some, Result, Ok, Err}
 use Rattle.std.specs.FinMap.{get}
 use Rattle.sch_io.specs.Files.{Files}
 use Rattle.sch_base.specs.declared.limits.TheConstants.{MAX_PAIRS}
 use Rattle.doc_tree.specs.Table.{Table}
 use Rattle.doc_tree.specs.Walks.{order}
+use Rattle.sch_include.specs.declared.fault.IncludeFault.{IncludeFault}
+use Rattle.sch_include.specs.declared.fault.IncludeKind.{IncludeKind}
+use Rattle.sch_include.specs.declared.fault.IncludeKind.TheVariants as kind
+use Rattle.sch_include.specs.Included.{Including}
 use Rattle.sch_model.specs.declared.fault.SchemaFault.{SchemaFault}
 use Rattle.sch_model.specs.declared.flat.FlatSchema.{FlatSchema}
 use Rattle.sch_model.specs.declared.raw.RawSchema.{RawSchema}
@@ -16,13 +20,13 @@ use Rattle.sch_abstract.specs.Flat.{flat_schema}
 use Rattle.sch_compiled.specs.declared.plan.Plan.{Plan}
 use Rattle.sch_plan.specs.Compiled.{compiled}
 use Rattle.svrl_out.specs.Locations.{location_of}
-use Rattle.sch_cli.specs.declared.status.Status.TheVariants.{SchemaRefused, DocumentRefused, Missing, NotYet}
+use Rattle.sch_cli.specs.declared.status.Status.TheVariants.{SchemaRefused, DocumentRefused, Missing}
 use Rattle.sch_cli.specs.declared.refusal.FileRefusal.{FileRefusal}
+use Rattle.sch_cli.specs.declared.refusal.FileRefusal.TheVariants as refusal
 use Rattle.sch_cli.specs.declared.refusal.DocumentRefusal.TheVariants.{File, TooManyPairs}
 use Rattle.sch_cli.specs.Documents.{IsDocument, IsRefused}
-use Rattle.sch_cli.specs.Includes.{has_include}
-use Rattle.sch_cli.specs.Output.{Output, missing_line, not_yet_line, state, stopped}
-use Rattle.sch_cli.specs.Refusals.{document_refused_line, schema_file_line, schema_rule_line}
+use Rattle.sch_cli.specs.Output.{Output, expanded, missing_line, state, stopped}
+use Rattle.sch_cli.specs.Refusals.{document_refused_line, include_line, schema_file_line, schema_rule_line}
 
 -- two stages one after the other: the second starts from the value with which the first goes on
 abbrev pub Then : {A B : Type 0} → (Result A Output → Type 0) → (A → Result B Output → Type 0) → Result B Output → Type 0
@@ -47,9 +51,6 @@ stop_at None output value = Ok value
 abbrev pub missing : List ℕ → Output
 missing name = stopped Missing (missing_line name)
 
-abbrev pub not_yet : Output
-not_yet = stopped NotYet not_yet_line
-
 abbrev pub refused_file : List ℕ → FileRefusal → Output
 refused_file name refusal = stopped SchemaRefused (schema_file_line name refusal)
 
@@ -62,22 +63,35 @@ refused_document refusal = stopped DocumentRefused (document_refused_line (File 
 abbrev pub too_many_pairs : Output
 too_many_pairs = stopped DocumentRefused (document_refused_line TooManyPairs)
 
--- a file as a tree: there is none of that name, or it is refused, or it is a document with this tree
-pub data Loading (files : Files) (name : List ℕ) (refused : FileRefusal → Output) : Result Table Output → Type 0 where
-  not_there : get files name ≡ None → Loading files name refused (Err (missing name))
-  not_read : (bytes : List ℕ) → get files name ≡ Some bytes → (refusal : FileRefusal) → IsRefused bytes refusal →
-      Loading files name refused (Err (refused refusal))
-  loaded : (bytes : List ℕ) → get files name ≡ Some bytes → (T : Table) → IsDocument bytes T → Loading files name refused (Ok T)
+-- the output where the includes of a schema have a fault of that name; where the outside failed the files decide none
+abbrev pub refused_include : IncludeKind → List ℕ → Option Output
+refused_include kind.Missing name = Some (missing name)
+refused_include kind.Failed name = None
+refused_include kind.TooLarge name = Some (refused_file name refusal.TooLarge)
+refused_include (kind.Doc fault) name = Some (refused_file name (refusal.Faulted fault))
+refused_include kind name = Some (stopped SchemaRefused (include_line kind name))
+
+-- the tree of the named schema with its includes replaced
+abbrev pub Inclusion : Files → List ℕ → Result Table Output → Type 0
+Inclusion files schema (Ok T) = (opened : List (List ℕ)) × Including files schema opened (Ok T)
+Inclusion files schema (Err output) =
+    (opened : List (List ℕ)) × (fault : IncludeFault) × Including files schema opened (Err fault) × (refused_include fault.kind fault.name ≡ Some output)
 
 -- the schema without abstract parts
 abbrev pub Flattening : Table → RawSchema → Result FlatSchema Output → Type 0
 Flattening T raw = Is (stop_at (first_fault raw) (refused_rule T) (flat_schema raw))
 
--- the reading of a schema's tree: an include is past what the program does so far
+-- the reading of a schema's tree
 abbrev pub Reading : Table → Result FlatSchema Output → Type 0
-Reading T =
-    Then (Is (stop_if (has_include T) not_yet T)) (λ T.
-    Then (Is (stop_at (first_broken T) (refused_rule T) (raw_schema T))) (Flattening T))
+Reading T = Then (Is (stop_at (first_broken T) (refused_rule T) (raw_schema T))) (Flattening T)
+
+-- the named schema without includes and abstract parts
+abbrev pub Expanding : Files → List ℕ → Result FlatSchema Output → Type 0
+Expanding files schema = Then (Inclusion files schema) Reading
+
+-- an expansion: the document of that schema
+abbrev pub Expansion : Files → List ℕ → Result Output Output → Type 0
+Expansion files schema = Then (Expanding files schema) (λ flat. Is (Ok (expanded flat)))
 
 -- the plan of a schema's phase
 abbrev pub Compiling : Table → List ℕ → FlatSchema → Result Plan Output → Type 0
@@ -86,7 +100,14 @@ Compiling T phase flat (Err output) = (fault : SchemaFault) × compiled flat pha
 
 -- the plan of the named schema's phase
 abbrev pub Planning : Files → List ℕ → List ℕ → Result Plan Output → Type 0
-Planning files phase schema = Then (Loading files schema (refused_file schema)) (λ T. Then (Reading T) (Compiling T phase))
+Planning files phase schema = Then (Inclusion files schema) (λ T. Then (Reading T) (Compiling T phase))
+
+-- the named document as a tree: there is no file of that name, or it is refused, or it is a document with this tree
+pub data Loading (files : Files) (name : List ℕ) : Result Table Output → Type 0 where
+  not_there : get files name ≡ None → Loading files name (Err (missing name))
+  not_read : (bytes : List ℕ) → get files name ≡ Some bytes → (refusal : FileRefusal) → IsRefused bytes refusal →
+      Loading files name (Err (refused_document refusal))
+  loaded : (bytes : List ℕ) → get files name ≡ Some bytes → (T : Table) → IsDocument bytes T → Loading files name (Ok T)
 
 -- whether there are too many pairs of an active pattern and a node
 abbrev pub has_too_many_pairs : Plan → Table → Bool
@@ -94,7 +115,7 @@ has_too_many_pairs plan T = nat_lt MAX_PAIRS (length plan.patterns * length (ord
 
 -- the tree of the named document
 abbrev pub Treeing : Files → Plan → List ℕ → Result Table Output → Type 0
-Treeing files plan document = Then (Loading files document refused_document)
+Treeing files plan document = Then (Loading files document)
     (λ T. Is (stop_if (has_too_many_pairs plan T) too_many_pairs T))
 
 -- a validation: the schema comes first, then the document, then the state of the document by the schema

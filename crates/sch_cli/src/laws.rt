@@ -3,6 +3,7 @@
 ghost use Rattle.sch_cli.specs.OneOutput.{OneOutput};
 
 use name_scopes::one_tree;
+use sch_include::one_inclusion;
 use sch_plan::one_plan;
 
 /// The words and the files have one output alone.
@@ -10,5 +11,6 @@ pub fn one_output()
     ensures { OneOutput }
 {
     one_tree();
+    one_inclusion();
     one_plan();
 }

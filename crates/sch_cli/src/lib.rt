@@ -3,7 +3,9 @@
 
 mod command;
 mod evaluation;
+mod expansion;
 mod laws;
+mod loading;
 mod program;
 mod refusal;
 mod schema;

@@ -4,11 +4,11 @@ ghost use Rattle.std.specs.Prelude.{◌≡◌, ◌≤◌, ℕ, List, ◌↔◌, 
 ghost use Rattle.sch_io.specs.Wrote.{Appends, Wrote};
 ghost use Rattle.sch_cli.specs.declared.status.Status.TheVariants as statuses;
 ghost use Rattle.sch_cli.specs.Commands.{command_of};
-ghost use Rattle.sch_cli.specs.CommandOutput.{IsNamedIn, files_of};
-ghost use Rattle.sch_cli.specs.Runs.{Ends, Tells, IsLineOf, IsLast, IsNotBuilt, OpensInOrder, counted_if, is_status, may_write};
+ghost use Rattle.sch_cli.specs.Runs.{Ends, Tells, IsLineOf, IsLast, OpensFiles, OpensOver, counted_if, is_status, may_evaluate, may_write};
 ghost use Rattle.sch_cli.specs.inner.Stops.{ConcludesOver, EndsAs, Names, ends_with, may_have_written, status_of_end, line_of_end};
 
 use crate::command::{Command, command_of};
+use crate::expansion::expand_schema;
 use crate::state::Shown;
 use crate::status::Status;
 use crate::stop::Stop;
@@ -19,8 +19,8 @@ use std::alloc::Global;
 use std::sync::ledger::Ledger;
 use xp_outcome::Steps;
 
-/// Carries out what the words ask for, over the files of the shelf: the report goes to `out`, and where the run was
-/// stopped or its state is a fault its one line goes to `err`, whose failure changes no status.
+/// Carries out what the words ask for, over the files of the shelf: the report or the expanded schema goes to `out`, and where
+/// the run was stopped or its state is a fault its one line goes to `err`, whose failure changes no status.
 #[tactic(auto, using(crate::proofs::RunLemmas::run_ends, crate::proofs::RunLemmas::line_named))]
 pub fn run<S: Shelf, O: Sink, E: Sink, L: Ledger>(
     alloc: Global,
@@ -33,60 +33,61 @@ pub fn run<S: Shelf, O: Sink, E: Sink, L: Ledger>(
     // over a shelf that tells its files, the run ends as the files and words say
     ensures whole { Ends (S.state shelf.old).files words.now (Appends (O.log out.old).written (O.log out.new).written)
         (Tells (E.log err.old) (E.log err.new)) result }
-    ensures line { (line : List ℕ) × IsLineOf (command_of words.now) (S.state shelf.new).opened result line
+    ensures line { (line : List ℕ) × IsLineOf (S.state shelf.old).opened (S.state shelf.new).opened result line
         × Tells (E.log err.old) (E.log err.new) line }
     ensures usage { (result ≡ statuses.Usage) ↔ (command_of words.now ≡ None) }
-    // what a schema and a document are that this program does not carry out yet, the clause `whole` says
-    ensures not_built { IsNotBuilt (command_of words.now) → result ≡ statuses.NotYet }
-    // the files of the words are opened in order, each once, and what the shelf holds stays
-    ensures opened { OpensInOrder (files_of (command_of words.now)) (S.state shelf.old).opened (S.state shelf.new).opened }
+    ensures opened { OpensFiles (command_of words.now) (S.state shelf.old).opened (S.state shelf.new).opened }
+    // over a shelf that tells its files these decide which are opened for the schema, and that the document is only where its phase
+    // has a plan; want of memory may come before
+    ensures decided { OpensOver (S.state shelf.old).files (command_of words.now) (S.state shelf.old).opened (S.state shelf.new).opened result }
+    // what the shelf holds stays
     ensures held { (S.state shelf.new).files ≡ (S.state shelf.old).files }
     // a fault of the outside is counted exactly where it is told
     ensures misses { (S.state shelf.new).misses ≡ counted_if (is_status statuses.Missing result) (S.state shelf.old).misses }
     ensures read_faults { (S.state shelf.new).faults ≡ counted_if (is_status statuses.ReadFault result) (S.state shelf.old).faults }
     ensures write_faults { (O.log out.new).faults ≡ counted_if (is_status statuses.WriteFault result) (O.log out.old).faults }
-    // a run that stops before its state leaves the output and the count of steps as they were
+    // a run that stops before it writes leaves the output as it was, and one that does not evaluate the count of steps
     ensures untouched { may_write result ≡ false → O.log out.new ≡ O.log out.old }
-    ensures unevaluated { may_write result ≡ false → steps.new ≡ steps.old }
+    ensures unevaluated { may_evaluate (command_of words.now) result ≡ false → steps.new ≡ steps.old }
     ensures steps { steps.old ≤ steps.new }
 {
     conclude(carry_out(alloc, words, shelf, out, steps), err)
 }
 
-/// Does what the words ask for; answers what state was written.
-#[tactic(auto, using(crate::proofs::RunLemmas::opens_none, crate::proofs::RunLemmas::not_usage))]
-fn carry_out<'w, S: Shelf, O: Sink, L: Ledger>(
+/// Does what the words ask for; answers what was written.
+#[tactic(auto, using(crate::proofs::RunLemmas::not_usage))]
+fn carry_out<S: Shelf, O: Sink, L: Ledger>(
     alloc: Global,
-    words: &'w Words,
+    words: &Words,
     shelf: &mut S,
     out: &mut O,
     steps: &mut Steps<L>,
-) -> Result<Shown, Stop<'w>>
+) -> Result<Shown, Stop>
     ensures whole { ConcludesOver (S.state shelf.old).files words.now (Appends (O.log out.old).written (O.log out.new).written) result }
-    ensures named { Names (λ name. IsNamedIn (command_of words.now) name × IsLast name (S.state shelf.new).opened) result }
+    ensures named { Names (λ told. IsLast told (S.state shelf.old).opened (S.state shelf.new).opened) result }
     ensures usage { (status_of_end result ≡ statuses.Usage) ↔ (command_of words.now ≡ None) }
-    ensures not_built { IsNotBuilt (command_of words.now) → status_of_end result ≡ statuses.NotYet }
-    ensures opened { OpensInOrder (files_of (command_of words.now)) (S.state shelf.old).opened (S.state shelf.new).opened }
+    ensures opened { OpensFiles (command_of words.now) (S.state shelf.old).opened (S.state shelf.new).opened }
+    ensures decided { OpensOver (S.state shelf.old).files (command_of words.now) (S.state shelf.old).opened (S.state shelf.new).opened (status_of_end result) }
     ensures held { (S.state shelf.new).files ≡ (S.state shelf.old).files }
     ensures misses { (S.state shelf.new).misses ≡ counted_if (ends_with statuses.Missing result) (S.state shelf.old).misses }
     ensures read_faults { (S.state shelf.new).faults ≡ counted_if (ends_with statuses.ReadFault result) (S.state shelf.old).faults }
     ensures write_faults { (O.log out.new).faults ≡ counted_if (ends_with statuses.WriteFault result) (O.log out.old).faults }
     ensures untouched { may_have_written result ≡ false → O.log out.new ≡ O.log out.old }
-    ensures unevaluated { may_have_written result ≡ false → steps.new ≡ steps.old }
+    ensures unevaluated { may_evaluate (command_of words.now) (status_of_end result) ≡ false → steps.new ≡ steps.old }
     ensures steps { steps.old ≤ steps.new }
 {
     match command_of(words.as_slice()) {
         None => Err(Stop::Usage),
-        Some(Command::Expand { .. }) => Err(Stop::NotYet),
+        Some(Command::Expand { schema }) => expand_schema(alloc, schema, shelf, out),
         Some(Command::Validate(asked)) => validate(alloc, asked, shelf, out, steps),
     }
 }
 
 /// Tells the line of how a run ended, and says the status.
 #[tactic(auto, using(crate::proofs::RunLemmas::ends_by))]
-fn conclude<E: Sink>(ended: Result<Shown, Stop<'_>>, err: &mut E) -> Status
-    ensures ends { EndsAs result ended.entry }
-    ensures told { Tells (E.log err.old) (E.log err.new) (line_of_end ended.entry) }
+fn conclude<E: Sink>(ended: Result<Shown, Stop>, err: &mut E) -> Status
+    ensures ends { EndsAs result ended }
+    ensures told { Tells (E.log err.old) (E.log err.new) (line_of_end ended) }
 {
     let status = status_of(&ended);
     let _ = tell(&ended, err);
@@ -94,7 +95,7 @@ fn conclude<E: Sink>(ended: Result<Shown, Stop<'_>>, err: &mut E) -> Status
 }
 
 /// Writes the line of how a run ended, where it has one.
-fn tell<E: Sink>(ended: &Result<Shown, Stop<'_>>, err: &mut E) -> Result<(), Failed>
+fn tell<E: Sink>(ended: &Result<Shown, Stop>, err: &mut E) -> Result<(), Failed>
     ensures { Wrote (E.log err.old) (E.log err.new) (line_of_end ended.now) result }
 {
     match ended {
@@ -105,7 +106,7 @@ fn tell<E: Sink>(ended: &Result<Shown, Stop<'_>>, err: &mut E) -> Result<(), Fai
 }
 
 /// The status of a run that ended so.
-fn status_of(ended: &Result<Shown, Stop<'_>>) -> Status
+fn status_of(ended: &Result<Shown, Stop>) -> Status
     ensures { result ≡ status_of_end ended.now }
 {
     match ended {

@@ -3,13 +3,14 @@
 ghost use Rattle.std.specs.Prelude.{◌≡◌, ◌++◌, codes};
 ghost use Rattle.pyx_core.specs.Escapes.{escaped};
 ghost use Rattle.sch_io.specs.Wrote.{Wrote};
-ghost use Rattle.sch_cli.specs.Refusals.{kind_words, pyx_words, reason_text, fault_text, rule_text, document_refused_line, schema_refused_line, schema_rule_line};
+ghost use Rattle.sch_cli.specs.Refusals.{kind_words, pyx_words, reason_text, fault_text, rule_text, document_refused_line, include_line, include_text, include_words, schema_refused_line, schema_rule_line};
 
 use itoa::Buffer;
 use name_scopes::{DocFault, DocKind};
 use pyx_core::PyxKind;
 use pyx_write::{write_escaped, write_line_rest};
 use sch_base::Text;
+use sch_include::IncludeKind;
 use sch_io::{Failed, Sink, write_all, write_pieces};
 use sch_model::SchemaFault;
 
@@ -33,17 +34,13 @@ pub(crate) enum DocumentRefusal {
 
 /// Why a schema is refused.
 #[derive(Debug, Drop)]
-pub(crate) enum SchemaRefusal<'w> {
+pub(crate) enum SchemaRefusal {
     /// The file of that name is not read as a tree.
-    File {
-        name: &'w Text,
-        refusal: FileRefusal,
-    },
+    File { name: Text, refusal: FileRefusal },
+    /// An include is refused; with the name of the file, or the `href` where that names none.
+    Include { kind: IncludeKind, name: Text },
     /// It breaks a rule at the node of that location.
-    Rule {
-        fault: SchemaFault,
-        location: Text,
-    },
+    Rule { fault: SchemaFault, location: Text },
 }
 
 impl FileRefusal {
@@ -107,7 +104,7 @@ impl DocumentRefusal {
     }
 }
 
-impl SchemaRefusal<'_> {
+impl SchemaRefusal {
     /// Writes the line of a schema that is refused for it.
     pub(crate) fn tell<E: Sink>(&self, err: &mut E) -> Result<(), Failed>
         ensures { Wrote (E.log err.old) (E.log err.new) (schema_refused_line self.now) result }
@@ -116,9 +113,28 @@ impl SchemaRefusal<'_> {
             SchemaRefusal::File { name, refusal } => {
                 refusal.tell_of(err, b"sch: schema refused: ", name.as_str(), b" ")
             }
+            SchemaRefusal::Include { kind, name } => tell_include(kind, name, err),
             SchemaRefusal::Rule { fault, location } => tell_rule(fault, location, err),
         }
     }
+}
+
+/// Writes the line of a schema with an include that is refused.
+#[tactic(auto, using(sch_io::proofs::Writes::writes))]
+fn tell_include<E: Sink>(kind: &IncludeKind, name: &Text, err: &mut E) -> Result<(), Failed>
+    ensures { Wrote (E.log err.old) (E.log err.new) (include_line kind.now name.now) result }
+{
+    write_include(kind, err)?;
+    write_line_rest(err, name.as_str())
+}
+
+/// Writes what is wrong with an include.
+#[tactic(auto, unfolding(crate::specs::Refusals::include_text))]
+fn write_include<E: Sink>(kind: &IncludeKind, err: &mut E) -> Result<(), Failed>
+    ensures { Wrote (E.log err.old) (E.log err.new) (include_text kind.now) result }
+{
+    let kind = include_words(kind);
+    write_pieces(err, &["sch: schema refused: include ", kind, " "])
 }
 
 /// Writes the line of a schema that breaks a rule at a location.
@@ -186,5 +202,26 @@ fn pyx_words(kind: &PyxKind) -> &'static str
         PyxKind::SecondRoot => "SecondRoot",
         PyxKind::NoRoot => "NoRoot",
         PyxKind::Unfinished => "Unfinished",
+    }
+}
+
+/// The name of a kind of fault of an include.
+fn include_words(kind: &IncludeKind) -> &'static str
+    ensures { result.now ≡ include_words kind.now }
+{
+    match kind {
+        IncludeKind::NoHref => "NoHref",
+        IncludeKind::Scheme => "Scheme",
+        IncludeKind::Fragment => "Fragment",
+        IncludeKind::Cycle => "Cycle",
+        IncludeKind::TooDeep => "TooDeep",
+        IncludeKind::TooMany => "TooMany",
+        IncludeKind::Missing => "Missing",
+        IncludeKind::Failed => "Failed",
+        IncludeKind::TooLarge => "TooLarge",
+        IncludeKind::Doc(_) => "Doc",
+        IncludeKind::TooManyNodes => "TooManyNodes",
+        IncludeKind::TreeTooDeep => "TreeTooDeep",
+        IncludeKind::TooMuchText => "TooMuchText",
     }
 }

@@ -1,10 +1,9 @@
-//! From the tree of a schema to the plan of a phase, or what stops the run on the way.
+//! From the tree of a schema to the schema without abstract parts and the plan of a phase, or what stops the run on the way.
 
 ghost use Rattle.std.specs.Prelude.{◌≡◌, true, Ok, Err, IfErr, IfOk};
 ghost use Rattle.doc_tree.specs.Kinds.{is_document};
 ghost use Rattle.sch_compiled.specs.Soundness.{IsCounted};
 ghost use Rattle.svrl_out.specs.Locations.{location_of};
-ghost use Rattle.sch_cli.specs.Includes.{has_include, is_include};
 ghost use Rattle.sch_cli.specs.Stages.{Compiling, Flattening, Reading, Then};
 ghost use Rattle.sch_cli.specs.inner.Stops.{Gives, IsInner, IsRefusal};
 
@@ -20,11 +19,8 @@ use sch_read::read_schema;
 use std::alloc::{AllocError, Global};
 use svrl_out::location;
 
-/// The namespace of Schematron.
-const SCHEMATRON: &str = "http://purl.oclc.org/dsdl/schematron";
-
 /// The plan of a phase of the schema that the tree of a document is.
-pub(crate) fn plan_of<'w>(alloc: Global, tree: &Tree, phase: &str) -> Result<Plan, Stop<'w>>
+pub(crate) fn plan_of(alloc: Global, tree: &Tree, phase: &str) -> Result<Plan, Stop>
     requires { is_document tree.now.nodes ≡ true }
     ensures told { Gives (λ plan. Then (Reading tree.now.nodes) (Compiling tree.now.nodes phase.now) (Ok plan))
         (λ output. Then (Reading tree.now.nodes) (Compiling tree.now.nodes phase.now) (Err output)) (λ _. ⊥) result }
@@ -38,16 +34,12 @@ pub(crate) fn plan_of<'w>(alloc: Global, tree: &Tree, phase: &str) -> Result<Pla
     }
 }
 
-/// The schema that the tree of a document is, which has no include, without abstract parts.
-fn read_flat<'w>(alloc: Global, tree: &Tree) -> Result<FlatSchema, Stop<'w>>
+/// The schema that the tree of a document is, without abstract parts.
+pub(crate) fn read_flat(alloc: Global, tree: &Tree) -> Result<FlatSchema, Stop>
     requires { is_document tree.now.nodes ≡ true }
     ensures told { Gives (λ flat. Reading tree.now.nodes (Ok flat)) (λ output. Reading tree.now.nodes (Err output)) (λ _. ⊥) result }
     ensures inner { IfErr result IsInner }
 {
-    let includes = has_include(alloc, tree)?;
-    if includes {
-        return Err(Stop::NotYet);
-    }
     match read_schema(alloc, tree) {
         Ok(raw) => flat_of(alloc, tree, raw),
         Err(error) => Err(refused(alloc, tree, error)),
@@ -55,7 +47,7 @@ fn read_flat<'w>(alloc: Global, tree: &Tree) -> Result<FlatSchema, Stop<'w>>
 }
 
 /// The schema without abstract parts.
-fn flat_of<'w>(alloc: Global, tree: &Tree, raw: RawSchema) -> Result<FlatSchema, Stop<'w>>
+fn flat_of(alloc: Global, tree: &Tree, raw: RawSchema) -> Result<FlatSchema, Stop>
     ensures told { Gives (λ flat. Flattening tree.now.nodes raw (Ok flat)) (λ output. Flattening tree.now.nodes raw (Err output)) (λ _. ⊥) result }
     ensures inner { IfErr result IsInner }
 {
@@ -65,23 +57,8 @@ fn flat_of<'w>(alloc: Global, tree: &Tree, raw: RawSchema) -> Result<FlatSchema,
     }
 }
 
-/// Whether there is an element `include` of Schematron anywhere in the tree.
-fn has_include(alloc: Global, tree: &Tree) -> Result<bool, AllocError>
-    ensures { IfOk result (λ found. found ≡ has_include tree.now.nodes) }
-{
-    let nodes = tree.nodes_in_order(alloc)?;
-    Ok(nodes.as_slice().iter().any(|n| is_include(tree, *n)))
-}
-
-/// Whether the node is an element `include` of Schematron.
-fn is_include(tree: &Tree, n: NodeId) -> bool
-    ensures { result ≡ is_include tree.now.nodes n }
-{
-    tree.is_element(n) && tree.has_name(n, SCHEMATRON, "include")
-}
-
 /// What stops a run whose schema, with this tree, is refused for the error.
-fn refused<'w>(alloc: Global, tree: &Tree, error: SchemaError) -> Stop<'w>
+fn refused(alloc: Global, tree: &Tree, error: SchemaError) -> Stop
     ensures refusal { IsRefusal tree.now.nodes error result }
     ensures inner { IsInner result }
 {

@@ -17,10 +17,10 @@ use std::sync::ledger::Ledger;
 use svrl_out::{OutError, write_fault, write_report};
 use xp_outcome::Steps;
 
-/// What a state that was written shows.
+/// What a text that was written shows.
 #[derive(Clone, Copy, Debug, PartialEq, Eq)]
 pub enum Shown {
-    /// A report without a finding.
+    /// A report without a finding, or an expanded schema.
     Clean,
     /// A report with a finding.
     Findings,
@@ -29,13 +29,13 @@ pub enum Shown {
 }
 
 /// Evaluates the document by the plan, and writes its state; answers what the state shows.
-pub(crate) fn write_state<'w, O: Sink, L: Ledger>(
+pub(crate) fn write_state<O: Sink, L: Ledger>(
     alloc: Global,
     plan: &Plan,
     tree: &Tree,
     out: &mut O,
     steps: &mut Steps<L>,
-) -> Result<Shown, Stop<'w>>
+) -> Result<Shown, Stop>
     requires { IsCounted plan.now }
     ensures wrote { WroteState (O.log out.old) (O.log out.new) (state plan.now tree.now.nodes) result }
     ensures steps { steps.old ≤ steps.new }
@@ -45,13 +45,13 @@ pub(crate) fn write_state<'w, O: Sink, L: Ledger>(
 }
 
 /// Writes the state of an evaluated document; answers what it shows.
-fn write_evaluated<'w, O: Sink>(
+fn write_evaluated<O: Sink>(
     alloc: Global,
     plan: &Plan,
     tree: &Tree,
     evaluated: &Evaluated,
     out: &mut O,
-) -> Result<Shown, Stop<'w>>
+) -> Result<Shown, Stop>
     requires { Evaluates plan.now tree.now.nodes evaluated.now }
     ensures { WroteState (O.log out.old) (O.log out.new) (state plan.now tree.now.nodes) result }
 {
@@ -78,7 +78,7 @@ fn shown_of(finds: bool) -> Shown
 }
 
 /// What a state shows that was written, or what stopped its writing.
-fn end_of<'w>(written: Result<(), OutError>, shown: Shown) -> Result<Shown, Stop<'w>>
+fn end_of(written: Result<(), OutError>, shown: Shown) -> Result<Shown, Stop>
     ensures { ShownAs written shown result }
 {
     match written {

@@ -6,7 +6,7 @@ ghost use Rattle.sch_cli.specs.Status.{code_of};
 /// How a run ended; its code is the exit status of the program.
 #[derive(Clone, Copy, Debug, PartialEq, Eq)]
 pub enum Status {
-    /// The report has no finding.
+    /// The report has no finding, or the expanded schema was written.
     Clean,
     /// The report has a finding.
     Findings,
@@ -28,8 +28,6 @@ pub enum Status {
     WriteFault,
     /// Memory ran out.
     Memory,
-    /// The words or the files are past what this program does so far.
-    NotYet,
 }
 
 impl Status {
@@ -49,7 +47,6 @@ impl Status {
             Status::ReadFault => 8,
             Status::WriteFault => 9,
             Status::Memory => 10,
-            Status::NotYet => 11,
         }
     }
 }

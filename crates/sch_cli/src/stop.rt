@@ -1,4 +1,4 @@
-//! What stops a run before its report is whole, and what is told of it.
+//! What stops a run before its output is whole, and what is told of it.
 
 ghost use Rattle.std.specs.Prelude.{◌≡◌, ◌++◌, codes};
 ghost use Rattle.pyx_core.specs.Escapes.{escaped};
@@ -13,28 +13,26 @@ use sch_base::Text;
 use sch_io::{Failed, Sink, write_all};
 use std::alloc::AllocError;
 
-/// What stops a run before its report is whole.
+/// What stops a run before its output is whole.
 #[derive(Debug, Drop)]
-pub(crate) enum Stop<'w> {
+pub(crate) enum Stop {
     /// The words are not accepted.
     Usage,
-    /// The words or a file are past what the program does so far.
-    NotYet,
     /// The schema is refused.
-    SchemaRefused(SchemaRefusal<'w>),
+    SchemaRefused(SchemaRefusal),
     /// The document is refused.
     DocumentRefused(DocumentRefusal),
     /// There is no file of that name.
-    Missing { name: &'w Text },
+    Missing { name: Text },
     /// The file of that name was not read whole.
-    ReadFault { name: &'w Text },
-    /// The report was not written whole.
+    ReadFault { name: Text },
+    /// The output was not written whole.
     WriteFault,
     /// Memory ran out.
     Memory,
 }
 
-impl From<AllocError> for Stop<'_> {
+impl From<AllocError> for Stop {
     ghost from_gives = { λ _ stop. stop ≡ stops.Memory };
 
     fn from(_refused: AllocError) -> Self {
@@ -42,14 +40,13 @@ impl From<AllocError> for Stop<'_> {
     }
 }
 
-impl Stop<'_> {
+impl Stop {
     /// The status of a run that ends so.
     pub(crate) fn status(&self) -> Status
         ensures { result ≡ status_of self.now }
     {
         match self {
             Stop::Usage => Status::Usage,
-            Stop::NotYet => Status::NotYet,
             Stop::SchemaRefused(_) => Status::SchemaRefused,
             Stop::DocumentRefused(_) => Status::DocumentRefused,
             Stop::Missing { .. } => Status::Missing,
@@ -65,7 +62,6 @@ impl Stop<'_> {
     {
         match self {
             Stop::Usage => write_all(err, b"sch: usage\n"),
-            Stop::NotYet => write_all(err, b"sch: not yet\n"),
             Stop::SchemaRefused(refusal) => refusal.tell(err),
             Stop::DocumentRefused(refusal) => refusal.tell(err),
             Stop::Missing { name } => write_named(err, b"sch: missing: ", name),

@@ -18,7 +18,6 @@ use sch_io::Shelf;
 impl Joiner {
     /// Puts a node of a file and all below it at the end of a node of the tree.
     #[cycle(walk)]
-    #[tactic(none)]
     pub(crate) fn walk<S: Shelf>(
         &mut self,
         shelf: &mut S,
@@ -44,7 +43,6 @@ impl Joiner {
 
     /// Puts the kids of a node of a file and all below them below its copy, which has none yet.
     #[cycle(walk)]
-    #[tactic(none)]
     pub(crate) fn walk_kids<S: Shelf>(
         &mut self,
         shelf: &mut S,
@@ -66,7 +64,6 @@ impl Joiner {
 
     /// Puts what an include stands for at the end of a node of the tree.
     #[cycle(walk)]
-    #[tactic(none)]
     fn take<S: Shelf>(
         &mut self,
         shelf: &mut S,
@@ -87,7 +84,6 @@ impl Joiner {
 
     /// Puts the document element of the file that an include names at the end of a node of the tree.
     #[cycle(walk)]
-    #[tactic(none)]
     fn take_file<S: Shelf>(
         &mut self,
         shelf: &mut S,
@@ -124,7 +120,6 @@ impl Joiner {
 
     /// Puts the document element of a file, which is noted meanwhile as one that is being read, at the end of a node of the tree.
     #[cycle(walk)]
-    #[tactic(none)]
     fn walk_included<S: Shelf>(
         &mut self,
         shelf: &mut S,

@@ -1,13 +1,12 @@
-//! Outside examples of whole runs, over a shelf and sinks in memory. Rows set the schema `s.pyx` and the document `d.pyx`;
-//! others run words over them, and tell the status, the line on the error output, and the output. The rows that do not
-//! hold are written.
+//! Outside examples of whole runs in memory. Rows set the schema `s.pyx`, the document `d.pyx` and files of other names; others
+//! run words over them, and tell the status, the line on the error output, and the output. Those that do not hold are written.
 #![tactic(auto)]
 
 ghost use Rattle.std.specs.Prelude.{◌≡◌, ◌<◌};
 
 use sch_cli::{Status, Words, run};
 use sch_io::{MemoryShelf, MemorySink};
-use std::alloc::Global;
+use std::alloc::{AllocError, Global};
 use std::marker::Brand;
 use std::process::ExitCode;
 use std::str;
@@ -21,44 +20,62 @@ const ROOM: usize = 65_536;
 
 fn main(rt: HostRuntime) -> Result<ExitCode, Fail> {
     let alloc = rt.alloc();
-    let mut files = Files {
-        alloc,
-        schema: String::new(alloc),
-        document: Vec::new(alloc),
-    };
-    hold_rows(&rt, '¶', &mut files)
+    let held = Vec::new(alloc);
+    hold_rows(&rt, '¶', &mut Files { alloc, held })
 }
 
-/// The two files of a run.
+/// The files of a run, of which a later one stands in place of an earlier one of its name.
 #[derive(Drop)]
 struct Files {
     alloc: Global,
-    schema: String,
-    document: Vec<u8>,
+    held: Vec<HeldFile>,
+}
+
+#[derive(Drop)]
+struct HeldFile {
+    name: String,
+    bytes: Vec<u8>,
 }
 
 impl Answers for Files {
     fn answer(&mut self, kind: &str, input: &str) -> Result<String, Fail> {
         match kind {
-            "schema" => self.schema = String::from_str(self.alloc, input)?,
-            "document" => self.document = bytes_of(self.alloc, input)?,
-            "cut" => self.document = without_last(self.alloc, input)?,
-            "nested" => self.document = nested(self.alloc, input.parse()?)?,
+            "schema" => self.put("s.pyx", input.as_bytes())?,
+            "document" => self.put("d.pyx", input.as_bytes())?,
+            "cut" => {
+                if let Some((_, front)) = input.as_bytes().split_last() {
+                    self.put("d.pyx", front)?;
+                }
+            }
+            "nested" => self.put("d.pyx", nested(self.alloc, input.parse()?)?.as_slice())?,
             "no room" => return self.ended(input, 0, 0),
             "run" => return self.ended(input, 0, ROOM),
-            _ => return self.ended(input, kind.parse()?, ROOM),
+            _ => match kind.strip_prefix("file ") {
+                Some(name) => self.put(name, input.as_bytes())?,
+                None => return self.ended(input, kind.parse()?, ROOM),
+            },
         }
         Ok(String::new(self.alloc))
     }
 }
 
 impl Files {
+    /// Sets the file of that name.
+    fn put(&mut self, name: &str, held: &[u8]) -> Result<(), AllocError> {
+        let name = String::from_str(self.alloc, name)?;
+        let mut bytes = Vec::new(self.alloc);
+        bytes.extend_from_slice(held)?;
+        self.held.push(HeldFile { name, bytes })?;
+        Ok(())
+    }
+
     /// How words end, where the shelf's call of that number fails and the output has room for that many bytes.
     fn ended(&self, words: &str, failing: u64, room: usize) -> Result<String, Fail> {
         let alloc = self.alloc;
         let mut shelf = MemoryShelf::new(alloc);
-        shelf.put("s.pyx", self.schema.as_bytes())?;
-        shelf.put("d.pyx", self.document.as_slice())?;
+        for file in &self.held {
+            shelf.put(file.name.as_str(), file.bytes.as_slice())?;
+        }
         shelf.fail_at(failing)?;
         let mut list = Words::new(alloc);
         for word in words.split(' ') {
@@ -88,20 +105,6 @@ fn counted<L: Ledger>(
 {
     let mut steps: Steps<L> = Steps::start(blank);
     run(alloc, words, shelf, out, err, &mut steps)
-}
-
-/// The bytes of a text.
-fn bytes_of(alloc: Global, text: &str) -> Result<Vec<u8>, Fail> {
-    let mut bytes = Vec::new(alloc);
-    bytes.extend_from_slice(text.as_bytes())?;
-    Ok(bytes)
-}
-
-/// The bytes of a text but the last one.
-fn without_last(alloc: Global, text: &str) -> Result<Vec<u8>, Fail> {
-    let mut bytes = bytes_of(alloc, text)?;
-    bytes.pop();
-    Ok(bytes)
 }
 
 /// A document of elements nested that deep.

@@ -6,32 +6,32 @@ use Rattle.sch_io.specs.ShelfState.{ShelfState}
 use Rattle.sch_io.specs.SinkLog.{SinkLog}
 use Rattle.sch_io.specs.declared.reading.TheConstants.{MAX_FILE_BYTES}
 use Rattle.sch_io.specs.Wrote.{Appends}
-use Rattle.doc_tree.specs.Kinds.{is_document}
 use Rattle.doc_tree.specs.Table.{Table}
+use Rattle.sch_include.specs.declared.fault.IncludeKind.{IncludeKind}
+use Rattle.sch_include.specs.declared.fault.IncludeKind.TheVariants as kind
+use Rattle.sch_include.specs.Ends.{IsFirst}
 use Rattle.sch_model.specs.declared.fault.SchemaError.{SchemaError}
 use Rattle.sch_model.specs.declared.fault.SchemaError.TheVariants as error
 use Rattle.svrl_out.specs.declared.report.OutError.{OutError}
 use Rattle.svrl_out.specs.declared.report.OutError.TheVariants as out
 use Rattle.sch_cli.specs.declared.stop.Stop.{Stop}
-use Rattle.sch_cli.specs.declared.stop.Stop.TheVariants.{Usage, NotYet, SchemaRefused, DocumentRefused, Missing, ReadFault, WriteFault, Memory}
+use Rattle.sch_cli.specs.declared.stop.Stop.TheVariants.{Usage, SchemaRefused, DocumentRefused, Missing, ReadFault, WriteFault, Memory}
 use Rattle.sch_cli.specs.declared.state.Shown.{Shown}
 use Rattle.sch_cli.specs.declared.state.Shown.TheVariants as shown
-use Rattle.sch_cli.specs.declared.validation.Loaded.{Loaded}
-use Rattle.sch_cli.specs.declared.validation.Loaded.TheVariants as loaded
+use Rattle.sch_cli.specs.declared.refusal.FileRefusal.TheVariants as refusal
+use Rattle.sch_cli.specs.declared.refusal.SchemaRefusal.TheVariants as schema
 use Rattle.sch_cli.specs.declared.status.Status.{Status}
 use Rattle.sch_cli.specs.declared.status.Status.TheVariants as status
 use Rattle.sch_cli.specs.Commands.{command_of}
 use Rattle.sch_cli.specs.Refusals.{document_refused_line, file_in, schema_refused_line}
-use Rattle.sch_cli.specs.Output.{Output, stopped, usage_line, not_yet_line, faulted_line, missing_line, read_fault_line, write_fault_line, memory_line}
-use Rattle.sch_cli.specs.CommandOutput.{IsOutput, ComesTo}
-use Rattle.sch_cli.specs.Documents.{IsDocument, IsRefused}
+use Rattle.sch_cli.specs.Output.{Output, stopped, usage_line, faulted_line, missing_line, read_fault_line, write_fault_line, memory_line}
+use Rattle.sch_cli.specs.CommandOutput.{ComesTo, IsOpenedFor, IsOutput}
 use Rattle.sch_cli.specs.Stages.{refused_rule}
 use Rattle.sch_cli.specs.Runs.{AppendsFront, Fronted, is_status, counted_if, may_write}
 
 -- the status of a stop
 abbrev pub status_of : Stop → Status
 status_of Usage = status.Usage
-status_of NotYet = status.NotYet
 status_of (SchemaRefused refusal) = status.SchemaRefused
 status_of (DocumentRefused refusal) = status.DocumentRefused
 status_of (Missing name) = status.Missing
@@ -42,22 +42,20 @@ status_of Memory = status.Memory
 -- the line of a stop
 abbrev pub line_of : Stop → List ℕ
 line_of Usage = usage_line
-line_of NotYet = not_yet_line
 line_of (SchemaRefused refusal) = schema_refused_line refusal
 line_of (DocumentRefused refusal) = document_refused_line refusal
-line_of (Missing name) = missing_line name.now
-line_of (ReadFault name) = read_fault_line name.now
+line_of (Missing name) = missing_line name
+line_of (ReadFault name) = read_fault_line name
 line_of WriteFault = write_fault_line
 line_of Memory = memory_line
 
 -- the name of a file that a stop tells
 abbrev pub name_in : Stop → Option (List ℕ)
 name_in Usage = None
-name_in NotYet = None
 name_in (SchemaRefused refusal) = file_in refusal
 name_in (DocumentRefused refusal) = None
-name_in (Missing name) = Some name.now
-name_in (ReadFault name) = Some name.now
+name_in (Missing name) = Some name
+name_in (ReadFault name) = Some name
 name_in WriteFault = None
 name_in Memory = None
 
@@ -69,11 +67,10 @@ stopped_by stop = stopped (status_of stop) (line_of stop)
 -- not read, another of a failed write, another of want of memory
 abbrev pub ByCause : (Output → Type 0) → (List ℕ → Type 0) → Type 0 → Type 0 → Stop → Type 0
 ByCause decided unread unwritten memory Usage = decided (stopped_by Usage)
-ByCause decided unread unwritten memory NotYet = decided (stopped_by NotYet)
 ByCause decided unread unwritten memory (SchemaRefused refusal) = decided (stopped_by (SchemaRefused refusal))
 ByCause decided unread unwritten memory (DocumentRefused refusal) = decided (stopped_by (DocumentRefused refusal))
 ByCause decided unread unwritten memory (Missing name) = decided (stopped_by (Missing name))
-ByCause decided unread unwritten memory (ReadFault name) = unread name.now
+ByCause decided unread unwritten memory (ReadFault name) = unread name
 ByCause decided unread unwritten memory WriteFault = unwritten
 ByCause decided unread unwritten memory Memory = memory
 
@@ -118,6 +115,29 @@ pub record Reads {A : Type 0} (old new : ShelfState) (name : List ℕ) (result :
   pub no_usage : ends_with status.Usage result ≡ false
   pub no_write : ends_with status.WriteFault result ≡ false
 
+-- the same of a schema, whose own file was opened first and then those that it includes: where they end the run, the name in a
+-- line is of the file that was opened last; over a shelf that tells its files these decide which, and memory may run out before
+pub record ReadsSchema {A : Type 0} (old new : ShelfState) (name : List ℕ) (result : Result A Stop) : Type 0 where
+  pub held : new.files ≡ old.files
+  pub opened : List (List ℕ)
+  pub noted : new.opened ≡ old.opened ++ opened
+  pub named_first : IsFirst name opened
+  pub some : opened ≡ [] → ends_with status.Memory result ≡ true
+  pub decided : (files : Files) → old.files ≡ Some files → ends_with status.Memory result ≡ false → IsOpenedFor files name opened
+  pub faults : new.faults ≡ counted_if (ends_with status.ReadFault result) old.faults
+  pub misses : new.misses ≡ counted_if (ends_with status.Missing result) old.misses
+  pub named : Names (λ told. (earlier : List (List ℕ)) × (opened ≡ earlier ++ told ∷ [])) result
+  pub no_usage : ends_with status.Usage result ≡ false
+  pub no_write : ends_with status.WriteFault result ≡ false
+
+-- the stop of a run whose schema's includes have a fault
+abbrev pub stop_of : IncludeKind → List ℕ → Stop
+stop_of kind.Missing name = Missing name
+stop_of kind.Failed name = ReadFault name
+stop_of kind.TooLarge name = SchemaRefused (schema.File name refusal.TooLarge)
+stop_of (kind.Doc fault) name = SchemaRefused (schema.File name (refusal.Faulted fault))
+stop_of kind name = SchemaRefused (schema.Include kind name)
+
 -- what may come of a part of a run, by the stage that it is: where the run stops, files and words decide its output, or the
 -- named file was not read, or memory ran out
 abbrev pub Gives : {A : Type 0} → (A → Type 0) → (Output → Type 0) → (List ℕ → Type 0) → Result A Stop → Type 0
@@ -132,16 +152,6 @@ IsRead files name (Some bytes) = (get files name ≡ Some bytes) × (length byte
 pub record IsMissing (files : Files) (name : List ℕ) (output : Output) : Type 0 where
   pub none : get files name ≡ None
   pub says : output ≡ stopped status.Missing (missing_line name)
-
--- a file is a document with this tree, or it is refused
-abbrev pub IsLoaded : Files → List ℕ → Loaded → Type 0
-IsLoaded files name (loaded.Tree tree) = (bytes : List ℕ) × (get files name ≡ Some bytes) × IsDocument bytes tree.nodes
-IsLoaded files name (loaded.Refused refusal) = (bytes : List ℕ) × (get files name ≡ Some bytes) × IsRefused bytes refusal
-
--- a tree that was loaded is one of a document
-abbrev pub IsDocumentTree : Loaded → Type 0
-IsDocumentTree (loaded.Tree tree) = is_document tree.nodes ≡ true
-IsDocumentTree (loaded.Refused refusal) = Unit {0}
 
 -- a stop of a run whose schema, with this tree, is refused for the error: it tells the broken rule, or memory ran out
 abbrev pub IsRefusal : Table → SchemaError → Stop → Type 0

@@ -1,13 +1,9 @@
 -- The reading stops, or comes to the schema as it is read.
-use Rattle.std.proofs.Common.{◌∙◌, sym}
-use Rattle.sch_cli.proofs.SchemaLemmas.{comes_to_raw, stops_at_include, stops_at_rule}
+use Rattle.sch_cli.proofs.SchemaLemmas.{comes_to_raw, stops_at_rule}
 use Rattle.sch_cli.proofs.schema.read_flat.Goals as goal
 
-pub returns-then-includes-clause-told : goal.returns-then-includes-clause-told
-returns-then-includes-clause-told c = stops_at_include c.args.tree.now.nodes (sym c.in_ok-includes.ensures ∙ c.if-includes.true)
-
 pub returns-in-Ok-clause-told : goal.returns-in-Ok-clause-told
-returns-in-Ok-clause-told c = comes_to_raw c.args.tree.now.nodes c.in-Ok.raw (sym c.in_ok-includes.ensures ∙ c.if-includes.false) c.in-Ok.ensures.accepted c.in-Ok.ensures.read c.flat_of.result c.flat_of.ensures.told
+returns-in-Ok-clause-told c = comes_to_raw c.args.tree.now.nodes c.in-Ok.raw c.in-Ok.ensures.accepted c.in-Ok.ensures.read c.flat_of.result c.flat_of.ensures.told
 
 pub returns-in-Err-clause-told : goal.returns-in-Err-clause-told
-returns-in-Err-clause-told c = stops_at_rule c.args.tree.now.nodes (sym c.in_ok-includes.ensures ∙ c.if-includes.false) c.in-Err.error c.in-Err.ensures.refused c.refused.result c.refused.ensures.refusal
+returns-in-Err-clause-told c = stops_at_rule c.args.tree.now.nodes c.in-Err.error c.in-Err.ensures.refused c.refused.result c.refused.ensures.refusal

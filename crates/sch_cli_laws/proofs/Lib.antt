@@ -1,0 +1,4 @@
+pub mod MadeLines
+pub mod PlainWalks
+pub mod FlatNames
+pub mod WholeSchemas
