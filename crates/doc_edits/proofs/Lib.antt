@@ -1,0 +1,15 @@
+pub mod TableLemmas
+pub mod RecontentLemmas
+pub mod SayingLemmas
+pub mod GainLemmas
+pub mod ClearLemmas
+pub mod PruneLemmas
+pub mod RemovalLemmas
+pub mod DeletionLemmas
+pub mod NumberingLemmas
+pub mod GraftLemmas
+pub mod InsertionLemmas
+pub mod InsertionWayLemmas
+pub mod InsertionFitLemmas
+pub mod InsertionSumLemmas
+pub mod InsertionTreeLemmas

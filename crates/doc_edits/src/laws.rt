@@ -1,0 +1,26 @@
+//! Laws of changes: the table of a tree stays one.
+
+ghost use Rattle.doc_edits.specs.Keeping.{DeletionsKeepTrees, InsertionsKeepTrees, GainsKeepTrees, RemovalsKeepTrees, SayingsKeepTrees};
+
+/// A node with another text is a node of a tree.
+pub fn sayings_keep_trees()
+    ensures { SayingsKeepTrees }
+{}
+
+/// A tree without a node, and all below it, is a tree.
+pub fn removals_keep_trees()
+    ensures { RemovalsKeepTrees }
+{}
+
+/// A tree of which a node was deleted is a tree; two texts that meet become one.
+pub fn deletions_keep_trees()
+    ensures { DeletionsKeepTrees }
+{
+    sayings_keep_trees();
+}
+
+/// A tree with one attribute more, or with a piece more, is a tree.
+pub fn additions_keep_trees()
+    ensures gains { GainsKeepTrees }
+    ensures insertions { InsertionsKeepTrees }
+{}
