@@ -1,0 +1,9 @@
+pub mod TextLemmas
+pub mod LinkLemmas
+pub mod SayingAgreement
+pub mod AttributeAgreement
+pub mod InsertionOrderLemmas
+pub mod InsertionCellLemmas
+pub mod InsertionAgreement
+pub mod RemovalAgreement
+pub mod DeletionAgreement

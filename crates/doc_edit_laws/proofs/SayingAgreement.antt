@@ -1,0 +1,105 @@
+-- A node says another text: all links stay, and of texts those of the nodes above it alone differ.
+use Rattle.std.proofs.Common.{◌≡◌, ◌≢◌, ℕ, Bool, true, false, ◌&&◌, List, [], ◌⊎◌, Option, None, Some, refl, sym, ap, ◌∙◌, subst, inl, inr, ⊎_elim, true≢false, arith, eq-eqb}
+use Rattle.std.specs.Prelude.{filter}
+use Rattle.doc_table.specs.inner.Sound.{Formed}
+use Rattle.doc_table.proofs.Paths.{SameLinks}
+use Rattle.doc_tree.specs.Kinds.{is_text}
+use Rattle.doc_tree.specs.Lists.{mem}
+use Rattle.doc_tree.specs.Table.{Table, Facts, Content, root, element, attribute, text, comment, instruction, content_at, kind_at, kind_in, name_at, name_in, value_at, content_of, is_live, kind_of, name_of}
+use Rattle.doc_tree.specs.Walks.{ancestors, characters_in, order}
+use Rattle.doc_tree.proofs.ListLemmas.{eq_or}
+use Rattle.doc_axes.specs.Axes.{is_descendant}
+use Rattle.doc_locality_laws.specs.Agreement.{Agree, lives_in_both}
+use Rattle.doc_locality_laws.proofs.Composing.{both}
+use Rattle.doc_edits.specs.Changes.{said, saying, with_text}
+use Rattle.doc_edits.proofs.RecontentLemmas.{KeepsLabel, same-kind, same-links, same-live}
+use Rattle.doc_edits.proofs.TableLemmas.{changed-length, changed-other, changed-word}
+use Rattle.doc_edit_laws.specs.Touching.{touched_saying}
+use Rattle.doc_edit_laws.proofs.LinkLemmas.{order-alike}
+use Rattle.doc_edit_laws.proofs.TextLemmas.{says, shape-alike, text-alike}
+
+-- saying another text keeps the kind and the name
+pub saying-label : (new : List ℕ) (c : Content) → (kind_in (saying new c) ≡ kind_in c) × (name_in (saying new c) ≡ name_in c)
+saying-label new root = (refl, refl)
+saying-label new (element _ _) = (refl, refl)
+saying-label new (attribute _ _) = (refl, refl)
+saying-label new (text _) = (refl, refl)
+saying-label new (comment _) = (refl, refl)
+saying-label new (instruction _ _) = (refl, refl)
+
+pub saying-keeps : (new : List ℕ) → KeepsLabel (saying new)
+saying-keeps new = record { kind = λ c. (saying-label new c).0; name = λ c. (saying-label new c).1 }
+
+pub saying-name : (new : List ℕ) (o : Option Facts) → name_at (content_at (with_text new o)) ≡ name_at (content_at o)
+saying-name new None = refl
+saying-name new (Some node) = (saying-label new node.content).1
+
+-- what is no text has no characters
+other-silent : (o : Option Content) → is_text (kind_at o) ≡ false → characters_in o ≡ []
+other-silent None h = refl
+other-silent (Some root) h = refl
+other-silent (Some (element _ _)) h = refl
+other-silent (Some (attribute _ _)) h = refl
+other-silent (Some (text _)) h = absurd (true≢false h)
+other-silent (Some (comment _)) h = refl
+other-silent (Some (instruction _ _)) h = refl
+
+module _ (T : Table) (n : ℕ) (new : List ℕ) (t : Formed T) (u : Formed (said T n new)) where
+  abbrev after : Table
+  after = said T n new
+
+  live : (m : ℕ) → is_live after m ≡ is_live T m
+  live m = same-live (saying new) (saying-keeps new) T n m
+
+  links : (m : ℕ) → SameLinks T after m
+  links m = same-links (saying new) (saying-keeps new) T n m
+
+  kind : (m : ℕ) → kind_of T m ≡ kind_of after m
+  kind m = sym (same-kind (saying new) (saying-keeps new) T n m)
+
+  name : (m : ℕ) → name_of T m ≡ name_of after m
+  name m = sym (changed-word (λ o. name_at (content_at o)) (with_text new) (saying-name new) T n m)
+
+  content : (m : ℕ) → m ≢ n → content_of T m ≡ content_of after m
+  content m ne = ap content_at (sym (changed-other T n (with_text new) m ne))
+
+  in_order : filter (lives_in_both T after) (order T) ≡ filter (lives_in_both T after) (order after)
+  in_order =
+      order-alike T after (lives_in_both T after) (λ m. (links m).kids) (λ m. ap (filter (lives_in_both T after)) (links m).attributes) t
+      (omega (arith, changed-length T n (with_text new)))
+
+  -- the characters of another node stay, and those of the node where it is no text
+  says-same : (m : ℕ) → (is_text (kind_of T n) ≡ false) ⊎ (m ≢ n) → says T m ≡ says after m
+  says-same m other =
+      ⊎_elim
+      (λ (e : m ≡ n). ⊎_elim
+      (λ (h : is_text (kind_of T n) ≡ false).
+      subst (λ k. says T k ≡ says after k) (sym e)
+      (other-silent (content_of T n) h ∙ sym (other-silent (content_of after n) (ap is_text (sym (kind n)) ∙ h))))
+      (λ (ne : m ≢ n). absurd (ne e)) other)
+      (λ (ne : m ≢ n). ap characters_in (content m ne))
+      (eq_or m n)
+
+  -- below a node that isn't touched the characters stay
+  says-below : (m k : ℕ) → (is_text (kind_of T n) && mem m (ancestors T n)) ≡ false → is_descendant T m k ≡ true → says T k ≡ says after k
+  says-below m k out h = by (is_text (kind_of T n)) refl out
+    where
+      by : (b : Bool) → is_text (kind_of T n) ≡ b → (b && mem m (ancestors T n)) ≡ false → says T k ≡ says after k
+      by false e g = says-same k (inl e)
+      by true e g = says-same k (inr (λ same. true≢false (sym (subst (λ j. mem m (ancestors T j) ≡ true) same (both (mem m (ancestors T k)) _ h).0) ∙ g)))
+
+  pub saying-leaves : Agree T after (touched_saying T n)
+  saying-leaves = record {
+    kind = λ m stays. kind m;
+    name = λ m stays. name m;
+    parent = λ m stays. sym (links m).parent;
+    in_order = in_order;
+    kids = λ m stays out. sym (links m).kids;
+    shape = λ m stays out. shape-alike T after t u (λ k lives. sym (links k).parent) (λ k lives. kind k) in_order m (λ k lives h. live k ∙ lives) (λ k lives h. sym (live k) ∙ lives);
+    attributes = λ m stays out. sym (links m).attributes;
+    value = λ m stays out. ap value_at (content m (λ e. true≢false (sym (eq-eqb m n e) ∙ out)));
+    text = λ m stays holds out. text-alike T after t u (λ k lives. sym (links k).parent) (λ k lives. kind k) in_order m (λ k lives h. live k ∙ lives) (λ k lives h. sym (live k) ∙ lives)
+        stays holds (λ k lives h. says-below m k out h);
+    numbers = omega (arith, changed-length T n (with_text new));
+    no_return = λ m old lives. sym (live m) ∙ lives;
+  }

@@ -1,0 +1,6 @@
+-- The tree after it is a tree, with the same links.
+use Rattle.doc_edit_laws.proofs.SayingAgreement.{saying-leaves}
+use Rattle.doc_edit_laws.proofs.sayings_leave_the_rest.Goals as goal
+
+pub returns : goal.returns
+returns c T n new t may = saying-leaves T n new t (c.sayings_keep_trees.ensures T n new t may)

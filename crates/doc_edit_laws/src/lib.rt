@@ -1,0 +1,37 @@
+//! What edits leave of a tree: outside the cells that they touch, it stays.
+#![tactic(auto)]
+
+ghost use Rattle.doc_edit_laws.specs.Leaving.{AttributesLeave, DeletionsLeave, InsertionsLeave, SayingsLeave};
+
+use doc_edits::{
+    additions_keep_trees, deletions_keep_trees, removals_keep_trees, sayings_keep_trees,
+};
+
+/// Where a node says another text.
+pub fn sayings_leave_the_rest()
+    ensures { SayingsLeave }
+{
+    sayings_keep_trees();
+}
+
+/// Where an attribute comes or goes.
+pub fn attributes_leave_the_rest()
+    ensures { AttributesLeave }
+{
+    additions_keep_trees();
+    removals_keep_trees();
+}
+
+/// Where a node is deleted.
+pub fn deletions_leave_the_rest()
+    ensures { DeletionsLeave }
+{
+    deletions_keep_trees();
+}
+
+/// Where a piece comes under a node.
+pub fn insertions_leave_the_rest()
+    ensures { InsertionsLeave }
+{
+    additions_keep_trees();
+}
