@@ -245,6 +245,10 @@ module _ (T : Table) (a n : ℕ) (t : Formed T) (is : kind_of T a ≡ Some Attri
     no_return = λ m before lives. live-before m lives;
   }
 
+-- a tree without an attribute is a tree
+pub loss-formed : RemovalsKeepTrees → (T : Table) (a n : ℕ) → Formed T → kind_of T a ≡ Some Attribute → parent_of T a ≡ Some n → Formed (removed T a)
+loss-formed go T a n t is up = subst Formed (sym (removed-is T a n t is up go)) (formed-less T a n t is up go)
+
 pub attributes-leave : GainsKeepTrees → RemovalsKeepTrees → AttributesLeave
 attributes-leave gains go = record {
   gain = λ T n name value t may.

@@ -7,3 +7,4 @@ pub mod InsertionCellLemmas
 pub mod InsertionAgreement
 pub mod RemovalAgreement
 pub mod DeletionAgreement
+pub mod AlongLemmas

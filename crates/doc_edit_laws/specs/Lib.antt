@@ -1,2 +1,3 @@
 pub mod Touching
 pub mod Leaving
+pub mod Along

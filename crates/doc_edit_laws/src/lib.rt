@@ -1,11 +1,13 @@
 //! What edits leave of a tree: outside the cells that they touch, it stays.
 #![tactic(auto)]
 
+ghost use Rattle.doc_edit_laws.specs.Along.{EditsLeave};
 ghost use Rattle.doc_edit_laws.specs.Leaving.{AttributesLeave, DeletionsLeave, InsertionsLeave, SayingsLeave};
 
 use doc_edits::{
     additions_keep_trees, deletions_keep_trees, removals_keep_trees, sayings_keep_trees,
 };
+use doc_locality_laws::agreement_composes;
 
 /// Where a node says another text.
 pub fn sayings_leave_the_rest()
@@ -34,4 +36,15 @@ pub fn insertions_leave_the_rest()
     ensures { InsertionsLeave }
 {
     additions_keep_trees();
+}
+
+/// Where edits come one after another.
+pub fn edits_leave_the_rest()
+    ensures { EditsLeave }
+{
+    sayings_keep_trees();
+    removals_keep_trees();
+    deletions_keep_trees();
+    additions_keep_trees();
+    agreement_composes();
 }
