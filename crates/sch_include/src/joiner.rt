@@ -44,12 +44,6 @@ enum Refusal {
     Memory,
 }
 
-impl From<AllocError> for Refusal {
-    fn from(_error: AllocError) -> Refusal {
-        Refusal::Memory
-    }
-}
-
 /// The tree of a file.
 fn load<S: Shelf>(alloc: Global, shelf: &mut S, name: &str) -> Result<Tree, Refusal>
     ensures told { (files : Files) → (S.state shelf.old).files ≡ Some files → Loads files name.now result }
