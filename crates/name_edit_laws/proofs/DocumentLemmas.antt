@@ -244,8 +244,8 @@ module _ (T P : Table) (p before : ℕ) (t : Formed T) (f : Formed P) (doc : is_
 
 pub edits-keep-documents : DeletionsKeepTrees → EditsKeepDocuments
 edits-keep-documents deletions = record {
-  saying = λ T n new formed doc may. document-same T (said T n new) (said-kids new T n 0) (λ k h. said-kind new T n k) doc;
+  saying = λ T n new doc. document-same T (said T n new) (said-kids new T n 0) (λ k h. said-kind new T n k) doc;
   deletion = document-deleted deletions;
-  gain = λ T n name value formed doc may. document-gained T n name value formed doc;
+  gain = λ T n name value formed doc. document-gained T n name value formed doc;
   insertion = λ T p before P t f doc may none. document-inserted T P p before t f doc may none;
 }
