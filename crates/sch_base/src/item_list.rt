@@ -1,6 +1,6 @@
 //! The lists of every layer: they grow at their end and are read by place.
 
-ghost use Rattle.std.specs.Prelude.{◌≡◌, ◌==◌, [], ◌∷◌, ◌++◌, if◌then◌else◌, length, reverse, slice_get, IfOk, OnOk, OnErr};
+ghost use Rattle.std.specs.Prelude.{◌≡◌, ◌<◌, ◌≤◌, ◌==◌, [], ◌∷◌, ◌++◌, if◌then◌else◌, length, reverse, take, drop, slice_get, suc, IfOk, OnOk, OnErr};
 ghost use Rattle.std.specs.Option.{option_copied};
 
 use std::alloc::{AllocError, Global};
@@ -93,6 +93,25 @@ impl<T: Drop> ItemList<T> {
             self.push(item)?;
         }
         Ok(())
+    }
+
+    /// Puts the item at a place counted from 0; those from there on move down. Without memory the item is dropped and the
+    /// list stays as it was.
+    pub fn insert(&mut self, index: usize, item: T) -> Result<(), AllocError>
+        requires { index ≤ length self.old }
+        ensures inserted { OnOk result (self.new ≡ take index self.old ++ item ∷ drop index self.old) }
+        ensures unchanged { OnErr result (self.new ≡ self.old) }
+    {
+        self.items.insert(index, item)?;
+        Ok(())
+    }
+
+    /// Drops the item at a place counted from 0; those behind it move up.
+    pub fn remove(&mut self, index: usize)
+        requires { index < length self.old }
+        ensures { self.new ≡ take index self.old ++ drop (suc index) self.old }
+    {
+        self.items.remove(index);
     }
 
     /// The list of one item.
