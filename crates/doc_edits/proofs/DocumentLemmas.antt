@@ -22,8 +22,8 @@ use Rattle.doc_edits.specs.Keeping.{DeletionsKeepTrees}
 use Rattle.doc_edits.proofs.ClearLemmas.{without-head, without-tail}
 use Rattle.doc_edits.proofs.NumberingLemmas.{place-first}
 use Rattle.doc_edits.proofs.InsertionLemmas.{given-content, content-kept, kids-parent, links-kept, old-other, entry-new}
-use Rattle.name_edit_laws.specs.Documents.{EditsKeepDocuments}
-use Rattle.name_edit_laws.proofs.RemainderLemmas.{stays-removed, stays-both, kids-removed, said-live, said-kids, said-kind, before-new, gained-kids, gained-content}
+use Rattle.doc_edits.specs.Documents.{EditsKeepDocuments}
+use Rattle.doc_edits.proofs.RemainderLemmas.{stays-removed, stays-both, kids-removed, said-live, said-kids, said-kind, before-new, gained-kids, gained-content}
 
 -- counts in lists
 abbrev one_if : Bool → ℕ

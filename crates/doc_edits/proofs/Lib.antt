@@ -13,3 +13,5 @@ pub mod InsertionWayLemmas
 pub mod InsertionFitLemmas
 pub mod InsertionSumLemmas
 pub mod InsertionTreeLemmas
+pub mod RemainderLemmas
+pub mod DocumentLemmas

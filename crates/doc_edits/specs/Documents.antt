@@ -1,8 +1,8 @@
 -- Edits and documents: the root has one element among its kids and no text.
 use Rattle.std.specs.Prelude.{◌≡◌, ℕ, true, false, List, Some}
 use Rattle.doc_table.specs.inner.Sound.{Formed}
-use Rattle.doc_tree.specs.Kinds.{is_document, is_element, is_text}
-use Rattle.doc_tree.specs.Table.{Name, Table, kind_of, parent_of}
+use Rattle.doc_table.specs.Kinds.{is_document, is_element, is_text}
+use Rattle.doc_table.specs.Table.{Name, Table, kind_of, parent_of}
 use Rattle.doc_edits.specs.Changes.{deleted, gained, inserted, said}
 use Rattle.doc_edits.specs.Fitting.{MayTake}
 

@@ -1,3 +1,4 @@
 pub mod Changes
 pub mod Fitting
 pub mod Keeping
+pub mod Documents

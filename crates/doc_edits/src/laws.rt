@@ -1,5 +1,6 @@
 //! Laws of changes: the table of a tree stays one.
 
+ghost use Rattle.doc_edits.specs.Documents.{EditsKeepDocuments};
 ghost use Rattle.doc_edits.specs.Keeping.{DeletionsKeepTrees, InsertionsKeepTrees, GainsKeepTrees, RemovalsKeepTrees, SayingsKeepTrees};
 
 /// A node with another text is a node of a tree.
@@ -24,3 +25,10 @@ pub fn additions_keep_trees()
     ensures gains { GainsKeepTrees }
     ensures insertions { InsertionsKeepTrees }
 {}
+
+/// A document stays one, where its document element is kept, and no element and no text comes beside it.
+pub fn edits_keep_documents()
+    ensures { EditsKeepDocuments }
+{
+    deletions_keep_trees();
+}

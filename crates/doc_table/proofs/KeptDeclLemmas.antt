@@ -86,15 +86,15 @@ module _ (names : List Name) (nodes : List (Option Node)) (n : ℕ) (d : Decl) w
       )
 
 -- the same, from the parts of a table and for either outcome
-pub declared-or-not : {E : Type 0} (old : Parts) (names : List Name) (nodes after : List (Option Node)) (live bytes n : ℕ) (d e : Decl) (r : Result (Unit {0}) E)
-    → record { nodes = nodes; names = names; live = live; text_bytes = bytes } ≡ old
+pub declared-or-not : {E : Type 0} (old : Parts) (names : List Name) (nodes after : List (Option Node)) (live bytes cap n : ℕ) (d e : Decl) (r : Result (Unit {0}) E)
+    → record { nodes = nodes; names = names; live = live; text_bytes = bytes; pair_cap = cap } ≡ old
     → d ≡ e → OnOk r (after ≡ set nodes n (kept_declaring_at d (get_or nodes n None))) → OnErr r (after ≡ nodes)
     → IsSound old → kind_of (table_of old) n ≡ Some Element
     → Sound after names live bytes × OnOk r (Declared (table_of old) (table_seen names after) n e)
-declared-or-not old names nodes after live bytes n d e (Ok x) view same ok err =
+declared-or-not old names nodes after live bytes cap n d e (Ok x) view same ok err =
     subst (λ old. IsSound old → kind_of (table_of old) n ≡ Some Element → Sound after names live bytes × Declared (table_of old) (table_seen names after) n e) view
     (λ sound kind.
     subst (λ d. Sound after names live bytes × Declared (table_seen names nodes) (table_seen names after) n d) same
     (rw ok (sound-declared names nodes n d live bytes sound kind)))
-declared-or-not old names nodes after live bytes n d e (Err x) view same ok err =
+declared-or-not old names nodes after live bytes cap n d e (Err x) view same ok err =
     subst (λ old. IsSound old → kind_of (table_of old) n ≡ Some Element → Sound after names live bytes × Unit {0}) view (λ sound kind. (rw err sound, tt))

@@ -318,20 +318,20 @@ module _ (names : List Name) (nodes : List (Option Node)) (p depth place : ℕ) 
       )
 
 -- names that the outcome of a numbering leaves
-pub named : {E : Type 0} (old : Parts) (nodes : List (Option Node)) (before after : List Name) (name : Name) (live bytes : ℕ) (r : Result ℕ E) →
-    record { nodes = nodes; names = before; live = live; text_bytes = bytes } ≡ old →
+pub named : {E : Type 0} (old : Parts) (nodes : List (Option Node)) (before after : List Name) (name : Name) (live bytes cap : ℕ) (r : Result ℕ E) →
+    record { nodes = nodes; names = before; live = live; text_bytes = bytes; pair_cap = cap } ≡ old →
     IfOk r (λ number. Numbered before after name number) → OnErr r (after ≡ before) → IsSound old →
     Sound nodes after live bytes × (table_seen after nodes ≡ table_of old)
-named old nodes before after name live bytes (Ok number) view ok err =
+named old nodes before after name live bytes cap (Ok number) view ok err =
     subst (λ old. IsSound old → Sound nodes after live bytes × (table_seen after nodes ≡ table_of old)) view
     (λ s. (sound-named nodes before after name number live bytes ok s, table-kept before after nodes (λ id h. numbered-kept before after name number id ok h) s.known))
-named old nodes before after name live bytes (Err e) view ok err =
+named old nodes before after name live bytes cap (Err e) view ok err =
     subst (λ old. IsSound old → Sound nodes after live bytes × (table_seen after nodes ≡ table_of old)) view
     (λ s. (rw err s, ap (λ names. table_seen names nodes) err))
 
 -- the same, with each part of the new node by itself
-pub added : (old : Parts) (names : List Name) (nodes after : List (Option Node)) (live bytes p depth place number : ℕ) (l : Label) (characters : List ℕ) (flag : Bool)
-    (kids attributes : List ℕ) (content : NodeContent) → record { nodes = nodes; names = names; live = live; text_bytes = bytes } ≡ old
+pub added : (old : Parts) (names : List Name) (nodes after : List (Option Node)) (live bytes cap p depth place number : ℕ) (l : Label) (characters : List ℕ) (flag : Bool)
+    (kids attributes : List ℕ) (content : NodeContent) → record { nodes = nodes; names = names; live = live; text_bytes = bytes; pair_cap = cap } ≡ old
     → number ≡ length nodes → flag ≡ label_is_attribute l → kids ≡ [] → attributes ≡ [] → content ≡ kept_labelled l characters
     → after ≡ set nodes p (kept_link number flag (get_or nodes p None)) ++ Some (record { parent = Some p; depth = depth; place = place; kids = kids; attributes = attributes; content = content }) ∷ []
     → IsSound old → holds_kids (kind_of (table_of old) p) ≡ true → FitsUnder (table_of old) p (content_labelled old.names l characters) → LabelIsBelow (length old.names) l
@@ -340,7 +340,7 @@ pub added : (old : Parts) (names : List Name) (nodes after : List (Option Node))
     → place ≡ length (if flag then attrs_of (table_of old) p else kids_of (table_of old) p)
     → value_in (content_labelled old.names l characters) ≡ characters
     → Sound after names (live + 1) (bytes + length characters) × Grew (table_of old) (table_seen names after) p number (content_labelled old.names l characters)
-added old names nodes after live bytes p depth place number l characters flag kids attributes content view is_number is_flag no_kids no_attributes is_content is_after =
+added old names nodes after live bytes cap p depth place number l characters flag kids attributes content view is_number is_flag no_kids no_attributes is_content is_after =
     subst (λ old.
     IsSound old → holds_kids (kind_of (table_of old) p) ≡ true → FitsUnder (table_of old) p (content_labelled old.names l characters) → LabelIsBelow (length old.names) l
     → is_open (table_of old) p ≡ true → AllLive (table_of old) → passed_limit (table_of old) p (content_labelled old.names l characters) ≡ None

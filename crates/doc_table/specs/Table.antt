@@ -1,6 +1,7 @@
 -- The tree table (XPath 1.0, section 5): what stands at each node number.
 use Rattle.std.specs.Prelude.{◌≡◌, ℕ, ◌<◌, Bool, true, List, [], ◌∷◌, length, Option, None, Some, is_some, slice_index_or}
 pub use Rattle.doc_names.specs.Name.{Name, expanded, no_name, numbered}
+use Rattle.doc_table.specs.declared.limits.TheConstants.{MAX_LIVE_NODES}
 use Rattle.doc_table.specs.declared.kind.Kind.{Kind}
 use Rattle.doc_table.specs.declared.kind.Kind.TheVariants.{Root, Element, Attribute, Text, Comment, Pi}
 
@@ -24,10 +25,11 @@ pub record Facts : Type 0 where
 abbrev pub Table : Type 0
 Table = List (Option Facts)
 
--- a tree: its table, and the names that it has numbered
+-- a tree: its table, the names that it has numbered, and its pair cap, beyond which no edit adds live nodes
 pub record Contents : Type 0 where
   pub nodes : Table
   pub names : List Name
+  pub pair_cap : ℕ
 
 -- the kind that a content has
 abbrev pub kind_in : Content → Kind
@@ -142,9 +144,10 @@ expanded_of T n = expanded_in (name_of T n)
 abbrev pub AllLive : Table → Type 0
 AllLive T = (n : ℕ) → n < length T → is_live T n ≡ true
 
--- a tree of the root alone
+-- a tree of the root alone; its pair cap is the most that a tree can hold
 abbrev pub root_alone : Contents
 root_alone = record {
   nodes = Some (record { parent = None; kids = []; attributes = []; content = root }) ∷ [];
   names = [];
+  pair_cap = MAX_LIVE_NODES;
 }

@@ -38,6 +38,7 @@ impl Bare {
         ensures sound { IsSound self.new }
         ensures grew { IfOk result (λ n. Grew (table_of self.old) (table_of self.new) parent n (content_labelled self.old.names label.now text.now)) }
         ensures names { self.new.names ≡ self.old.names }
+        ensures cap { self.new.pair_cap ≡ self.old.pair_cap }
         ensures within { OnOk result (passed_limit (table_of self.old) parent (content_labelled self.old.names label.now text.now) ≡ None) }
         ensures refused { IfErr result (Refuses (passed_limit (table_of self.old) parent (content_labelled self.old.names label.now text.now))) }
         ensures unchanged { OnErr result (self.new ≡ self.old) }
@@ -49,7 +50,7 @@ impl Bare {
     }
 
     /// How many ancestors a node under this one has.
-    fn depth_under(&self, parent: NodeId) -> u32
+    pub fn depth_under(&self, parent: NodeId) -> u32
         requires sound { IsSound self.now }
         requires holder { holds_kids (kind_of (table_of self.now) parent) ≡ true }
         ensures { result ≡ length (above (table_of self.now) parent) }
@@ -61,7 +62,7 @@ impl Bare {
     }
 
     /// How many attributes, or else kids, a node has: the place of the next one.
-    fn next_place(&self, parent: NodeId, is_attribute: bool) -> u32
+    pub fn next_place(&self, parent: NodeId, is_attribute: bool) -> u32
         requires sound { IsSound self.now }
         requires holder { holds_kids (kind_of (table_of self.now) parent) ≡ true }
         ensures { result ≡ length (if is_attribute then attrs_of (table_of self.now) parent else kids_of (table_of self.now) parent) }
@@ -127,6 +128,7 @@ impl Bare {
         ensures sound { IsSound self.new }
         ensures grew { IfOk result (λ n. Grew (table_of self.old) (table_of self.new) parent n (content_labelled self.old.names label.now text.now)) }
         ensures names { self.new.names ≡ self.old.names }
+        ensures cap { self.new.pair_cap ≡ self.old.pair_cap }
         ensures unchanged { OnErr result (self.new ≡ self.old) }
     {
         let is_attribute = label.is_attribute();
@@ -196,7 +198,7 @@ fn link(
 }
 
 /// Puts a node at the end, under its parent. What needs memory comes first.
-fn attach(
+pub fn attach(
     nodes: &mut Vec<Option<Node>>,
     parent: NodeId,
     number: NodeId,

@@ -11,22 +11,24 @@ ghost use Rattle.doc_table.specs.inner.Parts.{IsSound, contents, table_of};
 
 use crate::ids::NodeId;
 use crate::kind::Kind;
+use crate::limits::MAX_LIVE_NODES;
 use crate::node::{Decl, Node, NodeContent};
 use doc_names::{NameId, NameTable};
 use sch_base::ItemList;
 use std::alloc::{AllocError, Global};
 use std::marker::Model;
 
-/// The nodes of a tree by number, its names, and its counts, with no promise that they hang together.
+/// The nodes of a tree by number, its names, its counts and its pair cap, with no promise that they hang together.
 ///
 /// Contracts see these parts as plain lists and numbers.
 #[derive(Drop)]
 pub struct Bare {
-    pub(crate) alloc: Global,
-    pub(crate) nodes: Vec<Option<Node>>,
-    pub(crate) names: NameTable,
-    pub(crate) live: u32,
-    pub(crate) text_bytes: usize,
+    pub alloc: Global,
+    pub nodes: Vec<Option<Node>>,
+    pub names: NameTable,
+    pub live: u32,
+    pub text_bytes: usize,
+    pub pair_cap: u32,
 }
 
 impl Model for Bare {
@@ -34,11 +36,11 @@ impl Model for Bare {
 
     ghost Value = { Parts };
 
-    ghost view = { λ t. record { nodes = t.nodes.items; names = t.names; live = t.live; text_bytes = t.text_bytes } };
+    ghost view = { λ t. record { nodes = t.nodes.items; names = t.names; live = t.live; text_bytes = t.text_bytes; pair_cap = t.pair_cap } };
 }
 
 /// The node with a number, None where it was deleted or never made.
-pub(crate) fn node_at(nodes: &[Option<Node>], n: NodeId) -> Option<&Node>
+pub fn node_at(nodes: &[Option<Node>], n: NodeId) -> Option<&Node>
     ensures { option_copied result ≡ slice_index_or nodes.now n None }
 {
     match nodes.get(n.index()) {
@@ -68,6 +70,7 @@ impl Bare {
             names: NameTable::new(alloc),
             live: 1,
             text_bytes: 0,
+            pair_cap: MAX_LIVE_NODES,
         })
     }
 
@@ -78,9 +81,17 @@ impl Bare {
         ensures sound { IsSound self.new }
         ensures numbered { IfOk result (λ id. Numbered self.old.names self.new.names (record { prefix = prefix.now; local = local.now; uri = uri.now }) id) }
         ensures nodes { table_of self.new ≡ table_of self.old }
+        ensures cap { self.new.pair_cap ≡ self.old.pair_cap }
         ensures unchanged { OnErr result (self.new ≡ self.old) }
     {
         self.names.number(self.alloc, prefix, local, uri)
+    }
+
+    /// Sets the pair cap, beyond which no edit adds live nodes.
+    pub fn set_pair_cap(&mut self, cap: u32)
+        ensures { self.new ≡ record self.old { pair_cap = cap } }
+    {
+        self.pair_cap = cap;
     }
 
     /// The root.
@@ -95,6 +106,15 @@ impl Bare {
         ensures { result ≡ is_live (table_of self.now) n }
     {
         node_at(self.nodes.as_slice(), n).is_some()
+    }
+
+    /// The number that the next node takes.
+    pub fn next_number(&self) -> NodeId
+        requires { IsSound self.now }
+        ensures { result ≡ length (table_of self.now) }
+    {
+        self.laws();
+        NodeId::from_number(self.nodes.len() as u32)
     }
 
     /// How many nodes live, the root and attributes counted.

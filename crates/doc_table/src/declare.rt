@@ -29,6 +29,7 @@ impl Bare {
         ensures sound { IsSound self.new }
         ensures declared { OnOk result (Declared (table_of self.old) (table_of self.new) element (prefix.now, uri.now)) }
         ensures names { self.new.names ≡ self.old.names }
+        ensures cap { self.new.pair_cap ≡ self.old.pair_cap }
         ensures unchanged { OnErr result (self.new ≡ self.old) }
     {
         let decl = Decl {

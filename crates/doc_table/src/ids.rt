@@ -23,7 +23,7 @@ impl Model for NodeId {
 
 impl NodeId {
     /// The node with this number.
-    pub(crate) fn from_number(number: u32) -> NodeId
+    pub fn from_number(number: u32) -> NodeId
         ensures { result ≡ number }
     {
         NodeId { number }

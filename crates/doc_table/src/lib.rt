@@ -13,12 +13,14 @@ mod laws;
 mod limits;
 mod new_node;
 mod node;
+mod walk;
 
-pub use bare::Bare;
+pub use append::attach;
+pub use bare::{Bare, node_at};
 pub use cell::Cell;
 pub use ids::{NodeId, NodeList};
 pub use kind::Kind;
 pub use laws::{laws_from_order, one_table, order_is_by_number};
 pub use limits::{MAX_DEPTH, MAX_LIVE_NODES, MAX_LIVE_TEXT_BYTES, MAX_NODE_NUMBERS};
 pub use new_node::{AppendError, NewNode};
-pub use node::{Decl, Label};
+pub use node::{Decl, Label, Node, NodeContent};

@@ -17,8 +17,8 @@ use std::marker::Model;
 /// A namespace declaration, seen by contracts as the pair of its prefix and its namespace.
 #[derive(Debug, Drop)]
 pub struct Decl {
-    pub(crate) prefix: Text,
-    pub(crate) uri: Text,
+    pub prefix: Text,
+    pub uri: Text,
 }
 
 impl Model for Decl {
@@ -47,7 +47,7 @@ impl Decl {
 
 /// What a node holds by its kind.
 #[derive(Debug, Drop)]
-pub(crate) enum NodeContent {
+pub enum NodeContent {
     Root,
     Element(NameId, ItemList<Decl>),
     Attribute(NameId, Text),
@@ -69,18 +69,18 @@ pub enum Label {
 /// A node: its parent, how many ancestors it has, its place among its parent's attributes or else kids, its own kids
 /// and attributes, and what it holds.
 #[derive(Debug, Drop)]
-pub(crate) struct Node {
-    pub(crate) parent: Option<NodeId>,
-    pub(crate) depth: u32,
-    pub(crate) place: u32,
-    pub(crate) kids: NodeList,
-    pub(crate) attributes: NodeList,
-    pub(crate) content: NodeContent,
+pub struct Node {
+    pub parent: Option<NodeId>,
+    pub depth: u32,
+    pub place: u32,
+    pub kids: NodeList,
+    pub attributes: NodeList,
+    pub content: NodeContent,
 }
 
 impl NodeContent {
     /// The kind of a node that holds this.
-    pub(crate) fn kind(&self) -> Kind
+    pub fn kind(&self) -> Kind
         ensures { (names : List Name) → kind_in (content_seen names self.now) ≡ result }
     {
         match self {
@@ -94,7 +94,7 @@ impl NodeContent {
     }
 
     /// The name, where it has one.
-    pub(crate) fn name(&self) -> Option<NameId>
+    pub fn name(&self) -> Option<NameId>
         ensures name { (names : List Name) → option_map (numbered names) result ≡ name_in (content_seen names self.now) }
         ensures known { (count : ℕ) → NameIsBelow count self.now → IfSome result (λ id. id < count) }
     {
@@ -107,7 +107,7 @@ impl NodeContent {
     }
 
     /// The value, the characters or the data; empty for the root and elements.
-    pub(crate) fn value(&self) -> &str
+    pub fn value(&self) -> &str
         ensures { (names : List Name) → value_in (content_seen names self.now) ≡ result.now }
     {
         match self {
@@ -119,7 +119,7 @@ impl NodeContent {
     }
 
     /// The characters of a text node; empty for every other kind.
-    pub(crate) fn characters(&self) -> &str
+    pub fn characters(&self) -> &str
         ensures { (names : List Name) → characters_in (Some (content_seen names self.now)) ≡ result.now }
     {
         match self {
@@ -130,7 +130,7 @@ impl NodeContent {
     }
 
     /// The declarations; none where it is no element's content.
-    pub(crate) fn decls(&self) -> &[Decl]
+    pub fn decls(&self) -> &[Decl]
         ensures { (names : List Name) → decls_in (content_seen names self.now) ≡ result.now }
     {
         match self {
@@ -146,7 +146,7 @@ impl NodeContent {
 
 impl Label {
     /// Whether it is an element's.
-    pub(crate) fn is_element(&self) -> bool
+    pub fn is_element(&self) -> bool
         ensures { result ≡ label_is_element self.now }
     {
         match self {
@@ -156,7 +156,7 @@ impl Label {
     }
 
     /// Whether it is an attribute's.
-    pub(crate) fn is_attribute(&self) -> bool
+    pub fn is_attribute(&self) -> bool
         ensures { result ≡ label_is_attribute self.now }
     {
         match self {

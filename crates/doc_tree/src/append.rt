@@ -23,6 +23,7 @@ impl Tree {
         requires all_live { AllLive self.old.nodes }
         ensures grew { IfOk result (λ n. Grew self.old.nodes self.new.nodes parent n (content_of_new self.old.names node.entry)) }
         ensures names { self.new.names ≡ self.old.names }
+        ensures cap { self.new.pair_cap ≡ self.old.pair_cap }
         ensures within { OnOk result (passed_limit self.old.nodes parent (content_of_new self.old.names node.entry) ≡ None) }
         ensures refused { IfErr result (Refuses (passed_limit self.old.nodes parent (content_of_new self.old.names node.entry))) }
         ensures unchanged { OnErr result (self.new ≡ self.old) }
@@ -46,6 +47,7 @@ impl Tree {
         requires all_live { AllLive self.old.nodes }
         ensures grew { IfOk result (λ n. Grew self.old.nodes self.new.nodes parent n (content_labelled self.old.names label.now text.now)) }
         ensures names { self.new.names ≡ self.old.names }
+        ensures cap { self.new.pair_cap ≡ self.old.pair_cap }
         ensures within { OnOk result (passed_limit self.old.nodes parent (content_labelled self.old.names label.now text.now) ≡ None) }
         ensures refused { IfErr result (Refuses (passed_limit self.old.nodes parent (content_labelled self.old.names label.now text.now))) }
         ensures unchanged { OnErr result (self.new ≡ self.old) }

@@ -27,6 +27,7 @@ impl Tree {
         requires is_new { first_declared (decls_of self.old.nodes element) prefix.now ≡ None }
         ensures declared { OnOk result (Declared self.old.nodes self.new.nodes element (prefix.now, uri.now)) }
         ensures names { self.new.names ≡ self.old.names }
+        ensures cap { self.new.pair_cap ≡ self.old.pair_cap }
         ensures unchanged { OnErr result (self.new ≡ self.old) }
     {
         self.bare.append_decl(element, prefix, uri)

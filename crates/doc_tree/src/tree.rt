@@ -49,6 +49,7 @@ impl Tree {
     pub fn name_id(&mut self, prefix: &str, local: &str, uri: &str) -> Result<NameId, AllocError>
         ensures numbered { IfOk result (λ id. Numbered self.old.names self.new.names (record { prefix = prefix.now; local = local.now; uri = uri.now }) id) }
         ensures nodes { self.new.nodes ≡ self.old.nodes }
+        ensures cap { self.new.pair_cap ≡ self.old.pair_cap }
         ensures unchanged { OnErr result (self.new ≡ self.old) }
     {
         self.bare.name_id(prefix, local, uri)

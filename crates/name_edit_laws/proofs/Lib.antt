@@ -1,3 +1,1 @@
-pub mod RemainderLemmas
 pub mod ScopeLemmas
-pub mod DocumentLemmas

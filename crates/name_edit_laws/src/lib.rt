@@ -1,8 +1,7 @@
-//! What edits keep of a document: it is one, and its names are in scope.
+//! What edits keep of a document: its names are in scope.
 #![tactic(auto)]
 
 ghost use Rattle.name_edit_laws.specs.Scopes.{AdditionsKeepScope, DeletionsKeepScope, SayingsKeepScope};
-ghost use Rattle.name_edit_laws.specs.Documents.{EditsKeepDocuments};
 
 use doc_edits::{additions_keep_trees, deletions_keep_trees, sayings_keep_trees};
 
@@ -15,11 +14,4 @@ pub fn edits_keep_scope()
     sayings_keep_trees();
     deletions_keep_trees();
     additions_keep_trees();
-}
-
-/// A document stays one, where its document element is kept, and no element and no text comes beside it.
-pub fn edits_keep_documents()
-    ensures { EditsKeepDocuments }
-{
-    deletions_keep_trees();
 }

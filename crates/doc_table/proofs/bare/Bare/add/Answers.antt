@@ -13,7 +13,7 @@ outcome : (c : goal.After-self-2-1) →
     × Grew (table_of c.args.self.now) (table_seen c.self.inside.names c.attach.new.nodes.items) c.args.parent c.from_number-number.result
     (content_labelled c.args.self.now.names c.args.label.now c.args.text.now)
 outcome c =
-    added c.args.self.now c.self.inside.names c.self.inside.nodes.items c.attach.new.nodes.items c.self.inside.live c.self.inside.text_bytes c.args.parent c.args.depth c.next_place-place.result
+    added c.args.self.now c.self.inside.names c.self.inside.nodes.items c.attach.new.nodes.items c.self.inside.live c.self.inside.text_bytes c.self.inside.pair_cap c.args.parent c.args.depth c.next_place-place.result
     c.from_number-number.result c.args.label.now c.args.text.now c.is_attribute-is_attribute.result c.new.result c.new-2.result c.in_ok-content.content
     c.self.view_is (c.from_number-number.ensures ∙ (c.len.ensures ∙ omega (arith, c.self.inside.nodes.ok))) c.is_attribute-is_attribute.ensures c.new.ensures c.new-2.ensures c.in_ok-content.ensures
     c.in_ok-attach.ensures.attached c.requires.sound c.requires.holder c.requires.fits c.requires.name c.requires.last c.requires.all_live c.requires.within c.requires.depth c.next_place-place.ensures c.requires.text
