@@ -6,6 +6,7 @@ mod axes;
 mod before;
 mod declarations;
 mod laws;
+mod refusal;
 mod string_values;
 mod tree;
 mod walk;
@@ -17,5 +18,6 @@ pub use doc_table::{
     AppendError, Cell, Kind, MAX_DEPTH, MAX_LIVE_NODES, MAX_LIVE_TEXT_BYTES, MAX_NODE_NUMBERS,
     NewNode, NodeId, NodeList, laws_from_order, one_table, order_is_by_number,
 };
+pub use refusal::{EditError, EditRefusal};
 pub use sch_base::Text;
 pub use tree::Tree;

@@ -2,11 +2,12 @@
 use Rattle.std.specs.Prelude.{◌≡◌, ℕ, true, List, ◌++◌}
 use Rattle.pyx_core.specs.Nesting.{of_chars}
 use Rattle.doc_table.specs.inner.Sound.{Formed}
-use Rattle.doc_tree.specs.Scope.{Decl, scope_at}
-use Rattle.doc_tree.specs.Table.{Name, Table, content_of}
+use Rattle.doc_tree.specs.Scope.{scope_at}
+use Rattle.doc_tree.specs.Table.{Name, Table}
 use Rattle.doc_edits.specs.Changes.{deleted, gained, inserted, removed, said}
 use Rattle.doc_edits.specs.Fitting.{MayGain, MaySay, MayTake}
-use Rattle.name_scopes.specs.Scoping.{AttributeInScope, ContentInScope, InScope}
+use Rattle.name_scopes.specs.Fragments.{PieceInScope}
+use Rattle.name_scopes.specs.Scoping.{AttributeInScope, InScope}
 
 -- a node says another text, which is made of Chars
 abbrev pub SayingsKeepScope : Type 0
@@ -16,10 +17,6 @@ SayingsKeepScope = (T : Table) (n : ℕ) (new : List ℕ) → Formed T → InSco
 pub record DeletionsKeepScope : Type 0 where
   pub deletion : (T : Table) (n : ℕ) → Formed T → InScope T → InScope (deleted T n)
   pub removal : (T : Table) (n : ℕ) → Formed T → InScope T → InScope (removed T n)
-
--- the nodes of a piece are in scope, where these declarations are in scope around it
-abbrev pub PieceInScope : List Decl → Table → Type 0
-PieceInScope around P = (m : ℕ) → ContentInScope (scope_at P m ++ around) (content_of P m)
 
 -- an attribute comes to an element, a piece comes under a node
 pub record AdditionsKeepScope : Type 0 where

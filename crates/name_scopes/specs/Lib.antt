@@ -1,5 +1,6 @@
 pub mod Declarations
 pub mod DocFaults
+pub mod Fragments
 pub mod QNames
 pub mod RoundTrip
 pub mod ScopedTree
