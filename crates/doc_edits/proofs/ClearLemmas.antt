@@ -96,7 +96,7 @@ sum-cleared f [] T = omega arith
 sum-cleared f (n ∷ ns) T = omega (arith, sum-none f (cleared ns T) n, sum-cleared f ns T)
 
 -- it is less by what a node has that lived there
-sum-taken : (f : Facts → ℕ) (T : Table) (n : ℕ) (node : Facts) → entry_at T n ≡ Some node → table_sum f (set T n None) + f node ≡ table_sum f T
+pub sum-taken : (f : Facts → ℕ) (T : Table) (n : ℕ) (node : Facts) → entry_at T n ≡ Some node → table_sum f (set T n None) + f node ≡ table_sum f T
 sum-taken f [] n node e = absurd (cc)
 sum-taken f (None ∷ T) zero node e = absurd (cc)
 sum-taken f (Some here ∷ T) zero node e = let same : here ≡ node = (cc) in omega (arith, ap f same)

@@ -77,7 +77,7 @@ module _ (T : Table) where
       )
 
   -- the search for two texts goes on past another number
-  meeting-on : (n l m : ℕ) (ms : List ℕ) → m ≢ n → meeting T n (l ∷ m ∷ ms) ≡ meeting T n (m ∷ ms)
+  pub meeting-on : (n l m : ℕ) (ms : List ℕ) → m ≢ n → meeting T n (l ∷ m ∷ ms) ≡ meeting T n (m ∷ ms)
   meeting-on n l m [] ne = refl
   meeting-on n l m (r ∷ ms) ne = rw (ne_eqb m n ne) refl
 
@@ -97,14 +97,14 @@ module _ (T : Table) where
       (apart.0, stay-apart n (m ∷ front) back (omega (arith, once)) apart.1 (sym (meeting-on n l m (front ++ n ∷ back) ne) ∙ none))
 
   -- the texts that meet stand left and right of the number
-  record Met (n : ℕ) (xs : List ℕ) (texts : Meeting) : Type 0 where
-    front : List ℕ
-    back : List ℕ
-    is : xs ≡ front ++ (texts.left ∷ n ∷ texts.right ∷ back)
-    left_text : is_text (kind_of T texts.left) ≡ true
-    right_text : is_text (kind_of T texts.right) ≡ true
+  pub record Met (n : ℕ) (xs : List ℕ) (texts : Meeting) : Type 0 where
+    pub front : List ℕ
+    pub back : List ℕ
+    pub is : xs ≡ front ++ (texts.left ∷ n ∷ texts.right ∷ back)
+    pub left_text : is_text (kind_of T texts.left) ≡ true
+    pub right_text : is_text (kind_of T texts.right) ≡ true
 
-  met : (n : ℕ) (xs : List ℕ) (texts : Meeting) → meeting T n xs ≡ Some texts → Met n xs texts
+  pub met : (n : ℕ) (xs : List ℕ) (texts : Meeting) → meeting T n xs ≡ Some texts → Met n xs texts
   met n [] texts h = absurd (cc)
   met n (l ∷ []) texts h = absurd (cc)
   met n (l ∷ m ∷ []) texts h = absurd (cc)
@@ -144,7 +144,7 @@ held-less T r p gone h np = by (entry_at T r) refl
     by None e = omega (arith, cut-sum T r p gone text_in (λ node. refl))
     by (Some node) e = cut-sum_one T r p gone text_in (λ other. refl) r node h np e
 
-module _ (sayings : SayingsKeepTrees) (T : Table) (n p l r : ℕ) (front back : List ℕ) (formed : Formed T) (up : parent_of T n ≡ Some p)
+module _ (T : Table) (n p l r : ℕ) (front back : List ℕ) (formed : Formed T) (up : parent_of T n ≡ Some p)
     (kids : kids_of T p ≡ front ++ (l ∷ n ∷ r ∷ back)) (tl : is_text (kind_of T l) ≡ true) (tr : is_text (kind_of T r) ≡ true) where
   form : WellFormed T
   form = well-formed T formed
@@ -163,10 +163,10 @@ module _ (sayings : SayingsKeepTrees) (T : Table) (n p l r : ℕ) (front back : 
   left-other e = absurd (let i : In l (n ∷ []) = subst (λ j. In l (j ∷ [])) e (occurs-head l []) in omega (arith, once l, occurs-head l []))
 
   -- without the right one of the texts
-  up-right : parent_of T r ≡ Some p
+  pub up-right : parent_of T r ≡ Some p
   up-right = beside r (omega (arith, occurs-head r []))
 
-  abbrev first : Table
+  abbrev pub first : Table
   first = remaining T r p formed up-right
 
   first-less : without r (kids_of T p) ≡ front ++ (l ∷ n ∷ back)
@@ -183,19 +183,20 @@ module _ (sayings : SayingsKeepTrees) (T : Table) (n p l r : ℕ) (front back : 
   fewer : TextsApart T (l ∷ n ∷ back) × TextsApart T (l ∷ back)
   fewer = texts-less T l n r back tl tr (texts-back T front (l ∷ n ∷ r ∷ back) texts)
 
-  first-formed : Formed first
-  first-formed =
-      formed-left T r p formed up-right
-      (subst (TextsApart T) (sym first-less) (texts-join T front l (n ∷ r ∷ back) (n ∷ back) texts fewer.0))
+  pub first-apart : TextsApart T (without r (kids_of T p))
+  first-apart = subst (TextsApart T) (sym first-less) (texts-join T front l (n ∷ r ∷ back) (n ∷ back) texts fewer.0)
+
+  pub first-formed : Formed first
+  first-formed = formed-left T r p formed up-right first-apart
 
   first-out : (k : ℕ) → 1 ≤ occurs k front + (occurs k (l ∷ []) + (occurs k (n ∷ []) + occurs k back)) → occurs k (below T r) ≡ 0
   first-out k h = out-beside T r p formed up-right k (apart-from k h) (beside k (omega (arith, h)))
 
   -- and without the node between them
-  first-up : parent_of first n ≡ Some p
+  pub first-up : parent_of first n ≡ Some p
   first-up = same-parent T r p formed up-right n (first-out n (omega (arith, occurs-head n []))) ∙ up
 
-  abbrev second : Table
+  abbrev pub second : Table
   second = remaining first n p first-formed first-up
 
   second-less : without n (kids_of first p) ≡ front ++ (l ∷ back)
@@ -206,13 +207,15 @@ module _ (sayings : SayingsKeepTrees) (T : Table) (n p l r : ℕ) (front back : 
       (omega (arith, once n, occurs-head n []))
       ∙ append_assoc front (l ∷ []) back)
 
-  second-formed : Formed second
-  second-formed =
-      formed-left first n p first-formed first-up
-      (subst (TextsApart first) (sym second-less)
+  pub second-apart : TextsApart first (without n (kids_of first p))
+  second-apart =
+      subst (TextsApart first) (sym second-less)
       (texts-kept T first (front ++ (l ∷ back))
       (λ k h. ap kind_at (same-content T r p formed up-right k (first-out k (omega (arith, mem-In k (front ++ (l ∷ back)) h, occurs-append k front (l ∷ back))))))
-      (texts-join T front l (n ∷ r ∷ back) back texts fewer.1)))
+      (texts-join T front l (n ∷ r ∷ back) back texts fewer.1))
+
+  second-formed : Formed second
+  second-formed = formed-left first n p first-formed first-up second-apart
 
   -- the left one of the texts is as it was
   content-left : content_of second l ≡ content_of T l
@@ -223,7 +226,7 @@ module _ (sayings : SayingsKeepTrees) (T : Table) (n p l r : ℕ) (front back : 
       (same-parent T r p formed up-right l out ∙ beside l (omega (arith, occurs-head l []))))
       ∙ same-content T r p formed up-right l out
 
-  may-say : MaySay second l (value_of T l ++ value_of T r)
+  pub may-say : MaySay second l (value_of T l ++ value_of T r)
   may-say =
       let kind : kind_of second l ≡ Some Text = ap kind_at content-left ∙ is-text (kind_of T l) tl in
       let inside : In r (below T r) = rw ((ordered T formed).below_at r) (occurs-head r _) in
@@ -243,28 +246,33 @@ module _ (sayings : SayingsKeepTrees) (T : Table) (n p l r : ℕ) (front back : 
         );
       }
 
-  merged : Formed (said (removed (removed T r) n) l (value_of T l ++ value_of T r))
-  merged =
-      let is : removed (removed T r) n ≡ second = ap (λ U. removed U n) (ap (removed_from T r) up-right) ∙ ap (removed_from first n) first-up in
-      subst (λ U. Formed (said U l (value_of T l ++ value_of T r))) (sym is) (sayings second l (value_of T l ++ value_of T r) second-formed may-say)
+  pub is-first : removed T r ≡ first
+  is-first = ap (removed_from T r) up-right
+
+  pub is-second : removed (removed T r) n ≡ second
+  is-second = ap (λ U. removed U n) is-first ∙ ap (removed_from first n) first-up
+
+  merged : SayingsKeepTrees → Formed (said (removed (removed T r) n) l (value_of T l ++ value_of T r))
+  merged sayings =
+      subst (λ U. Formed (said U l (value_of T l ++ value_of T r))) (sym is-second) (sayings second l (value_of T l ++ value_of T r) second-formed may-say)
+
+-- where no texts meet, the others stay apart
+pub lone-apart : (T : Table) (n p : ℕ) → Formed T → meeting T n (kids_of T p) ≡ None → TextsApart T (without n (kids_of T p))
+lone-apart T n p formed none =
+    let form : WellFormed T = well-formed T formed in
+    texts-without T n (kids_of T p) (form.kids_once p) (form.texts_apart p)
+    (λ before behind e. stay-apart T n before behind
+    (omega (arith, subst (λ xs. occurs n xs ≤ 1) e (form.kids_once p n), occurs-append n before (n ∷ behind), occurs-head n behind))
+    (subst (TextsApart T) e (form.texts_apart p)) (sym (ap (meeting T n) e) ∙ none))
 
 pub deletions-keep-trees : SayingsKeepTrees → DeletionsKeepTrees
 deletions-keep-trees sayings T n formed = by (parent_of T n) refl
   where
-    form : WellFormed T
-    form = well-formed T formed
-
     by_meeting : (p : ℕ) → parent_of T n ≡ Some p → (o : Option Meeting) → meeting T n (kids_of T p) ≡ o → Formed (deleted_by T n o)
-    by_meeting p up None none =
-        subst (λ o. Formed (removed_from T n o)) (sym up)
-        (formed-left T n p formed up
-        (texts-without T n (kids_of T p) (form.kids_once p) (form.texts_apart p)
-        (λ before behind e. stay-apart T n before behind
-        (omega (arith, subst (λ xs. occurs n xs ≤ 1) e (form.kids_once p n), occurs-append n before (n ∷ behind), occurs-head n behind))
-        (subst (TextsApart T) e (form.texts_apart p)) (sym (ap (meeting T n) e) ∙ none))))
+    by_meeting p up None none = subst (λ o. Formed (removed_from T n o)) (sym up) (formed-left T n p formed up (lone-apart T n p formed none))
     by_meeting p up (Some texts) some =
         let m : Met T n (kids_of T p) texts = met T n (kids_of T p) texts some in
-        merged sayings T n p texts.left texts.right m.front m.back formed up m.is m.left_text m.right_text
+        merged T n p texts.left texts.right m.front m.back formed up m.is m.left_text m.right_text sayings
 
     by : (o : Option ℕ) → parent_of T n ≡ o → Formed (deleted_by T n (meeting T n (kids_beside T o)))
     by None e = subst (λ o. Formed (removed_from T n o)) (sym e) formed

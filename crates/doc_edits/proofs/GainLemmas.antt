@@ -23,7 +23,7 @@ use Rattle.doc_edits.specs.Keeping.{GainsKeepTrees}
 use Rattle.doc_edits.proofs.TableLemmas.{fits-kept}
 
 -- the table with one node more
-gained-with_node : (T : Table) (n : ℕ) (name : Name) (value : List ℕ) → gained T n name value ≡ with_node T n (attribute name value)
+pub gained-with_node : (T : Table) (n : ℕ) (name : Name) (value : List ℕ) → gained T n name value ≡ with_node T n (attribute name value)
 gained-with_node T n name value =
     ap (λ o. set T n o ++ Some (leaf n (attribute name value)) ∷ []) (linked (entry_at T n))
   where
@@ -89,10 +89,10 @@ module _ (T : Table) (n : ℕ) (name : Name) (value : List ℕ) (s : Formed T) (
   old : (m : ℕ) → is_live T m ≡ true → m ≢ length T
   old m = old-number T n (attribute name value) live m
 
-  kid-old : (m k : ℕ) → mem k (kids_of T m) ≡ true → k ≢ length T
+  pub kid-old : (m k : ℕ) → mem k (kids_of T m) ≡ true → k ≢ length T
   kid-old m k h = old k ((ways-up T s).kid_live m k h)
 
-  attribute-old : (m a : ℕ) → mem a (attrs_of T m) ≡ true → a ≢ length T
+  pub attribute-old : (m a : ℕ) → mem a (attrs_of T m) ≡ true → a ≢ length T
   attribute-old m a h = old a ((ways-up T s).attribute_live m a h)
 
   kind-kept : (m : ℕ) → m ≢ length T → kind_of grown m ≡ kind_of T m
@@ -104,7 +104,7 @@ module _ (T : Table) (n : ℕ) (name : Name) (value : List ℕ) (s : Formed T) (
   text-kept : (m : ℕ) → m ≢ length T → kind_of T m ≡ Some Text → value_of grown m ≢ []
   text-kept m ne h empty = (s.fits m).some_text h (ap value_at (sym (content-kept T n (attribute name value) live m ne)) ∙ empty)
 
-  newest : entry_at grown (length T) ≡ Some (leaf n (attribute name value))
+  pub newest : entry_at grown (length T) ≡ Some (leaf n (attribute name value))
   newest = entry-new T n (attribute name value) live
 
   fits-other : (m : ℕ) → m ≢ length T → m ≢ n → Fits grown m
@@ -182,12 +182,12 @@ module _ (T : Table) (n : ℕ) (name : Name) (value : List ℕ) (s : Formed T) (
       (λ (ne : m ≢ length T). ⊎_elim (λ (e : m ≡ n). subst (Fits grown) (sym e) fits-owner) (λ (other : m ≢ n). fits-other m ne other) (eq_or m n))
       (eq_or m (length T))
 
-  counted : count_live grown ≡ count_live T + 1
+  pub counted : count_live grown ≡ count_live T + 1
   counted =
       sum-more (λ _. 1) (set T n (with_link (attribute name value) (length T) (entry_at T n))) (leaf n (attribute name value))
       ∙ ap (λ k. k + 1) (sum-set (λ _. 1) T n (with_link (attribute name value) (length T)) refl (λ node. refl))
 
-  held : text_held grown ≡ text_held T + length value
+  pub held : text_held grown ≡ text_held T + length value
   held =
       sum-more text_in (set T n (with_link (attribute name value) (length T) (entry_at T n))) (leaf n (attribute name value))
       ∙ ap (λ k. k + length value) (sum-set text_in T n (with_link (attribute name value) (length T)) refl (λ node. refl))
@@ -208,7 +208,7 @@ module _ (T : Table) (n : ℕ) (name : Name) (value : List ℕ) (s : Formed T) (
       place)
       (place-of T s.forest s.whole n live)
 
-  formed-gained : Formed grown
+  pub formed-gained : Formed grown
   formed-gained = record {
     forest = forest-gained.0;
     whole = forest-gained.1;

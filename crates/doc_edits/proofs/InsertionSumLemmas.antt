@@ -23,7 +23,7 @@ module _ (f : ℕ → ℕ) (p : ℕ) where
       by None U h = omega (arith, h)
       by (Some node) U h = omega (arith, h)
 
-  text-given : (P : Table) (ns : List ℕ) → text_held (map (λ m. given f p (entry_at P m)) ns) ≡ sum_by (λ m. length (value_of P m)) ns
+  pub text-given : (P : Table) (ns : List ℕ) → text_held (map (λ m. given f p (entry_at P m)) ns) ≡ sum_by (λ m. length (value_of P m)) ns
   text-given P [] = refl
   text-given P (n ∷ ns) =
       by (entry_at P n) (map (λ m. given f p (entry_at P m)) ns)
@@ -35,7 +35,7 @@ module _ (f : ℕ → ℕ) (p : ℕ) where
       by (Some node) U = refl
 
 module _ (T P : Table) (p before : ℕ) where
-  sum-inserted : (g : Facts → ℕ) → table_sum g (changed_at p (with_kid before (length T)) T) ≡ table_sum g T →
+  pub sum-inserted : (g : Facts → ℕ) → table_sum g (changed_at p (with_kid before (length T)) T) ≡ table_sum g T →
       table_sum g (inserted T p before P) ≡ table_sum g T + table_sum g (map (λ m. given (given_number T P) p (entry_at P m)) (nodes_in P))
   sum-inserted g same =
       sum-append g (changed_at p (with_kid before (length T)) T) (map (λ m. given (given_number T P) p (entry_at P m)) (nodes_in P))

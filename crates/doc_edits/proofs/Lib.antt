@@ -15,3 +15,14 @@ pub mod InsertionSumLemmas
 pub mod InsertionTreeLemmas
 pub mod RemainderLemmas
 pub mod DocumentLemmas
+pub mod KeptSayingLemmas
+pub mod KeptGainLemmas
+pub mod ClearingLemmas
+pub mod UnlinkingLemmas
+pub mod RemovingLemmas
+pub mod MeetingLemmas
+pub mod CopyLemmas
+pub mod GraftedLemmas
+pub mod InsertedSumLemmas
+pub mod InsertedSoundLemmas
+pub mod InsertedLemmas

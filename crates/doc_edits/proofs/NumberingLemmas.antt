@@ -5,10 +5,10 @@ use Rattle.doc_table.specs.Lists.{mem, occurs}
 use Rattle.doc_table.proofs.ListLemmas.{In, In-cons, In-mem, mem-In, occurs-head, occurs-other, occurs-same, eq_or}
 use Rattle.doc_table.specs.inner.Kept.{place_in}
 
-place-head : (n x : ℕ) (xs : List ℕ) → n ≡ x → place_in n (x ∷ xs) ≡ 0
+pub place-head : (n x : ℕ) (xs : List ℕ) → n ≡ x → place_in n (x ∷ xs) ≡ 0
 place-head n x xs e = rw (eq-eqb n x e) refl
 
-place-tail : (n x : ℕ) (xs : List ℕ) → n ≢ x → place_in n (x ∷ xs) ≡ suc (place_in n xs)
+pub place-tail : (n x : ℕ) (xs : List ℕ) → n ≢ x → place_in n (x ∷ xs) ≡ suc (place_in n xs)
 place-tail n x xs ne = rw (ne_eqb n x ne) (omega arith)
 
 In-tail : (n x : ℕ) (xs : List ℕ) → n ≢ x → In n (x ∷ xs) → In n xs

@@ -76,7 +76,7 @@ module _ (T : Table) (n p : ℕ) (formed : Formed T) (up : parent_of T n ≡ Som
   abbrev pub remaining : Table
   remaining = cut T n p (below T n)
 
-  cutting : Cut T n p
+  pub cutting : Cut T n p
   cutting = cut_at T n p formed up
 
   form : WellFormed T
@@ -85,11 +85,11 @@ module _ (T : Table) (n p : ℕ) (formed : Formed T) (up : parent_of T n ≡ Som
   ways : HasWaysUp T
   ways = ways-up T formed
 
-  live-owner : is_live T p ≡ true
+  pub live-owner : is_live T p ≡ true
   live-owner = ways.parent_live n p up
 
   -- what lives did not go
-  out : (m : ℕ) → is_live remaining m ≡ true → occurs m (below T n) ≡ 0
+  pub out : (m : ℕ) → is_live remaining m ≡ true → occurs m (below T n) ≡ 0
   out m live = none-in (occurs m (below T n)) (λ h. true≢false (sym live ∙ ap is_some (entry-gone T n p (below T n) m h)))
 
   -- what hangs from it, but the node, did not go
@@ -115,13 +115,13 @@ module _ (T : Table) (n p : ℕ) (formed : Formed T) (up : parent_of T n ≡ Som
       without-none n (attrs_of T m) (none-in (occurs n (attrs_of T m))
       (λ k. np (let hangs : parent_of T n ≡ Some m = form.attribute_parent m n (In-mem n (attrs_of T m) k) in cc)))
 
-  kids-left : (m : ℕ) → occurs m (below T n) ≡ 0 → kids_of remaining m ≡ without n (kids_of T m)
+  pub kids-left : (m : ℕ) → occurs m (below T n) ≡ 0 → kids_of remaining m ≡ without n (kids_of T m)
   kids-left m h =
       ⊎_elim (λ (e : m ≡ p). rw e kids-owner)
       (λ (np : m ≢ p). (links-other T n p (below T n) m h np).kids ∙ sym (kids-same m np))
       (eq_or m p)
 
-  attributes-left : (m : ℕ) → occurs m (below T n) ≡ 0 → attrs_of remaining m ≡ without n (attrs_of T m)
+  pub attributes-left : (m : ℕ) → occurs m (below T n) ≡ 0 → attrs_of remaining m ≡ without n (attrs_of T m)
   attributes-left m h =
       ⊎_elim (λ (e : m ≡ p). rw e (attributes-parent T n p (below T n) live-owner cutting.apart))
       (λ (np : m ≢ p). (links-other T n p (below T n) m h np).attributes ∙ sym (attributes-same m np))
@@ -160,7 +160,7 @@ module _ (T : Table) (n p : ℕ) (formed : Formed T) (up : parent_of T n ≡ Som
       ap (λ l. q ∷ l) (ap (climb remaining steps) same
       ∙ climb-left steps (parent_of T q) (λ r e. parent-live remaining cutting.forest cutting.whole q r (same ∙ e)))
 
-  way-left : (m : ℕ) → is_live remaining m ≡ true → ancestors remaining m ≡ ancestors T m
+  pub way-left : (m : ℕ) → is_live remaining m ≡ true → ancestors remaining m ≡ ancestors T m
   way-left m live =
       let same : parent_of remaining m ≡ parent_of T m = same-parent m (out m live) in
       ap₂ (climb remaining) (cut-length T n p (below T n)) same

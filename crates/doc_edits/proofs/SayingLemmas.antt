@@ -1,5 +1,5 @@
 -- A node that says another text.
-use Rattle.std.proofs.Common.{◌≡◌, ℕ, ◌+◌, true, false, List, [], ◌∷◌, length, Option, None, Some, is_some, refl, sym, ap, ◌∙◌, true≢false, arith}
+use Rattle.std.proofs.Common.{◌≡◌, ℕ, ◌+◌, ◌≤◌, true, false, List, [], ◌∷◌, length, Option, None, Some, is_some, refl, sym, ap, ◌∙◌, true≢false, arith}
 use Rattle.doc_table.specs.Table.{Table, Facts, Content, root, element, attribute, text, comment, instruction, entry_at, content_at, kind_at, value_at, value_in, kind_in, name_in, kind_of, value_of, is_live}
 use Rattle.doc_table.specs.Kinds.{holds_kids}
 use Rattle.doc_table.specs.inner.Sound.{table_sum, text_in, text_held}
@@ -27,7 +27,7 @@ saying-name new (text _) = refl
 saying-name new (comment _) = refl
 saying-name new (instruction _ _) = refl
 
-saying-keeps : (new : List ℕ) → KeepsLabel (saying new)
+pub saying-keeps : (new : List ℕ) → KeepsLabel (saying new)
 saying-keeps new = record { kind = saying-kind new; name = saying-name new }
 
 -- what has no kids but a text says the new one
@@ -39,6 +39,16 @@ says-new new (text _) h = refl
 says-new new (comment _) h = refl
 says-new new (instruction _ _) h = refl
 
+entry-held : (o : Option Facts) → table_sum text_in (o ∷ []) ≡ length (value_at (content_at o))
+entry-held None = refl
+entry-held (Some node) = omega arith
+
+-- no text is longer than all together
+pub held-less : (T : Table) (n : ℕ) → is_live T n ≡ true → length (value_of T n) ≤ text_held T
+held-less T n lives =
+    let old : table_sum text_in (entry_at T n ∷ []) ≡ length (value_of T n) = entry-held (entry_at T n) in
+    omega (arith, sum-replaced text_in T n None (live-below T n lives))
+
 -- the new text, and its bytes in place of the old one's
 module _ (T : Table) (n : ℕ) (new : List ℕ) (lives : is_live T n ≡ true) (has_text : holds_kids (kind_of T n) ≡ false) where
   new-value : (o : Option Facts) → is_some o ≡ true → holds_kids (kind_at (content_at o)) ≡ false → value_at (content_at (with_text new o)) ≡ new
@@ -47,10 +57,6 @@ module _ (T : Table) (n : ℕ) (new : List ℕ) (lives : is_live T n ≡ true) (
 
   pub value-said : value_of (said T n new) n ≡ new
   value-said = ap (λ o. value_at (content_at o)) (changed-here T n (with_text new) lives) ∙ new-value (entry_at T n) lives has_text
-
-  entry-held : (o : Option Facts) → table_sum text_in (o ∷ []) ≡ length (value_at (content_at o))
-  entry-held None = refl
-  entry-held (Some node) = omega arith
 
   pub held-said : text_held (said T n new) + length (value_of T n) ≡ text_held T + length new
   held-said =

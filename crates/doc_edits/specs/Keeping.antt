@@ -1,5 +1,5 @@
 -- A tree stays a tree: each change that fits makes of a formed table a formed one.
-use Rattle.std.specs.Prelude.{ℕ, List}
+use Rattle.std.specs.Prelude.{◌≡◌, ℕ, List, ◌++◌}
 use Rattle.doc_table.specs.inner.Sound.{Formed}
 use Rattle.doc_table.specs.Table.{Name, Table}
 use Rattle.doc_edits.specs.Changes.{deleted, gained, inserted, removed, said}
@@ -20,3 +20,7 @@ GainsKeepTrees = (T : Table) (n : ℕ) (name : Name) (value : List ℕ) → Form
 
 abbrev pub InsertionsKeepTrees : Type 0
 InsertionsKeepTrees = (T : Table) (p before : ℕ) (P : Table) → Formed T → Formed P → MayTake T p before P → Formed (inserted T p before P)
+
+-- names that stay, with perhaps more behind them
+abbrev pub NamesGrow : List Name → List Name → Type 0
+NamesGrow before after = (more : List Name) × (after ≡ before ++ more)

@@ -1,8 +1,20 @@
-//! What edits make of the table of a tree, and that a tree stays a tree.
+//! Edits of the bare table: what they make of it, and that a tree stays a tree.
 #![tactic(auto)]
 
+mod copying;
+mod deleting;
+mod gaining;
+mod inserting;
 mod laws;
+mod removing;
+mod saying;
 
+pub use deleting::delete;
+pub use gaining::gain;
+pub use inserting::insert;
 pub use laws::{
-    additions_keep_trees, deletions_keep_trees, removals_keep_trees, sayings_keep_trees,
+    additions_keep_trees, deletions_keep_trees, edits_keep_documents, removals_keep_trees,
+    sayings_keep_trees,
 };
+pub use removing::remove;
+pub use saying::say;

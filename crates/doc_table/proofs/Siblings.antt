@@ -18,10 +18,10 @@ use Rattle.doc_table.proofs.Growing.{old-number}
 use Rattle.doc_table.proofs.TreeLaws.{ways-up}
 
 -- a place in a list
-place_in-head : (n x : ℕ) (xs : List ℕ) → n ≡ x → place_in n (x ∷ xs) ≡ 0
+pub place_in-head : (n x : ℕ) (xs : List ℕ) → n ≡ x → place_in n (x ∷ xs) ≡ 0
 place_in-head n x xs e = rw (eq-eqb n x e) refl
 
-place_in-tail : (n x : ℕ) (xs : List ℕ) → n ≢ x → place_in n (x ∷ xs) ≡ 1 + place_in n xs
+pub place_in-tail : (n x : ℕ) (xs : List ℕ) → n ≢ x → place_in n (x ∷ xs) ≡ 1 + place_in n xs
 place_in-tail n x xs ne = rw (ne_eqb n x ne) refl
 
 -- a number in the tail, if it isn't the head
@@ -29,14 +29,14 @@ In-tail : (n x : ℕ) (xs : List ℕ) → n ≢ x → In n (x ∷ xs) → In n x
 In-tail n x xs ne h = omega (arith, h, occurs-other n x xs ne)
 
 -- of a number in the first of two lists it is the place there, of another the length of the first more
-place_in-front : (n : ℕ) (xs ys : List ℕ) → In n xs → place_in n (xs ++ ys) ≡ place_in n xs
+pub place_in-front : (n : ℕ) (xs ys : List ℕ) → In n xs → place_in n (xs ++ ys) ≡ place_in n xs
 place_in-front n [] ys h = absurd (omega arith)
 place_in-front n (x ∷ xs) ys h =
     ⊎_elim (λ (e : n ≡ x). place_in-head n x (xs ++ ys) e ∙ sym (place_in-head n x xs e))
     (λ (ne : n ≢ x). place_in-tail n x (xs ++ ys) ne ∙ (ap (λ k. 1 + k) (place_in-front n xs ys (In-tail n x xs ne h)) ∙ sym (place_in-tail n x xs ne)))
     (eq_or n x)
 
-place_in-back : (n : ℕ) (xs ys : List ℕ) → occurs n xs ≡ 0 → place_in n (xs ++ ys) ≡ length xs + place_in n ys
+pub place_in-back : (n : ℕ) (xs ys : List ℕ) → occurs n xs ≡ 0 → place_in n (xs ++ ys) ≡ length xs + place_in n ys
 place_in-back n [] ys h = omega arith
 place_in-back n (x ∷ xs) ys h =
     ⊎_elim (λ (e : n ≡ x). absurd (omega (arith, h, subst (λ k. In n (k ∷ xs)) e (occurs-head n xs))))
@@ -96,7 +96,7 @@ comes-places a b (x ∷ xs) ne ha hb =
 module _ (T U : Table) (p : ℕ) (list : Table → ℕ → List ℕ) (more : List ℕ) (alone : list U (length T) ≡ []) (here : list U p ≡ list T p ++ more)
     (others : (m : ℕ) → m ≢ length T → m ≢ p → list U m ≡ list T m) (newest : (k : ℕ) → mem k more ≡ true → (k ≡ length T) × (more ≡ length T ∷ []))
     (old : (q k : ℕ) → mem k (list T q) ≡ true → k ≢ length T) where
-  old-place : (n place : ℕ) → n ≢ length T → ((q : ℕ) → mem n (list T q) ≡ true → place ≡ place_in n (list T q)) → (q : ℕ) → mem n (list U q) ≡ true → place ≡ place_in n (list U q)
+  pub old-place : (n place : ℕ) → n ≢ length T → ((q : ℕ) → mem n (list T q) ≡ true → place ≡ place_in n (list T q)) → (q : ℕ) → mem n (list U q) ≡ true → place ≡ place_in n (list U q)
   old-place n place ne is q h =
       ⊎_elim (λ (e : q ≡ length T). absurd (true≢false (sym h ∙ (ap (λ k. mem n (list U k)) e ∙ ap (mem n) alone))))
       (λ (nq : q ≢ length T). ⊎_elim
@@ -110,7 +110,7 @@ module _ (T U : Table) (p : ℕ) (list : Table → ℕ → List ℕ) (more : Lis
       (eq_or q p))
       (eq_or q (length T))
 
-  new-place : (place : ℕ) → (mem (length T) more ≡ true → place ≡ length (list T p)) → (q : ℕ) → mem (length T) (list U q) ≡ true → place ≡ place_in (length T) (list U q)
+  pub new-place : (place : ℕ) → (mem (length T) more ≡ true → place ≡ length (list T p)) → (q : ℕ) → mem (length T) (list U q) ≡ true → place ≡ place_in (length T) (list U q)
   new-place place is q h =
       ⊎_elim (λ (e : q ≡ length T). absurd (true≢false (sym h ∙ (ap (λ k. mem (length T) (list U k)) e ∙ ap (mem (length T)) alone))))
       (λ (nq : q ≢ length T). ⊎_elim

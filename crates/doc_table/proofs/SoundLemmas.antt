@@ -137,7 +137,7 @@ name-more n m (kept.Text value) h k = tt
 name-more n m (kept.Comment value) h k = tt
 name-more n m (kept.Pi id value) h k = omega (arith, k)
 
-names-more : (n m : ℕ) (nodes : List (Option Node)) → n ≤ m → NamesAreBelow n nodes → NamesAreBelow m nodes
+pub names-more : (n m : ℕ) (nodes : List (Option Node)) → n ≤ m → NamesAreBelow n nodes → NamesAreBelow m nodes
 names-more n m [] h k = tt
 names-more n m (None ∷ nodes) h k = names-more n m nodes h k
 names-more n m (Some node ∷ nodes) h k = (name-more n m node.content h k.0, names-more n m nodes h k.1)
@@ -192,7 +192,7 @@ name-new count label.Text characters h = tt
 name-new count label.Comment characters h = tt
 name-new count (label.Pi id) characters h = h
 
-names-set : (count : ℕ) (nodes : List (Option Node)) (p n : ℕ) (b : Bool) → NamesAreBelow count nodes → NamesAreBelow count (set nodes p (kept_link n b (get_or nodes p None)))
+pub names-set : (count : ℕ) (nodes : List (Option Node)) (p n : ℕ) (b : Bool) → NamesAreBelow count nodes → NamesAreBelow count (set nodes p (kept_link n b (get_or nodes p None)))
 names-set count [] p n b k = tt
 names-set count (None ∷ nodes) zero n b k = k
 names-set count (Some node ∷ nodes) zero n true k = k
@@ -200,17 +200,17 @@ names-set count (Some node ∷ nodes) zero n false k = k
 names-set count (None ∷ nodes) (suc p) n b k = names-set count nodes p n b k
 names-set count (Some node ∷ nodes) (suc p) n b k = (k.0, names-set count nodes p n b k.1)
 
-names-push : (count : ℕ) (nodes : List (Option Node)) (node : Node) → NamesAreBelow count nodes → NameIsBelow count node.content → NamesAreBelow count (nodes ++ Some node ∷ [])
+pub names-push : (count : ℕ) (nodes : List (Option Node)) (node : Node) → NamesAreBelow count nodes → NameIsBelow count node.content → NamesAreBelow count (nodes ++ Some node ∷ [])
 names-push count [] node k h = (h, tt)
 names-push count (None ∷ nodes) node k h = names-push count nodes node k h
 names-push count (Some first ∷ nodes) node k h = (k.0, names-push count nodes node k.1 h)
 
-depth-linked : (n : ℕ) (b : Bool) (o : Option Node) → depth_at (kept_link n b o) ≡ depth_at o
+pub depth-linked : (n : ℕ) (b : Bool) (o : Option Node) → depth_at (kept_link n b o) ≡ depth_at o
 depth-linked n b None = refl
 depth-linked n true (Some node) = refl
 depth-linked n false (Some node) = refl
 
-place-linked : (n : ℕ) (b : Bool) (o : Option Node) → place_at (kept_link n b o) ≡ place_at o
+pub place-linked : (n : ℕ) (b : Bool) (o : Option Node) → place_at (kept_link n b o) ≡ place_at o
 place-linked n b None = refl
 place-linked n true (Some node) = refl
 place-linked n false (Some node) = refl
@@ -249,7 +249,7 @@ grown_nodes nodes p depth place l characters =
     set nodes p (kept_link (length nodes) (label_is_attribute l) (get_or nodes p None)) ++ Some (new_node p depth place l characters) ∷ []
 
 module _ (names : List Name) (nodes : List (Option Node)) (p depth place : ℕ) (l : Label) (characters : List ℕ) where
-  table-grown : table_seen names (grown_nodes nodes p depth place l characters) ≡ with_node (table_seen names nodes) p (content_labelled names l characters)
+  pub table-grown : table_seen names (grown_nodes nodes p depth place l characters) ≡ with_node (table_seen names nodes) p (content_labelled names l characters)
   table-grown =
       map-append (node_seen names) (set nodes p (kept_link (length nodes) (label_is_attribute l) (get_or nodes p None))) _
       ∙ ap₂ (λ l r. l ++ r)
@@ -259,12 +259,12 @@ module _ (names : List Name) (nodes : List (Option Node)) (p depth place : ℕ) 
       ∙ ap₂ (with_link (content_labelled names l characters)) (sym (seen-length names nodes)) (sym (seen-entry names nodes p))))
       (ap (λ c. Some (leaf p c) ∷ []) (content-new names l characters))
 
-  kept-new : (m : ℕ) → m ≡ length (table_seen names nodes) → get_or (grown_nodes nodes p depth place l characters) m None ≡ Some (new_node p depth place l characters)
+  pub kept-new : (m : ℕ) → m ≡ length (table_seen names nodes) → get_or (grown_nodes nodes p depth place l characters) m None ≡ Some (new_node p depth place l characters)
   kept-new m e =
       get-last (set nodes p (kept_link (length nodes) (label_is_attribute l) (get_or nodes p None))) _ None m (e ∙ (seen-length names nodes ∙ sym (length-set nodes p _)))
 
   -- a number that is kept with each of the others stays where a link leaves it
-  kept-others : (f : Option Node → ℕ) → ((o : Option Node) → f (kept_link (length nodes) (label_is_attribute l) o) ≡ f o) → (m : ℕ) → m ≢ length (table_seen names nodes) →
+  pub kept-others : (f : Option Node → ℕ) → ((o : Option Node) → f (kept_link (length nodes) (label_is_attribute l) o) ≡ f o) → (m : ℕ) → m ≢ length (table_seen names nodes) →
       f (get_or (grown_nodes nodes p depth place l characters) m None) ≡ f (get_or nodes m None)
   kept-others f same m ne =
       ap f (get-front (set nodes p (kept_link (length nodes) (label_is_attribute l) (get_or nodes p None))) _ None m

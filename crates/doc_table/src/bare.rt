@@ -108,13 +108,21 @@ impl Bare {
         node_at(self.nodes.as_slice(), n).is_some()
     }
 
+    /// How many node numbers were ever made.
+    pub fn numbers_made(&self) -> u32
+        requires { IsSound self.now }
+        ensures { result ≡ length (table_of self.now) }
+    {
+        self.laws();
+        self.nodes.len() as u32
+    }
+
     /// The number that the next node takes.
     pub fn next_number(&self) -> NodeId
         requires { IsSound self.now }
         ensures { result ≡ length (table_of self.now) }
     {
-        self.laws();
-        NodeId::from_number(self.nodes.len() as u32)
+        NodeId::from_number(self.numbers_made())
     }
 
     /// How many nodes live, the root and attributes counted.

@@ -1,0 +1,4 @@
+pub mod KeptSayings
+pub mod Removing
+pub mod Copies
+pub mod Grafts

@@ -1,0 +1,151 @@
+//! A piece under a node.
+
+ghost use Rattle.std.specs.Prelude.{◌≡◌, ◌+◌, ◌<◌, ◌≤◌, ◌^◌, IfOk, None, OnErr, OnOk, drop, length, slice_index_or, slice_set, vec_capacity, vec_len};
+ghost use Rattle.doc_table.specs.Table.{kids_of};
+ghost use Rattle.doc_table.specs.inner.Parts.{IsSound, table_of};
+ghost use Rattle.doc_edits.specs.Changes.{inserted, nodes_in};
+ghost use Rattle.doc_edits.specs.Fitting.{MayTake};
+ghost use Rattle.doc_edits.specs.Keeping.{NamesGrow};
+ghost use Rattle.doc_edits.specs.inner.Copies.{IsPlacement};
+ghost use Rattle.doc_edits.specs.inner.Grafts.{grafted, kept_kid, kept_kids};
+ghost use Rattle.doc_edits.specs.inner.Removing.{placed};
+
+use crate::copying::{Placement, numbers_for};
+use crate::removing::renumber;
+use doc_table::{Bare, Node, NodeId, NodeList};
+use sch_base::ItemList;
+use std::alloc::{AllocError, Global};
+
+/// Puts the one kid of a piece's root, with all below it, under a node behind so many of its kids. The new nodes take the
+/// next numbers in document order; the kid's number is answered.
+///
+/// After want of memory the table is as before, and names may have been numbered. Costs the nodes of the piece, the
+/// siblings behind it, and the copying of the piece's texts.
+pub fn insert(
+    bare: &mut Bare,
+    parent: NodeId,
+    before: usize,
+    piece: &Bare,
+) -> Result<NodeId, AllocError>
+    requires sound { IsSound bare.old }
+    requires piece { IsSound piece.now }
+    requires may { MayTake (table_of bare.old) parent before (table_of piece.now) }
+    ensures sound { IsSound bare.new }
+    ensures inserted { OnOk result (table_of bare.new ≡ inserted (table_of bare.old) parent before (table_of piece.now)) }
+    ensures number { IfOk result (λ n. n ≡ length (table_of bare.old)) }
+    ensures names { NamesGrow bare.old.names bare.new.names }
+    ensures cap { bare.new.pair_cap ≡ bare.old.pair_cap }
+    ensures unchanged { OnErr result (table_of bare.new ≡ table_of bare.old) }
+{
+    let first = bare.next_number();
+    let behind = kids_behind(bare, parent, before)?;
+    let nodes = nodes_of(bare.alloc, piece)?;
+    let places = place_piece(bare, parent, before, piece, nodes.as_slice())?;
+    let copies = places.copy_all(&mut bare.names, bare.alloc, piece, nodes.as_slice())?;
+    let count = copies.len() as u32;
+    graft(
+        &mut bare.nodes,
+        parent,
+        before,
+        first,
+        copies,
+        behind.as_slice(),
+    )?;
+    bare.live += count;
+    bare.text_bytes += piece.text_bytes;
+    Ok(first)
+}
+
+/// The kids of a node behind so many.
+fn kids_behind(bare: &Bare, parent: NodeId, before: usize) -> Result<NodeList, AllocError>
+    requires { before ≤ length (kids_of (table_of bare.now) parent) }
+    ensures { IfOk result (λ list. list ≡ drop before (kids_of (table_of bare.now) parent)) }
+{
+    let kids = bare.kids(parent);
+    ItemList::copy_of(bare.alloc, &kids[before..])
+}
+
+/// The nodes of a piece in document order.
+fn nodes_of(alloc: Global, piece: &Bare) -> Result<NodeList, AllocError>
+    requires { IsSound piece.now }
+    ensures { IfOk result (λ list. list ≡ nodes_in (table_of piece.now)) }
+{
+    let mut list = ItemList::new(alloc);
+    for kid in piece.kids(piece.root()) {
+        piece.push_below(&mut list, *kid)?;
+    }
+    Ok(list)
+}
+
+/// Gives each node of a piece its number.
+fn place_piece(
+    bare: &Bare,
+    parent: NodeId,
+    before: usize,
+    piece: &Bare,
+    nodes: &[NodeId],
+) -> Result<Placement, AllocError>
+    requires sound { IsSound bare.now }
+    requires piece { IsSound piece.now }
+    requires may { MayTake (table_of bare.now) parent before (table_of piece.now) }
+    requires nodes { nodes.now ≡ nodes_in (table_of piece.now) }
+    ensures { IfOk result (IsPlacement (table_of bare.now) parent before (table_of piece.now)) }
+{
+    let first = bare.nodes.len();
+    let numbers = numbers_for(bare.alloc, piece.nodes.len(), nodes, first)?;
+    let depth = bare.depth(parent);
+    Ok(Placement {
+        numbers,
+        past: NodeId::from_number((first + nodes.len()) as u32),
+        parent,
+        depth,
+        before: before as u32,
+    })
+}
+
+/// Puts copies behind all nodes, and the first of them among the kids of a node; the kids behind it get the next places.
+/// What needs memory comes first.
+fn graft(
+    nodes: &mut Vec<Option<Node>>,
+    parent: NodeId,
+    before: usize,
+    first: NodeId,
+    mut copies: Vec<Option<Node>>,
+    behind: &[NodeId],
+) -> Result<(), AllocError>
+    requires parent { parent < vec_len nodes.old }
+    requires among { before ≤ length (kept_kids (slice_index_or nodes.old.items parent None)) }
+    requires few { before + length behind.now + 1 < 2 ^ 32 }
+    ensures grafted { OnOk result (nodes.new.items ≡ placed (before + 1) behind.now (grafted parent before first copies.items nodes.old.items)) }
+    ensures unchanged { OnErr result (nodes.new.items ≡ nodes.old.items) }
+{
+    nodes.reserve(copies.len())?;
+    link_at(nodes, parent, before, first)?;
+    match nodes.append(&mut copies) {
+        Ok(()) => {}
+        Err(_) => unreachable!(),
+    }
+    renumber(nodes, behind, before as u32 + 1);
+    Ok(())
+}
+
+/// Puts a number among the kids of a node, behind so many.
+fn link_at(
+    nodes: &mut Vec<Option<Node>>,
+    parent: NodeId,
+    before: usize,
+    number: NodeId,
+) -> Result<(), AllocError>
+    requires parent { parent < vec_len nodes.old }
+    requires among { before ≤ length (kept_kids (slice_index_or nodes.old.items parent None)) }
+    ensures linked { OnOk result (nodes.new.items ≡ slice_set nodes.old.items parent (kept_kid before number (slice_index_or nodes.old.items parent None))) }
+    ensures unchanged { OnErr result (nodes.new.items ≡ nodes.old.items) }
+    ensures len { vec_len nodes.new ≡ vec_len nodes.old }
+    ensures capacity { vec_capacity nodes.new ≡ vec_capacity nodes.old }
+{
+    let slot = &mut nodes[parent.index()];
+    match slot {
+        Some(node) => node.kids.insert(before, number),
+        None => Ok(()),
+    }
+}
