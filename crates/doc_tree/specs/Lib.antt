@@ -11,6 +11,9 @@ pub use Rattle.doc_table.specs.Laws
 pub use Rattle.doc_table.specs.InOrder
 pub mod Scope
 pub mod NameTests
+pub mod Refusals
+pub mod Edited
+pub use Rattle.doc_edits.specs.Changes
 pub use Rattle.doc_table.specs.Declaring
 pub use Rattle.doc_table.specs.declared.kind
 pub use Rattle.doc_table.specs.declared.new_node

@@ -1,5 +1,5 @@
 -- Prefixes in scope: each has the namespace of its nearest declaration (Namespaces in XML 1.0, sections 3 and 6).
-use Rattle.std.specs.Prelude.{ℕ, List, [], ◌∷◌, Option, None, Some, codes, if◌then◌else◌, slice_index_or}
+use Rattle.std.specs.Prelude.{ℕ, List, [], ◌∷◌, Option, None, Some, codes, if◌then◌else◌, slice_index_or, unwrap_or}
 use Rattle.std.specs.Option.{option_or}
 use Rattle.std.specs.Str.{bytes_eq}
 use Rattle.doc_table.specs.Table.{Table}
@@ -35,6 +35,15 @@ namespace_in scope prefix =
 -- the namespace of a prefix in scope at a node
 abbrev pub namespace_at : Table → ℕ → List ℕ → Option (List ℕ)
 namespace_at T n prefix = namespace_in (scope_at T n) prefix
+
+-- the namespace of an attribute's prefix; an attribute without a prefix has none (section 6.2)
+abbrev pub attribute_namespace : List Decl → List ℕ → Option (List ℕ)
+attribute_namespace scope [] = Some []
+attribute_namespace scope (b ∷ prefix) = namespace_in scope (b ∷ prefix)
+
+-- the namespace of an attribute's prefix at an element, none where the prefix is not in scope
+abbrev pub namespace_or_none : Table → ℕ → List ℕ → List ℕ
+namespace_or_none T n prefix = unwrap_or (attribute_namespace (scope_at T n) prefix) []
 
 -- the declaration at a place of a list, empty past the end
 abbrev pub decl_at : List Decl → ℕ → Decl

@@ -42,7 +42,7 @@ impl Tree {
     }
 
     /// How many ancestors a live node has.
-    fn depth(&self, n: NodeId) -> u32
+    pub(crate) fn depth(&self, n: NodeId) -> u32
         requires { is_live self.now.nodes n ≡ true }
         ensures { result ≡ length (ancestors self.now.nodes n) }
     {

@@ -2,11 +2,15 @@
 #![tactic(auto)]
 
 mod append;
+mod attributes;
 mod axes;
 mod before;
 mod declarations;
+mod edits;
+mod inserting;
 mod laws;
 mod refusal;
+mod room;
 mod string_values;
 mod tree;
 mod walk;

@@ -7,12 +7,8 @@ use Rattle.sch_base.specs.Names.{is_ncname}
 use Rattle.pyx_core.specs.Nesting.{is_pi_name, of_chars}
 use Rattle.doc_tree.specs.Table.{Table, Name, Content, root, element, attribute, text, comment, instruction, content_of}
 use Rattle.doc_tree.specs.Scope.{Decl, namespace_in, scope_at, xmlns_prefix}
+pub use Rattle.doc_tree.specs.Scope.{attribute_namespace}
 use Rattle.name_scopes.specs.Declarations.{is_empty, is_bad_declaration, has_both_quotes}
-
--- the namespace of an attribute's prefix; an attribute without a prefix has none (section 6.2)
-abbrev pub attribute_namespace : List Decl → List ℕ → Option (List ℕ)
-attribute_namespace scope [] = Some []
-attribute_namespace scope (b ∷ prefix) = namespace_in scope (b ∷ prefix)
 
 -- whether a text is an NCName
 abbrev pub is_part : List ℕ → Bool

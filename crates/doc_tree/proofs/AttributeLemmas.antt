@@ -1,0 +1,168 @@
+-- An attribute against which nothing speaks may come, or get its value.
+use Rattle.std.proofs.Common.{◌≡◌, ◌≢◌, ℕ, suc, zero, ◌+◌, ◌<◌, ◌≤◌, Bool, true, false, cond, not, ◌&&◌, List, [], ◌∷◌, ◌++◌, length, Option, None, Some, refl, sym, ap, ap₂, ◌∙◌, subst, true≢false, arith, inl, inr, ⊎_elim, eqb, eqb-true, eq-eqb, ltb-false, is_none, is_some, unwrap_or}
+use Rattle.std.specs.List.{list_any}
+use Rattle.std.specs.Option.{option_or}
+use Rattle.std.specs.Prelude.{nat_lt, slice_get, slice_index_or}
+use Rattle.std.specs.Str.{bytes_eq}
+use Rattle.std.proofs.lemmas.Slice.Eq.{bytes_eq-Decides}
+use Rattle.doc_names.specs.Numbering.{Numbered}
+use Rattle.doc_table.specs.declared.kind.Kind.TheVariants.{Element, Attribute, Text}
+use Rattle.doc_table.specs.declared.limits.TheConstants.{MAX_LIVE_NODES, MAX_LIVE_TEXT_BYTES, MAX_NODE_NUMBERS}
+use Rattle.doc_table.specs.Kinds.{can_be_kid, holds_kids, is_document, is_element, is_kind}
+use Rattle.doc_table.specs.Laws.{HasWaysUp, WellFormed}
+use Rattle.doc_table.specs.Lists.{mem}
+use Rattle.doc_table.specs.Table.{Contents, Name, Table, attrs_of, expanded, expanded_of, expanded_in, kids_of, kind_of, name_of, parent_of, value_of}
+use Rattle.doc_table.specs.Walks.{order, text_bytes}
+use Rattle.doc_table.specs.inner.Sound.{Formed}
+use Rattle.doc_table.proofs.ListLemmas.{mem-head, mem-tail}
+use Rattle.doc_edits.specs.Fitting.{MayGain, MayGo, MaySay}
+use Rattle.doc_edits.specs.Changes.{deleted, deleted_by, kids_beside, meeting, removed}
+use Rattle.doc_edits.specs.Documents.{EditsKeepDocuments}
+use Rattle.doc_edits.specs.Keeping.{NamesGrow}
+use Rattle.doc_tree.specs.declared.refusal.EditRefusal.{EditRefusal}
+use Rattle.doc_tree.specs.declared.refusal.EditRefusal.TheVariants.{WrongKind, NoPrefix, XmlnsName, TooManyNodes, TooMuchText, IdsSpent, TooManyPairs}
+use Rattle.doc_tree.specs.Edited.{attribute_name_at}
+use Rattle.doc_tree.specs.NameTests.{attribute_named, has_name, named}
+use Rattle.doc_tree.specs.Refusals.{declares_namespace, name_refusal, setting_refusal, value_refusal}
+use Rattle.doc_tree.specs.Scope.{attribute_namespace, namespace_or_none, scope_at, xmlns_prefix}
+use Rattle.doc_tree.proofs.RefusalLemmas.{find-in, find-none, is-element, none-of-four, none-of-three, not-true, or-false, or-none}
+
+-- a use of a name leaves the names before it where they are
+pub names-grow : (before after : List Name) (name : Name) (number : ℕ) → Numbered before after name number → NamesGrow before after
+names-grow before after name number n =
+    ⊎_elim (λ (e : after ≡ before). let r : NamesGrow before after = ([], e ∙ sym (append-nil before)) in r)
+    (λ (e : (after ≡ before ++ name ∷ []) × (number ≡ length before)). let r : NamesGrow before after = (name ∷ [], e.0) in r) n.added
+  where
+    append-nil : (xs : List Name) → xs ++ [] ≡ xs
+    append-nil [] = refl
+    append-nil (x ∷ xs) = ap (λ l. x ∷ l) (append-nil xs)
+
+-- the item with a number
+pub get-number : {A : Type 0} (xs : List A) (i : ℕ) (x d : A) → slice_get xs i ≡ Some x → slice_index_or xs i d ≡ x
+get-number [] i x d h = absurd (true≢false (sym (ap is_some h)))
+get-number (y ∷ ys) zero x d h = ap (λ o. unwrap_or o d) h
+get-number (y ∷ ys) (suc i) x d h = get-number ys i x d h
+
+-- a node with an expanded name passes the test of that name
+pub has-expanded : (T : Table) (a : ℕ) (name : Name) → expanded_of T a ≡ Some (expanded name) → has_name T a name.uri name.local ≡ true
+has-expanded T a name h = by (name_of T a) h
+  where
+    equal : (xs ys : List ℕ) → xs ≡ ys → bytes_eq xs ys ≡ true
+    equal xs ys e = (bytes_eq-Decides xs ys).1 e
+
+    by : (found : Option Name) → expanded_in found ≡ Some (expanded name) → named found (λ m. bytes_eq m.uri name.uri && bytes_eq m.local name.local) ≡ true
+    by None e = absurd (true≢false (sym (ap is_some e)))
+    by (Some m) e =
+        ap₂ (λ x y. x && y) (equal m.uri name.uri (ap (λ o. (unwrap_or o (expanded m)).0) e)) (equal m.local name.local (ap (λ o. (unwrap_or o (expanded m)).1) e))
+
+module _ (tree : Contents) (n : ℕ) (prefix local value : List ℕ) (free : setting_refusal tree n prefix local value ≡ None) where
+  abbrev found : Option ℕ
+  found = attribute_named tree.nodes n (namespace_or_none tree.nodes n prefix) local
+
+  both : (name_refusal tree.nodes n prefix local ≡ None) × (value_refusal tree found value ≡ None)
+  both = or-none (name_refusal tree.nodes n prefix local) (value_refusal tree found value) free
+
+  pub owner : kind_of tree.nodes n ≡ Some Element
+  owner =
+      is-element (kind_of tree.nodes n) (not-true (is_element (kind_of tree.nodes n))
+      (none-of-three (not (is_element (kind_of tree.nodes n))) (not (bytes_eq prefix xmlns_prefix) && is_none (attribute_namespace (scope_at tree.nodes n) prefix))
+      (declares_namespace prefix local) WrongKind NoPrefix XmlnsName both.0).0)
+
+  pub may-gain : found ≡ None → MayGain tree.nodes n (attribute_name_at tree.nodes n prefix local) value
+  may-gain absent = record {
+    under = owner;
+    is_new = λ a member same. true≢false
+        (sym (has-expanded tree.nodes a (attribute_name_at tree.nodes n prefix local) same)
+        ∙ find-none (λ b. has_name tree.nodes b (namespace_or_none tree.nodes n prefix) local) (attrs_of tree.nodes n) absent a member);
+    few_nodes = omega (arith, ltb-false MAX_LIVE_NODES (suc (length (order tree.nodes))) room.0);
+    few_numbers = omega (arith, ltb-false MAX_NODE_NUMBERS (suc (length tree.nodes)) room.2);
+    little = ltb-false MAX_LIVE_TEXT_BYTES (text_bytes tree.nodes + length value) room.1;
+  }
+    where
+      room : (nat_lt MAX_LIVE_NODES (suc (length (order tree.nodes))) ≡ false) × (nat_lt MAX_LIVE_TEXT_BYTES (text_bytes tree.nodes + length value) ≡ false)
+          × (nat_lt MAX_NODE_NUMBERS (suc (length tree.nodes)) ≡ false) × (nat_lt tree.pair_cap (suc (length (order tree.nodes))) ≡ false)
+      room =
+          none-of-four (nat_lt MAX_LIVE_NODES (suc (length (order tree.nodes)))) (nat_lt MAX_LIVE_TEXT_BYTES (text_bytes tree.nodes + length value))
+          (nat_lt MAX_NODE_NUMBERS (suc (length tree.nodes))) (nat_lt tree.pair_cap (suc (length (order tree.nodes)))) TooManyNodes TooMuchText IdsSpent TooManyPairs
+          (subst (λ o. value_refusal tree o value ≡ None) absent both.1)
+
+  pub may-say : WellFormed tree.nodes → HasWaysUp tree.nodes → (a : ℕ) → found ≡ Some a → MaySay tree.nodes a value
+  may-say formed ways a is =
+      let member : mem a (attrs_of tree.nodes n) ≡ true =
+      (find-in (λ b. has_name tree.nodes b (namespace_or_none tree.nodes n prefix) local) (attrs_of tree.nodes n) a is).0 in
+      let kind : kind_of tree.nodes a ≡ Some Attribute = formed.attribute_kind n a member in
+      record {
+        lives = ways.attribute_live n a member;
+        has_text = ap holds_kids kind;
+        some = λ text. absurd (attribute-text (sym kind ∙ text));
+        little = small (nat_lt (MAX_LIVE_TEXT_BYTES + length (value_of tree.nodes a)) (text_bytes tree.nodes + length value)) refl (subst (λ o. value_refusal tree o value ≡ None) is both.1);
+      }
+    where
+      attribute-text : Some Attribute ≡ Some Text → ⊥
+      attribute-text h = true≢false (ap (is_kind Attribute) h)
+
+      small : (b : Bool) → nat_lt (MAX_LIVE_TEXT_BYTES + length (value_of tree.nodes a)) (text_bytes tree.nodes + length value) ≡ b → cond b (Some TooMuchText) None ≡ None
+          → text_bytes tree.nodes + length value ≤ MAX_LIVE_TEXT_BYTES + length (value_of tree.nodes a)
+      small true e h = absurd (true≢false (ap is_some h))
+      small false e h = ltb-false (MAX_LIVE_TEXT_BYTES + length (value_of tree.nodes a)) (text_bytes tree.nodes + length value) e
+
+-- no texts meet where a node goes that is no kid
+meeting-absent : (T : Table) (n : ℕ) (ks : List ℕ) → mem n ks ≡ false → meeting T n ks ≡ None
+meeting-absent T n [] h = refl
+meeting-absent T n (k ∷ []) h = refl
+meeting-absent T n (k ∷ l ∷ []) h = refl
+meeting-absent T n (k ∷ l ∷ m ∷ ks) h =
+    let rest : mem n (l ∷ m ∷ ks) ≡ false = (or-false (eqb n k) (mem n (l ∷ m ∷ ks)) h).1 in
+    rw (not-equal l n (or-false (eqb n l) (mem n (m ∷ ks)) rest).0) (meeting-absent T n (l ∷ m ∷ ks) rest)
+  where
+    not-equal : (l n : ℕ) → eqb n l ≡ false → eqb l n ≡ false
+    not-equal l n h = by (eqb l n) refl
+      where
+        by : (b : Bool) → eqb l n ≡ b → b ≡ false
+        by true e = absurd (true≢false (sym (eq-eqb n l (sym (eqb-true l n e))) ∙ h))
+        by false e = refl
+
+-- an attribute that goes is no kid
+module _ (T : Table) (formed : Formed T) (wf : WellFormed T) (ways : HasWaysUp T) (n a : ℕ) (member : mem a (attrs_of T n) ≡ true) where
+  kind : kind_of T a ≡ Some Attribute
+  kind = wf.attribute_kind n a member
+
+  no-kid : (p : ℕ) → mem a (kids_of T p) ≡ false
+  no-kid p = by (mem a (kids_of T p)) refl
+    where
+      by : (b : Bool) → mem a (kids_of T p) ≡ b → b ≡ false
+      by true e = absurd (true≢false (sym (wf.kid_kind p a e) ∙ ap can_be_kid kind))
+      by false e = refl
+
+  pub may-go : MayGo T a
+  may-go = record {
+    lives = ways.attribute_live n a member;
+    below_root = λ root. true≢false (sym (ap (is_kind Attribute) (sym (ap (kind_of T) root) ∙ kind)) ∙ ap (is_kind Attribute) wf.root_kind);
+    apart = λ before behind p is. absurd (true≢false (sym (middle before behind) ∙ (sym (ap (mem a) is) ∙ no-kid p)));
+  }
+    where
+      middle : (before behind : List ℕ) → mem a (before ++ a ∷ behind) ≡ true
+      middle [] behind = mem-head a behind
+      middle (b ∷ before) behind = mem-tail a b (before ++ a ∷ behind) (middle before behind)
+
+  gone : deleted T a ≡ removed T a
+  gone = by (parent_of T a)
+    where
+      by : (p : Option ℕ) → deleted_by T a (meeting T a (kids_beside T p)) ≡ removed T a
+      by None = refl
+      by (Some p) = ap (deleted_by T a) (meeting-absent T a (kids_of T p) (no-kid p))
+
+  pub document-stays : EditsKeepDocuments → is_document T ≡ true → is_document (removed T a) ≡ true
+  document-stays keeps document = ap is_document (sym gone) ∙ keeps.deletion T a formed document (λ _. ap is_element kind)
+
+-- nothing speaks against the name and the value
+pub nothing-against-value : (tree : Contents) (n : ℕ) (prefix local value uri : List ℕ) (attribute : Option ℕ) (first second : Option EditRefusal) →
+    first ≡ name_refusal tree.nodes n prefix local → first ≡ None → uri ≡ namespace_or_none tree.nodes n prefix → attribute ≡ attribute_named tree.nodes n uri local →
+    second ≡ value_refusal tree attribute value → second ≡ None → setting_refusal tree n prefix local value ≡ None
+nothing-against-value tree n prefix local value uri attribute first second is_first no_first is_uri is_found is_second no_second =
+    ap₂ option_or (sym is_first ∙ no_first)
+    (ap (λ o. value_refusal tree o value) (ap (λ u. attribute_named tree.nodes n u local) (sym is_uri) ∙ sym is_found) ∙ (sym is_second ∙ no_second))
+
+-- an attribute that was found is one of the element's
+pub found-member : (T : Table) (n a : ℕ) (uri local : List ℕ) → attribute_named T n uri local ≡ Some a → mem a (attrs_of T n) ≡ true
+found-member T n a uri local h = (find-in (λ b. has_name T b uri local) (attrs_of T n) a h).0

@@ -1,0 +1,205 @@
+//! Edits of attributes.
+
+ghost use Rattle.std.specs.Prelude.{◌≡◌, true, IfOk, OnOk, OnErr, IfErr, None};
+ghost use Rattle.std.specs.Option.{option_copied};
+ghost use Rattle.doc_names.specs.Numbering.{Numbered};
+ghost use Rattle.doc_table.specs.Kinds.{is_document};
+ghost use Rattle.doc_edits.specs.Changes.{gained};
+ghost use Rattle.doc_tree.specs.Edited.{NamesGrow, attribute_name_at, attribute_set, attribute_unset};
+ghost use Rattle.doc_tree.specs.NameTests.{attribute_named};
+ghost use Rattle.doc_tree.specs.Refusals.{RefusesFor, RefusesOnlyFor, declares_namespace, name_refusal, setting_refusal, unsetting_refusal, value_refusal};
+ghost use Rattle.doc_tree.specs.Scope.{attribute_namespace, namespace_or_none, scope_at};
+
+use crate::declarations::is_xmlns;
+use crate::refusal::{EditError, EditRefusal};
+use crate::tree::Tree;
+use doc_edits::edits_keep_documents;
+use doc_names::NameId;
+use doc_table::NodeId;
+use sch_base::Text;
+use std::alloc::AllocError;
+
+impl Tree {
+    /// Sets the attribute with an expanded name: one that is there gets the value and keeps its prefix, and another comes as
+    /// the element's last one. A name without a prefix is in no namespace (Namespaces in XML 1.0, section 6.2).
+    ///
+    /// A refused edit changes nothing; after want of memory the nodes are as before. Costs the element's attributes, the
+    /// declarations in scope, and the copying of the value.
+    pub fn set_attr(
+        &mut self,
+        n: NodeId,
+        prefix: &str,
+        local: &str,
+        value: &str,
+    ) -> Result<(), EditError>
+        requires document { is_document self.old.nodes ≡ true }
+        ensures within { OnOk result (setting_refusal self.old n prefix.now local.now value.now ≡ None) }
+        ensures edited { OnOk result (self.new.nodes ≡ attribute_set self.old.nodes n prefix.now local.now value.now) }
+        ensures document { is_document self.new.nodes ≡ true }
+        ensures names { NamesGrow self.old.names self.new.names }
+        ensures cap { self.new.pair_cap ≡ self.old.pair_cap }
+        ensures refused { IfErr result (RefusesFor (setting_refusal self.old n prefix.now local.now value.now)) }
+        ensures unchanged { OnErr result (self.new.nodes ≡ self.old.nodes) }
+    {
+        if let Some(reason) = self.name_refusal(n, prefix, local) {
+            return Err(EditError::Refused(reason));
+        }
+        let uri = self.attribute_uri(n, prefix);
+        let found = self.attribute_named(n, uri, local);
+        if let Some(reason) = self.value_refusal(found, value) {
+            return Err(EditError::Refused(reason));
+        }
+        self.laws();
+        edits_keep_documents();
+        match &found {
+            Some(a) => doc_edits::say(&mut self.bare, *a, value)?,
+            None => self.gain(n, prefix, local, value)?,
+        }
+        Ok(())
+    }
+
+    /// Removes the attribute with an expanded name, whatever its prefix. Takes no memory.
+    ///
+    /// A refused edit changes nothing. Costs the element's attributes, and the declarations in scope.
+    pub fn unset_attr(&mut self, n: NodeId, prefix: &str, local: &str) -> Result<(), EditError>
+        requires document { is_document self.old.nodes ≡ true }
+        ensures within { OnOk result (unsetting_refusal self.old.nodes n prefix.now local.now ≡ None) }
+        ensures edited { OnOk result (self.new.nodes ≡ attribute_unset self.old.nodes n prefix.now local.now) }
+        ensures document { is_document self.new.nodes ≡ true }
+        ensures names { self.new.names ≡ self.old.names }
+        ensures cap { self.new.pair_cap ≡ self.old.pair_cap }
+        ensures refused { IfErr result (RefusesOnlyFor (unsetting_refusal self.old.nodes n prefix.now local.now)) }
+        ensures unchanged { OnErr result (self.new ≡ self.old) }
+    {
+        if let Some(reason) = self.name_refusal(n, prefix, local) {
+            return Err(EditError::Refused(reason));
+        }
+        let found = self.attribute_named(n, self.attribute_uri(n, prefix), local);
+        match &found {
+            Some(a) => {
+                self.laws();
+                edits_keep_documents();
+                doc_edits::remove(&mut self.bare, *a);
+                Ok(())
+            }
+            None => Err(EditError::Refused(EditRefusal::NoAttribute)),
+        }
+    }
+
+    /// Gives an element one attribute more, the last one.
+    fn gain(&mut self, n: NodeId, prefix: &str, local: &str, value: &str) -> Result<(), AllocError>
+        requires free { setting_refusal self.old n prefix.now local.now value.now ≡ None }
+        requires absent { attribute_named self.old.nodes n (namespace_or_none self.old.nodes n prefix.now) local.now ≡ None }
+        ensures gained { OnOk result (self.new.nodes ≡ gained self.old.nodes n (attribute_name_at self.old.nodes n prefix.now local.now) value.now) }
+        ensures names { NamesGrow self.old.names self.new.names }
+        ensures cap { self.new.pair_cap ≡ self.old.pair_cap }
+        ensures unchanged { OnErr result (self.new.nodes ≡ self.old.nodes) }
+    {
+        let name = self.attribute_id(n, prefix, local)?;
+        doc_edits::gain(&mut self.bare, n, name, value)?;
+        Ok(())
+    }
+
+    /// The number of the name that an attribute of an element has.
+    fn attribute_id(&mut self, n: NodeId, prefix: &str, local: &str) -> Result<NameId, AllocError>
+        ensures numbered { IfOk result (λ id. Numbered self.old.names self.new.names (attribute_name_at self.old.nodes n prefix.now local.now) id) }
+        ensures nodes { self.new.nodes ≡ self.old.nodes }
+        ensures cap { self.new.pair_cap ≡ self.old.pair_cap }
+        ensures unchanged { OnErr result (self.new ≡ self.old) }
+    {
+        let uri = Text::copy(self.bare.alloc, self.attribute_uri(n, prefix))?;
+        self.name_id(prefix, local, uri.as_str())
+    }
+
+    /// The attribute of an element with this expanded name; the namespace is empty for none.
+    ///
+    /// Costs the element's attributes.
+    pub fn attribute_named(&self, n: NodeId, uri: &str, local: &str) -> Option<NodeId>
+        ensures { result ≡ attribute_named self.now.nodes n uri.now local.now }
+    {
+        for a in self.attrs(n) {
+            if self.has_name(*a, uri, local) {
+                return Some(*a);
+            }
+        }
+        None
+    }
+
+    /// The namespace of an attribute's prefix at an element; empty where it has none, or isn't in scope.
+    fn attribute_uri(&self, n: NodeId, prefix: &str) -> &str
+        ensures { result.now ≡ namespace_or_none self.now.nodes n prefix.now }
+    {
+        match self.attribute_namespace(n, prefix) {
+            Some(uri) => uri,
+            None => "",
+        }
+    }
+
+    /// The namespace of an attribute's prefix at an element; None where the prefix isn't in scope.
+    fn attribute_namespace(&self, n: NodeId, prefix: &str) -> Option<&str>
+        ensures { option_copied result ≡ attribute_namespace (scope_at self.now.nodes n) prefix.now }
+    {
+        if prefix.is_empty() {
+            return Some("");
+        }
+        self.lookup(n, prefix)
+    }
+
+    /// The first reason against the name of an attribute of a node.
+    fn name_refusal(&self, n: NodeId, prefix: &str, local: &str) -> Option<EditRefusal>
+        ensures { result ≡ name_refusal self.now.nodes n prefix.now local.now }
+    {
+        if !self.is_element(n) {
+            return Some(EditRefusal::WrongKind);
+        }
+        if !is_xmlns(prefix) && self.attribute_namespace(n, prefix).is_none() {
+            return Some(EditRefusal::NoPrefix);
+        }
+        if declares_namespace(prefix, local) {
+            return Some(EditRefusal::XmlnsName);
+        }
+        None
+    }
+
+    /// The first reason against a value of an attribute that is there, or of a new one.
+    fn value_refusal(&self, found: Option<NodeId>, value: &str) -> Option<EditRefusal>
+        ensures { result ≡ value_refusal self.now found value.now }
+    {
+        match found {
+            Some(a) => {
+                if self.is_too_much_text(self.value(a), value) {
+                    return Some(EditRefusal::TooMuchText);
+                }
+                None
+            }
+            None => self.room_for_attribute(value),
+        }
+    }
+
+    /// The first reason against a new attribute with this value.
+    fn room_for_attribute(&self, value: &str) -> Option<EditRefusal>
+        ensures { result ≡ value_refusal self.now None value.now }
+    {
+        if self.has_too_many_nodes(1) {
+            return Some(EditRefusal::TooManyNodes);
+        }
+        if self.is_too_much_text("", value) {
+            return Some(EditRefusal::TooMuchText);
+        }
+        if self.numbers_left() < 1 {
+            return Some(EditRefusal::IdsSpent);
+        }
+        if self.has_too_many_pairs(1) {
+            return Some(EditRefusal::TooManyPairs);
+        }
+        None
+    }
+}
+
+/// Whether a name is that of a declaration: `xmlns`, or one with the prefix `xmlns`.
+#[tactic(auto, unfolding(crate::specs::Scope::xmlns_prefix))]
+fn declares_namespace(prefix: &str, local: &str) -> bool
+    ensures { result ≡ declares_namespace prefix.now local.now }
+{
+    is_xmlns(prefix) || (prefix.is_empty() && is_xmlns(local))
+}
