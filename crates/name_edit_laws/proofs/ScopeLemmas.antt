@@ -21,6 +21,7 @@ use Rattle.doc_edits.proofs.ClearLemmas.{cut}
 use Rattle.doc_edits.proofs.PruneLemmas.{Cut, cut_at}
 use Rattle.doc_edits.proofs.InsertionLemmas.{IsNew, IsOther, new-or, given-parent, given-lifted, given-content, lifted, nodes-flat, nodes-once, nodes-live, nodes-other, parent-kept, content-kept, old-other, entry-new}
 use Rattle.doc_edits.proofs.InsertionWayLemmas.{ancestors-up, inside}
+use Rattle.name_scopes.specs.Fragments.{PieceInScope}
 use Rattle.name_scopes.specs.Scoping.{AttributeInScope, ContentInScope, InScope, NodeInScope}
 use Rattle.name_edit_laws.specs.Scopes.{AdditionsKeepScope, DeletionsKeepScope, SayingsKeepScope}
 use Rattle.doc_edits.proofs.RemainderLemmas.{Stays, stays-cut, stays-both, said-live, said-parent, said-decls, before-new, gained-parent, gained-content, gained-new}

@@ -18,7 +18,7 @@ pub newest-twice : {A : Type 0} (xs : List A) → newest_first (newest_first xs)
 newest-twice [] = refl
 newest-twice (x ∷ xs) = newest-push (newest_first xs) x ∙ ap (λ l. x ∷ l) (newest-twice xs)
 
-newest-length : {A : Type 0} (xs : List A) → length (newest_first xs) ≡ length xs
+pub newest-length : {A : Type 0} (xs : List A) → length (newest_first xs) ≡ length xs
 newest-length [] = refl
 newest-length (x ∷ xs) = length-append (newest_first xs) (x ∷ []) ∙ omega (arith, newest-length xs)
 

@@ -1,6 +1,6 @@
 -- Texts, comments, instructions and ends taken by a tree under way.
-use Rattle.std.proofs.Common.{◌≡◌, ◌≢◌, ℕ, ◌+◌, suc, Bool, true, false, List, [], ◌∷◌, ◌++◌, length, map, drop, sum_by, None, Some, refl, sym, ap, ◌∙◌, subst, ⊎_elim, true≢false, arith, nat_lt, length-append}
-use Rattle.std.specs.Prelude.{if◌then◌else◌, nat_le, Err}
+use Rattle.std.proofs.Common.{◌≡◌, ◌≢◌, ℕ, ◌+◌, suc, Bool, true, false, List, [], ◌∷◌, ◌++◌, length, map, drop, sum_by, Option, None, Some, refl, sym, ap, ◌∙◌, subst, ⊎_elim, true≢false, arith, nat_lt, length-append}
+use Rattle.std.specs.Prelude.{if◌then◌else◌, is_none, nat_le, Err}
 use Rattle.std.proofs.lemmas.Bool.{leb-false, leb-true, le-ltb, lt-ltb, cases_eq}
 use Rattle.std.proofs.Math.Seq.{drop-append_seam}
 use Rattle.pyx_core.specs.declared.event.Event.{Event}
@@ -53,17 +53,17 @@ pub record LeafIs (e : Event) : Type 0 where
   pub no_element : is_element (Some (kind_in (leaf_of e))) ≡ false
   pub no_decls : decls_in (leaf_of e) ≡ []
 
-leaf-is : (e : Event) → IsLeaf e → LeafIs e
+pub leaf-is : (e : Event) → IsLeaf e → LeafIs e
 leaf-is (event.Start name attrs) leaf = absurd leaf
 leaf-is (event.End name) leaf = absurd leaf
 leaf-is (event.Chars characters) leaf = record { first = refl; last = refl; bytes = refl; kid = λ n. refl; no_element = refl; no_decls = refl }
 leaf-is (event.Pi target body) leaf = record { first = refl; last = refl; bytes = refl; kid = λ n. refl; no_element = refl; no_decls = refl }
 leaf-is (event.Comment characters) leaf = record { first = refl; last = refl; bytes = refl; kid = λ n. refl; no_element = refl; no_decls = refl }
 
-some-names : (names : List (List ℕ)) → is_nil names ≡ false → names ≢ []
+pub some-names : (names : List (List ℕ)) → is_nil names ≡ false → names ≢ []
 some-names names h none = true≢false (sym (ap is_nil none) ∙ h)
 
-module _ (taken : List Event) (place : Place) (standing : Standing) (T : Table) (p : ℕ) (builds : Builds taken place standing T p) where
+module _ (around : List Decl) (taken : List Event) (place : Place) (standing : Standing) (T : Table) (p : ℕ) (builds : Builds around taken place standing T p) where
   -- where they fit
   pub leaf-fits : (e : Event) → IsLeaf e → Fits Document place e → FitsUnder T p (leaf_of e)
   leaf-fits (event.Start name attrs) leaf fits = absurd leaf
@@ -79,7 +79,7 @@ module _ (taken : List Event) (place : Place) (standing : Standing) (T : Table) 
   leaf-room e leaf h = leaf-limit standing e leaf ∙ node-limit standing T false builds.count h
 
   module _ (U : Table) (n : ℕ) (ways : HasWaysUp T) (formed : WellFormed T) (laws : HasScopes T) where
-    leaf-scoped : (e : Event) → IsLeaf e → Fits Document place e → ContentInScope (decls_in (leaf_of e) ++ scope_at T p) (Some (leaf_of e))
+    leaf-scoped : (e : Event) → IsLeaf e → Fits Document place e → ContentInScope ((decls_in (leaf_of e) ++ scope_at T p) ++ around) (Some (leaf_of e))
     leaf-scoped (event.Start name attrs) leaf fits = absurd leaf
     leaf-scoped (event.End name) leaf fits = absurd leaf
     leaf-scoped (event.Chars characters) leaf fits = fits.made
@@ -133,7 +133,7 @@ module _ (taken : List Event) (place : Place) (standing : Standing) (T : Table) 
     scopes-after (event.Pi target body) leaf = refl
     scopes-after (event.Comment characters) leaf = refl
 
-    pub builds-leaf : (e : Event) → IsLeaf e → Fits Document place e → Grew T U p n (leaf_of e) → Builds (taken ++ e ∷ []) (after Document place e) (moved standing e) U p
+    pub builds-leaf : (e : Event) → IsLeaf e → Fits Document place e → Grew T U p n (leaf_of e) → Builds around (taken ++ e ∷ []) (after Document place e) (moved standing e) U p
     builds-leaf e leaf fits grew =
         let is : LeafIs e = leaf-is e leaf in
         let begun_is : place.begun ≡ (after Document place e).begun = begun-after e leaf fits in
@@ -153,7 +153,7 @@ module _ (taken : List Event) (place : Place) (standing : Standing) (T : Table) 
           told_is = told-more builds.told (first_lines (leaf_of e)) taken e builds.told_is is.first;
           inside = λ some. sym begun_is ∙ builds.inside (λ none. some (sym opened_is ∙ none));
           behind_is = behind-after e leaf grew;
-          scoped = grown-scoped T U p n (leaf_of e) grew laws (open-live T place.opened standing.scopes p builds.tells.way) builds.scoped (leaf-scoped e leaf fits);
+          scoped = grown-scoped T U p n (leaf_of e) grew laws around (open-live T place.opened standing.scopes p builds.tells.way) builds.scoped (leaf-scoped e leaf fits);
           count = ap length grew.last_in_order ∙ (length-append (order T) (n ∷ []) ∙ (omega (arith, builds.count) ∙ sym (moved-after e leaf)));
         }
 
@@ -163,7 +163,7 @@ module _ (taken : List Event) (place : Place) (standing : Standing) (T : Table) 
     pub scopes : List (List Decl)
     pub are : standing.scopes ≡ decls ∷ scopes
     pub declared : decls_of T p ≡ decls
-    pub builds_on : Builds (taken ++ event.End name ∷ []) (after Document place (event.End name)) (moved standing (event.End name)) T q
+    pub builds_on : Builds around (taken ++ event.End name ∷ []) (after Document place (event.End name)) (moved standing (event.End name)) T q
 
   ended-by : (q : ℕ) (name : List ℕ) (names : List (List ℕ)) (scopes : List (List Decl)) → HasWaysUp T → parent_of T p ≡ Some q → place.opened ≡ names → standing.scopes ≡ scopes → names ≡ name ∷ outer names →
       Says builds.told names scopes place.begun (sum_by event_text taken) T p → EndTaken q name
@@ -202,6 +202,13 @@ module _ (taken : List Event) (place : Place) (standing : Standing) (T : Table) 
       by (x ∷ names) [] is way = way
       by (x ∷ names) (decls ∷ scopes) is way = let up : parent_of T p ≡ Some way.0 = way.1.0.under in absurd (cc)
 
+  pub some-parent : (name : List ℕ) → HasWaysUp T → Fits Document place (event.End name) → is_none (parent_of T p) ≡ false
+  some-parent name ways fits = by (parent_of T p) refl
+    where
+      by : (o : Option ℕ) → parent_of T p ≡ o → is_none o ≡ false
+      by None e = absurd (end-parent name ways fits e)
+      by (Some q) e = refl
+
 -- the declarations of the outer elements
 pub dropped : (xs ys : List Decl) (k : ℕ) → k ≡ length xs → drop k (xs ++ ys) ≡ ys
 dropped xs ys k h = ap (λ (n : ℕ). drop n (xs ++ ys)) h ∙ drop-append_seam xs ys
@@ -213,22 +220,22 @@ leaf-bytes e leaf = (leaf-is e leaf).bytes
 pub loads-leaf : (taken : List Event) (place : Place) (standing : Standing) (old new : Loader) (n : ℕ) (e : Event) → IsLeaf e → Fits Document place e → HasWaysUp old.tree.nodes → WellFormed old.tree.nodes → HasScopes old.tree.nodes →
     Grew old.tree.nodes new.tree.nodes old.place n (leaf_of e) → new.place ≡ old.place → new.scope ≡ old.scope → Loads taken place standing old → Loads (taken ++ e ∷ []) (after Document place e) (moved standing e) new
 loads-leaf taken place standing old new n e leaf fits ways formed laws grew same_place same_scope loads = record {
-  builds = subst (Builds (taken ++ e ∷ []) (after Document place e) (moved standing e) new.tree.nodes) (sym same_place)
-      (builds-leaf taken place standing old.tree.nodes old.place loads.builds new.tree.nodes n ways formed laws e leaf fits grew);
-  scope_is = same_scope ∙ (loads.scope_is ∙ ap in_scope (scopes-after taken place standing old.tree.nodes old.place loads.builds new.tree.nodes n ways formed laws e leaf));
+  builds = subst (Builds [] (taken ++ e ∷ []) (after Document place e) (moved standing e) new.tree.nodes) (sym same_place)
+      (builds-leaf [] taken place standing old.tree.nodes old.place loads.builds new.tree.nodes n ways formed laws e leaf fits grew);
+  scope_is = same_scope ∙ (loads.scope_is ∙ ap in_scope (scopes-after [] taken place standing old.tree.nodes old.place loads.builds new.tree.nodes n ways formed laws e leaf));
 }
 
 pub leaf-refused : (taken : List Event) (place : Place) (standing : Standing) (old new : Loader) (e : Event) (err : EventError) → IsLeaf e → Loads taken place standing old → IsFull old.tree.nodes err → TakesEvent taken place standing e new (Err err)
-leaf-refused taken place standing old new e (Kind what) leaf loads full = leaf-full taken place standing old.tree.nodes old.place loads.builds e leaf full.1 ∙ ap Some (sym full.0)
+leaf-refused taken place standing old new e (Kind what) leaf loads full = leaf-full [] taken place standing old.tree.nodes old.place loads.builds e leaf full.1 ∙ ap Some (sym full.0)
 leaf-refused taken place standing old new e Memory leaf loads full = tt
 
 -- the end of an element
 pub loads-end : (taken : List Event) (place : Place) (standing : Standing) (old new : Loader) (q count : ℕ) (name : List ℕ) → HasWaysUp old.tree.nodes → parent_of old.tree.nodes old.place ≡ Some q → Fits Document place (event.End name) →
     count ≡ length (decls_of old.tree.nodes old.place) → new.scope ≡ drop count old.scope → new.tree ≡ old.tree → new.place ≡ q → Loads taken place standing old → Loads (taken ++ event.End name ∷ []) (after Document place (event.End name)) (moved standing (event.End name)) new
 loads-end taken place standing old new q count name ways under fits counted scope_is tree_is place_is loads =
-    let e : EndTaken taken place standing old.tree.nodes old.place loads.builds q name = builds-end taken place standing old.tree.nodes old.place loads.builds q name ways under fits in
+    let e : EndTaken [] taken place standing old.tree.nodes old.place loads.builds q name = builds-end [] taken place standing old.tree.nodes old.place loads.builds q name ways under fits in
     record {
-      builds = subst (λ (t : Contents). Builds (taken ++ event.End name ∷ []) (after Document place (event.End name)) (moved standing (event.End name)) t.nodes new.place) (sym tree_is)
-          (subst (Builds (taken ++ event.End name ∷ []) (after Document place (event.End name)) (moved standing (event.End name)) old.tree.nodes) (sym place_is) e.builds_on);
+      builds = subst (λ (t : Contents). Builds [] (taken ++ event.End name ∷ []) (after Document place (event.End name)) (moved standing (event.End name)) t.nodes new.place) (sym tree_is)
+          (subst (Builds [] (taken ++ event.End name ∷ []) (after Document place (event.End name)) (moved standing (event.End name)) old.tree.nodes) (sym place_is) e.builds_on);
       scope_is = scope_is ∙ (ap (drop count) (loads.scope_is ∙ ap in_scope e.are) ∙ (dropped e.decls (in_scope e.scopes) count (counted ∙ ap (λ (l : List Decl). length l) e.declared) ∙ sym (ap (λ (s : List (List Decl)). in_scope (outer_scopes s)) e.are)));
     }

@@ -23,3 +23,7 @@ pub mod ItemTables
 pub mod ItemScoped
 pub mod RoundTripLemmas
 pub mod OneTree
+pub mod PieceTests
+pub mod PieceSteps
+pub mod PieceWhole
+pub mod PieceFront

@@ -3,16 +3,16 @@ use Rattle.std.proofs.Common.{◌≡◌, ℕ, suc, zero, List, [], refl, sym, su
 use Rattle.pyx_core.specs.Nesting.{start}
 use Rattle.doc_tree.specs.Table.{Contents, AllLive, root_alone}
 use Rattle.doc_tree.specs.Scope.{Decl}
-use Rattle.name_scopes.specs.Scoping.{InScope}
+use Rattle.name_scopes.specs.Fragments.{PieceInScope}
 use Rattle.name_scopes.specs.DocFaults.{begin}
 use Rattle.name_scopes.specs.inner.Build.{Builds, Loads}
 
-root-scoped : InScope root_alone.nodes
-root-scoped zero = tt
-root-scoped (suc n) = tt
+root-scoped : (around : List Decl) → PieceInScope around root_alone.nodes
+root-scoped around zero = tt
+root-scoped around (suc n) = tt
 
-root-builds : Builds [] start begin root_alone.nodes 0
-root-builds = record {
+pub root-builds : (around : List Decl) → Builds around [] start begin root_alone.nodes 0
+root-builds around = record {
   told = [];
   tells = record {
     lines_are = refl;
@@ -26,7 +26,7 @@ root-builds = record {
   told_is = refl;
   inside = λ some. absurd (some refl);
   behind_is = refl;
-  scoped = root-scoped;
+  scoped = root-scoped around;
   count = refl;
 }
   where
@@ -36,6 +36,6 @@ root-builds = record {
 
 pub loads-none : (alloc : Global) (tree : Contents) (place : ℕ) (scope : List Decl) → tree ≡ root_alone → place ≡ 0 → scope ≡ [] → Loads [] start begin (record { alloc = alloc; tree = tree; place = place; scope = scope })
 loads-none alloc tree place scope is_tree is_place is_scope = record {
-  builds = subst (λ (t : Contents). Builds [] start begin t.nodes place) (sym is_tree) (subst (Builds [] start begin root_alone.nodes) (sym is_place) root-builds);
+  builds = subst (λ (t : Contents). Builds [] [] start begin t.nodes place) (sym is_tree) (subst (Builds [] [] start begin root_alone.nodes) (sym is_place) (root-builds []));
   scope_is = is_scope;
 }

@@ -147,7 +147,7 @@ module _ (T U : Table) (p n : ℕ) (c : Content) (grew : Grew T U p n c) (ways :
   root-live : is_live T 0 ≡ true
   root-live = kind-live T 0 Root formed.root_kind
 
-  kids-stay : p ≢ 0 → kids_of U 0 ≡ kids_of T 0
+  pub kids-stay : p ≢ 0 → kids_of U 0 ≡ kids_of T 0
   kids-stay apart = grew.same_kids 0 (is-old T 0 n root-live grew.number) (λ e. apart (sym e))
 
   pub tops-apart : (begun : Bool) → p ≢ 0 → Tops begun T → Tops begun U

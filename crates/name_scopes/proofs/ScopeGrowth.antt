@@ -8,7 +8,9 @@ use Rattle.doc_tree.specs.Walks.{above}
 use Rattle.doc_tree.specs.Growth.{Grew}
 use Rattle.doc_tree.specs.Scope.{Decl, scope_at, HasScopes}
 use Rattle.doc_tree.specs.Declaring.{Declared}
-use Rattle.name_scopes.specs.Scoping.{ContentInScope, NodeInScope, InScope}
+use Rattle.name_scopes.specs.Fragments.{PieceInScope}
+use Rattle.name_scopes.specs.Scoping.{ContentInScope}
+use Rattle.name_scopes.specs.inner.Build.{NodeAround}
 use Rattle.name_scopes.proofs.NumberLemmas.{is-old, mem-first, mem-behind}
 
 flat_map-same : {A : Type 0} (f g : ℕ → List A) (xs : List ℕ) → ((n : ℕ) → mem n xs ≡ true → f n ≡ g n) → flat_map f xs ≡ flat_map g xs
@@ -35,21 +37,21 @@ module _ (T U : Table) (p n : ℕ) (c : Content) (grew : Grew T U p n c) (laws :
   scope-new live = ap (flat_map (decls_of U)) grew.way_up ∙ ap₂ (λ (l r : List Decl). l ++ r) (ap decls_at grew.content) (above-same p live)
 
   -- the others stay in scope
-  pub others-scoped : (m : ℕ) → m ≢ n → NodeInScope T m → NodeInScope U m
-  others-scoped m ne h = by (is_live T m) refl
+  pub others-scoped : (around : List Decl) (m : ℕ) → m ≢ n → NodeAround around T m → NodeAround around U m
+  others-scoped around m ne h = by (is_live T m) refl
     where
-      by : (b : Bool) → is_live T m ≡ b → NodeInScope U m
-      by true live = subst (λ (o : Option Content). ContentInScope (scope_at U m) o) (sym (grew.same_content m ne)) (subst (λ (s : List Decl). ContentInScope s (content_of T m)) (sym (scope-kept m live)) h)
-      by false dead = subst (λ (o : Option Content). ContentInScope (scope_at U m) o) (sym (grew.same_content m ne ∙ dead-content T m dead)) tt
+      by : (b : Bool) → is_live T m ≡ b → NodeAround around U m
+      by true live = subst (λ (o : Option Content). ContentInScope (scope_at U m ++ around) o) (sym (grew.same_content m ne)) (subst (λ (s : List Decl). ContentInScope (s ++ around) (content_of T m)) (sym (scope-kept m live)) h)
+      by false dead = subst (λ (o : Option Content). ContentInScope (scope_at U m ++ around) o) (sym (grew.same_content m ne ∙ dead-content T m dead)) tt
 
   -- and so does all, where the new node is in scope
-  pub grown-scoped : is_live T p ≡ true → InScope T → ContentInScope (decls_in c ++ scope_at T p) (Some c) → InScope U
-  grown-scoped live all here m = ⊎_elim
-      (λ (e : m ≡ n). subst (NodeInScope U) (sym e) (subst (λ (o : Option Content). ContentInScope (scope_at U n) o) (sym grew.content) (subst (λ (s : List Decl). ContentInScope s (Some c)) (sym (scope-new live)) here)))
-      (λ (ne : m ≢ n). others-scoped m ne (all m))
+  pub grown-scoped : (around : List Decl) → is_live T p ≡ true → PieceInScope around T → ContentInScope ((decls_in c ++ scope_at T p) ++ around) (Some c) → PieceInScope around U
+  grown-scoped around live all here m = ⊎_elim
+      (λ (e : m ≡ n). subst (NodeAround around U) (sym e) (subst (λ (o : Option Content). ContentInScope (scope_at U n ++ around) o) (sym grew.content) (subst (λ (s : List Decl). ContentInScope (s ++ around) (Some c)) (sym (scope-new live)) here)))
+      (λ (ne : m ≢ n). others-scoped around m ne (all m))
       (cases_eq m n)
 
 -- a declaration at an element that holds nothing leaves the others in scope
-pub declared-scoped : (T U : Table) (n : ℕ) (d : Decl) → Declared T U n d → ((m : ℕ) → m ≢ n → scope_at U m ≡ scope_at T m) → (m : ℕ) → m ≢ n → NodeInScope T m → NodeInScope U m
-declared-scoped T U n d more same m ne h =
-    subst (λ (o : Option Content). ContentInScope (scope_at U m) o) (sym (more.same_content m ne)) (subst (λ (s : List Decl). ContentInScope s (content_of T m)) (sym (same m ne)) h)
+pub declared-scoped : (T U : Table) (n : ℕ) (d : Decl) → Declared T U n d → ((m : ℕ) → m ≢ n → scope_at U m ≡ scope_at T m) → (around : List Decl) (m : ℕ) → m ≢ n → NodeAround around T m → NodeAround around U m
+declared-scoped T U n d more same around m ne h =
+    subst (λ (o : Option Content). ContentInScope (scope_at U m ++ around) o) (sym (more.same_content m ne)) (subst (λ (s : List Decl). ContentInScope (s ++ around) (content_of T m)) (sym (same m ne)) h)

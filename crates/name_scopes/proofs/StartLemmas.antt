@@ -13,7 +13,7 @@ use Rattle.pyx_core.specs.Nesting.{is_attr}
 use Rattle.doc_tree.specs.kind.Kind.TheVariants.{Root, Element}
 use Rattle.doc_tree.specs.Lists.{mem}
 use Rattle.doc_tree.specs.Table.{Table, Content, attribute, kind_at, name_at, expanded, expanded_in, expanded_of, kind_of, kids_of, attrs_of, decls_of, is_live}
-use Rattle.doc_tree.specs.Walks.{ancestors, order, text_bytes}
+use Rattle.doc_tree.specs.Walks.{ancestors, order}
 use Rattle.doc_tree.specs.Lines.{Line, declares}
 use Rattle.doc_tree.specs.Growth.{Grew, AttributeFits}
 use Rattle.doc_tree.specs.Kinds.{holds_kids}
@@ -21,14 +21,14 @@ use Rattle.doc_tree.specs.Laws.{HasWaysUp, WellFormed}
 use Rattle.doc_tree.specs.Scope.{Decl, scope_at, first_declared, HasScopes}
 use Rattle.doc_tree.specs.Declaring.{Declared, DeclaredLast}
 use Rattle.name_scopes.specs.Declarations.{declaration_of, declarations, is_plain, plain_attrs}
-use Rattle.name_scopes.specs.Scoping.{InScope, AttributeInScope, declares_twice}
+use Rattle.name_scopes.specs.Scoping.{AttributeInScope, declares_twice}
 use Rattle.name_scopes.specs.DocFaults.{has_pair, same_expanded, lacks_prefix, expanded_attr}
 use Rattle.name_scopes.specs.inner.Build.{Receives, Says, DeclaresAll, AttributesAll, attribute_name, scoped_line, value_bytes}
 use Rattle.name_scopes.proofs.NumberLemmas.{is-old, kind-live, mem-second, mem-push}
-use Rattle.name_scopes.proofs.OpenElements.{tops-apart}
+use Rattle.name_scopes.proofs.OpenElements.{kids-stay, tops-apart}
 use Rattle.name_scopes.proofs.ScopeGrowth.{scope-kept, grown-scoped, declared-scoped}
 use Rattle.name_scopes.proofs.TellLemmas.{tells-declared, tells-leaf}
-use Rattle.name_scopes.proofs.TagLemmas.{next, kept-more, kept-same, kept-fails, pair-kept, pair-more, passed}
+use Rattle.name_scopes.proofs.TagLemmas.{one-more, one-less, next, kept-more, kept-same, kept-fails, pair-kept, pair-more, passed}
 use Rattle.name_scopes.proofs.TagFacts.{AreAttrs, attribute-scoped, not-declared}
 
 -- the declarations so far
@@ -40,7 +40,7 @@ pub declaring-none : (T : Table) (p : ℕ) → kind_of T p ≡ Some Element → 
 declaring-none T p under no_decl no_kid no_attribute = record {
   all = record {
     tells = λ told name names scopes begun text tells. subst (λ (ls : List Line). Says ls (name ∷ names) ([] ∷ scopes) begun text T p) (sym (append-nil told)) tells;
-    others = λ m ne h. h;
+    others = λ around m ne h. h;
     content = λ name h. h;
     decls_are = no_decl;
     upper = refl;
@@ -50,6 +50,7 @@ declaring-none T p under no_decl no_kid no_attribute = record {
     no_attribute = no_attribute;
     same_order = refl;
     same_text = refl;
+    top_kids = refl;
   };
   under = under;
 }
@@ -64,7 +65,7 @@ declaring-more T U V p done d more ways was =
             (append_assoc told (map declares done) (declares d ∷ []) ∙ ap (λ (ls : List Line). told ++ ls) (sym (map-append declares done (d ∷ []))))
             (tells-declared U V p d name done (told ++ map declares done) names scopes begun text more ways was.all.no_kid was.all.no_attribute
             (was.all.tells told name names scopes begun text tells));
-        others = λ m ne h. declared-scoped U V p d more last.same_scope m ne (was.all.others m ne h);
+        others = λ around m ne h. declared-scoped U V p d more last.same_scope around m ne (was.all.others around m ne h);
         content = λ name h. more.content name done (was.all.content name h);
         decls_are = more.decls ∙ ap (λ (l : List Decl). l ++ d ∷ []) was.all.decls_are;
         upper = append_cancel_left (decls_of V p) (flat_map (decls_of V) (ancestors V p)) (flat_map (decls_of U) (ancestors U p))
@@ -75,6 +76,7 @@ declaring-more T U V p done d more ways was =
         no_attribute = more.same_attributes p ∙ was.all.no_attribute;
         same_order = more.same_order ∙ was.all.same_order;
         same_text = more.same_text ∙ was.all.same_text;
+        top_kids = more.same_kids 0 ∙ was.all.top_kids;
       };
       under = more.same_kind p ∙ was.under;
     }
@@ -123,24 +125,24 @@ pub record Attributing (T U : Table) (p : ℕ) (scope : List Decl) (done : List 
   pub receives : Receives U p
   pub under : kind_of U p ≡ Some Element
   pub named : (a : ℕ) → mem a (attrs_of U p) ≡ true → IsOneOf U scope (plain_attrs done) a
-  pub scope_is : scope_at U p ≡ scope
-  pub little : text_bytes U ≤ text_bytes T + sum_by value_bytes done
+  pub scope_is : scope_at U p ≡ scope_at T p
 
-pub attributing-none : (T : Table) (p : ℕ) (scope : List Decl) → Receives T p → kind_of T p ≡ Some Element → kids_of T p ≡ [] → attrs_of T p ≡ [] → scope_at T p ≡ scope → InScope T → Attributing T T p scope []
-attributing-none T p scope receives under no_kid no_attribute scope_is scoped = record {
+pub attributing-none : (T : Table) (p : ℕ) (scope : List Decl) → Receives T p → kind_of T p ≡ Some Element → kids_of T p ≡ [] → attrs_of T p ≡ [] → Attributing T T p scope []
+attributing-none T p scope receives under no_kid no_attribute = record {
   all = record {
     tells = λ told names scopes begun text tells.
         subst (λ (ls : List Line). Says ls names scopes begun (text + 0) T p) (sym (append-nil told))
         (let same : text ≡ text + 0 = omega arith in subst (λ (k : ℕ). Says told names scopes begun k T p) same tells);
-    scoped = scoped;
+    scoped = λ around is h. h;
     no_kid = no_kid;
     counted = omega arith;
+    more_text = omega arith;
+    top_kids = refl;
   };
   receives = receives;
   under = under;
   named = λ a among. absurd (true≢false (sym among ∙ ap (mem a) no_attribute));
-  scope_is = scope_is;
-  little = omega arith;
+  scope_is = refl;
 }
 
 more-bytes : (done : List Attr) (attr : Attr) → sum_by value_bytes (done ++ attr ∷ []) ≡ sum_by value_bytes done + length attr.value
@@ -232,11 +234,13 @@ module _ (T U V : Table) (p n : ℕ) (scope : List Decl) (attrs : List Attr) (i 
           omega (arith, more-bytes (take i attrs) attr, ap (sum_by value_bytes) front) in
           subst (λ (ls : List Line). Says ls names scopes begun (text + sum_by value_bytes (take (i + 1) attrs)) V p) lines
           (subst (λ (k : ℕ). Says ((told ++ map (scoped_line scope) (plain_attrs (take i attrs))) ++ scoped_line scope attr ∷ []) names scopes begun k V p) bytes after);
-      scoped = grown-scoped U V p n _ grew laws live was.all.scoped
-          (subst (λ (s : List Decl). AttributeInScope s (attribute_name scope attr.name) attr.value) (sym was.scope_is)
+      scoped = λ around is_scope h. grown-scoped U V p n _ grew laws around live (was.all.scoped around is_scope h)
+          (subst (λ (s : List Decl). AttributeInScope s (attribute_name scope attr.name) attr.value) (is_scope ∙ ap (λ (s : List Decl). s ++ around) (sym was.scope_is))
           (attribute-scoped scope attr (all-at attrs i attr below is ok) plain (kept-fails is_plain attrs i attr below is (lacks_prefix scope) known plain)));
       no_kid = grew.parent_kids ∙ (append-nil (kids_of U p) ∙ was.all.no_kid);
       counted = omega (arith, ap length grew.last_in_order, length-append (order U) (n ∷ []), was.all.counted, ap length kept, length-append (plain_attrs (take i attrs)) (attr ∷ []));
+      more_text = omega (arith, grew.more_text, was.all.more_text, ap (sum_by value_bytes) kept, more-bytes (plain_attrs (take i attrs)) attr);
+      top_kids = kids-stay U V p n _ grew ways formed apart ∙ was.all.top_kids;
     };
     receives = record {
       holder = ap holds_kids kind-same ∙ was.receives.holder;
@@ -246,7 +250,6 @@ module _ (T U V : Table) (p n : ℕ) (scope : List Decl) (attrs : List Attr) (i 
     under = kind-same ∙ was.under;
     named = named-more;
     scope_is = scope-kept U V p n _ grew laws p live ∙ was.scope_is;
-    little = omega (arith, grew.more_text, was.little, more-bytes (take i attrs) attr, ap (sum_by value_bytes) front);
   }
 
 -- an attribute that declares something brings no node
@@ -272,12 +275,13 @@ attributing-same T U p scope attrs i attr below is plain was =
         scoped = was.all.scoped;
         no_kid = was.all.no_kid;
         counted = omega (arith, was.all.counted, ap length kept);
+        more_text = omega (arith, was.all.more_text, ap (sum_by value_bytes) kept);
+        top_kids = was.all.top_kids;
       };
       receives = was.receives;
       under = was.under;
       named = λ a among. subst (λ (l : List Attr). IsOneOf U scope l a) (sym kept) (was.named a among);
       scope_is = was.scope_is;
-      little = omega (arith, was.little, bytes);
     }
 
 -- there is room for the next one
@@ -293,12 +297,22 @@ module _ (attrs : List Attr) (i : ℕ) (attr : Attr) (below : i < length attrs) 
         length-append (plain_attrs (take i attrs)) (attr ∷ []),
       )
 
-  pub bytes-room : sum_by value_bytes (take i attrs) + length attr.value ≤ sum_by value_bytes attrs
-  bytes-room =
+  pub bytes-room : is_plain attr ≡ true → sum_by value_bytes (plain_attrs (take i attrs)) + length attr.value ≤ sum_by value_bytes (plain_attrs attrs)
+  bytes-room plain =
       omega (
         arith,
-        ap (sum_by value_bytes) (take-append-drop (i + 1) attrs),
-        sum_by-append value_bytes (take (i + 1) attrs) (drop (i + 1) attrs),
-        ap (sum_by value_bytes) (next is_plain attrs i attr below is),
-        more-bytes (take i attrs) attr,
+        ap (λ (l : List Attr). sum_by value_bytes (plain_attrs l)) (take-append-drop (i + 1) attrs),
+        ap (sum_by value_bytes) (filter-append is_plain (take (i + 1) attrs) (drop (i + 1) attrs)),
+        sum_by-append value_bytes (plain_attrs (take (i + 1) attrs)) (plain_attrs (drop (i + 1) attrs)),
+        ap (sum_by value_bytes) (kept-more is_plain attrs i attr below is plain),
+        more-bytes (plain_attrs (take i attrs)) attr,
       )
+
+-- the values without those of declarations are no longer than all
+pub plain-bytes : (attrs : List Attr) → sum_by value_bytes (plain_attrs attrs) ≤ sum_by value_bytes attrs
+plain-bytes [] = omega arith
+plain-bytes (a ∷ attrs) = by (is_plain a) refl (plain-bytes attrs)
+  where
+    by : (b : Bool) → is_plain a ≡ b → sum_by value_bytes (plain_attrs attrs) ≤ sum_by value_bytes attrs → sum_by value_bytes (plain_attrs (a ∷ attrs)) ≤ sum_by value_bytes (a ∷ attrs)
+    by true e rest = omega (arith, rest, ap (sum_by value_bytes) (one-more is_plain a attrs e), sum_by-cons value_bytes a (plain_attrs attrs), sum_by-cons value_bytes a attrs)
+    by false e rest = omega (arith, rest, ap (sum_by value_bytes) (one-less is_plain a attrs e), sum_by-cons value_bytes a attrs)

@@ -61,7 +61,7 @@ text-more taken e = sum_by-append event_text taken (e ∷ []) ∙ ap (λ (k : �
 
 -- faults
 
-or-none : {A : Type 0} (a b : Option A) → option_or a b ≡ None → (a ≡ None) × (b ≡ None)
+pub or-none : {A : Type 0} (a b : Option A) → option_or a b ≡ None → (a ≡ None) × (b ≡ None)
 or-none None b h = (refl, h)
 or-none (Some x) b h = absurd (cc)
 
@@ -102,7 +102,7 @@ start-limit standing name attrs deep good room is =
     rw (good, few, is) refl
 
 -- the innermost open element of a loader, its scope and its depth
-module _ (taken : List Event) (place : Place) (standing : Standing) (T : Table) (p : ℕ) (builds : Builds taken place standing T p) where
+module _ (around : List Decl) (taken : List Event) (place : Place) (standing : Standing) (T : Table) (p : ℕ) (builds : Builds around taken place standing T p) where
   pub builds-receives : Receives T p
   builds-receives = tells-receives builds.told place.opened standing.scopes place.begun (sum_by event_text taken) T p builds.tells
 
@@ -124,45 +124,49 @@ module _ (taken : List Event) (place : Place) (standing : Standing) (T : Table) 
       start-limit standing name attrs false good (omega (arith, room, builds.count))
       (ap (nat_lt MAX_DEPTH) (sym (open-depth T place.opened standing.scopes p ways builds.tells.way)) ∙ shallow)
 
+  some-open : (name : List ℕ) (attrs : List Attr) → StartFits place name attrs → place.begun ≡ true → (names : List (List ℕ)) → place.opened ≡ names → names ≢ []
+  some-open name attrs fits begun names is none =
+      let room : (is_nil place.opened && place.begun) ≡ false = fits.room in
+      true≢false (sym (ap₂ (λ a b. a && b) (ap is_nil (is ∙ none)) begun) ∙ room)
+
+  -- an element comes under the root where none has begun, and else under another
+  pub start-apart : (name : List ℕ) (attrs : List Attr) → WellFormed T → StartFits place name attrs → place.begun ≡ true → p ≢ 0
+  start-apart name attrs formed fits begun = open-apart T place.opened standing.scopes p formed (some-open name attrs fits begun place.opened refl) builds.tells.way
+
+  pub start-at-root : place.begun ≡ false → p ≡ 0
+  start-at-root none = by place.opened refl
+    where
+      by : (names : List (List ℕ)) → place.opened ≡ names → p ≡ 0
+      by [] is = (open-root T standing.scopes p (subst (λ (names : List (List ℕ)). AreOpen T names standing.scopes p) is builds.tells.way)).0
+      by (name ∷ names) is = absurd (true≢false (sym (builds.inside (λ e. let k : name ∷ names ≡ [] = sym is ∙ e in absurd (cc))) ∙ none))
+
   -- a start tag was taken
-  pub builds-start : (U : Table) (n : ℕ) (scope : List Decl) (name : List ℕ) (attrs : List Attr) → WellFormed T → StartFits place name attrs → Begins T U p n scope name attrs →
-      Builds (taken ++ event.Start name attrs ∷ []) (after Document place (event.Start name attrs)) (moved standing (event.Start name attrs)) U n
-  builds-start U n scope name attrs formed fits begins = record {
+  pub builds-start : (U : Table) (n : ℕ) (scope : List Decl) (name : List ℕ) (attrs : List Attr) → WellFormed T → StartFits place name attrs → scope ≡ declarations attrs ++ (scope_at T p ++ around) → Begins T U p n scope name attrs →
+      Builds around (taken ++ event.Start name attrs ∷ []) (after Document place (event.Start name attrs)) (moved standing (event.Start name attrs)) U n
+  builds-start U n scope name attrs formed fits scope_is begins = record {
     told = builds.told ++ start_lines scope name attrs;
     tells = subst (λ (k : ℕ). Says (builds.told ++ start_lines scope name attrs) (name ∷ place.opened) (declarations attrs ∷ standing.scopes) true k U n) (sym (text-more taken (event.Start name attrs)))
-        (begins.tells builds.told place.opened standing.scopes place.begun (sum_by event_text taken) apart at_root builds.tells);
+        (begins.tells builds.told place.opened standing.scopes place.begun (sum_by event_text taken) (start-apart name attrs formed fits) start-at-root builds.tells);
     told_is = told-more builds.told (start_lines scope name attrs) taken (event.Start name attrs) builds.told_is (start-lines scope name attrs);
     inside = λ some. refl;
     behind_is = ap (ends_in_text U) begins.no_kid;
-    scoped = begins.scoped;
+    scoped = begins.scoped around scope_is builds.scoped;
     count = begins.counted ∙ ap (λ (k : ℕ). k + tag_nodes attrs) builds.count;
   }
-    where
-      some-open : place.begun ≡ true → (names : List (List ℕ)) → place.opened ≡ names → names ≢ []
-      some-open begun names is none =
-          let room : (is_nil place.opened && place.begun) ≡ false = fits.room in
-          true≢false (sym (ap₂ (λ a b. a && b) (ap is_nil (is ∙ none)) begun) ∙ room)
-
-      apart : place.begun ≡ true → p ≢ 0
-      apart begun = open-apart T place.opened standing.scopes p formed (some-open begun place.opened refl) builds.tells.way
-
-      at_root : place.begun ≡ false → p ≡ 0
-      at_root none = by place.opened refl
-        where
-          by : (names : List (List ℕ)) → place.opened ≡ names → p ≡ 0
-          by [] is = (open-root T standing.scopes p (subst (λ (names : List (List ℕ)). AreOpen T names standing.scopes p) is builds.tells.way)).0
-          by (name ∷ names) is = absurd (true≢false (sym (builds.inside (λ e. let k : name ∷ names ≡ [] = sym is ∙ e in absurd (cc))) ∙ none))
 
 -- the answers to a start tag
 
-pub loads-start : (taken : List Event) (place : Place) (standing : Standing) (old new : Loader) (n : ℕ) (name : List ℕ) (attrs : List Attr) → WellFormed old.tree.nodes → StartFits place name attrs →
+pub loads-start : (taken : List Event) (place : Place) (standing : Standing) (old new : Loader) (n : ℕ) (name : List ℕ) (attrs : List Attr) → HasScopes old.tree.nodes → WellFormed old.tree.nodes → StartFits place name attrs →
     new.scope ≡ declarations attrs ++ old.scope → Begins old.tree.nodes new.tree.nodes old.place n new.scope name attrs → new.place ≡ n → Loads taken place standing old →
     Loads (taken ++ event.Start name attrs ∷ []) (after Document place (event.Start name attrs)) (moved standing (event.Start name attrs)) new
-loads-start taken place standing old new n name attrs formed fits scope_is begins place_is loads = record {
-  builds = subst (Builds (taken ++ event.Start name attrs ∷ []) (after Document place (event.Start name attrs)) (moved standing (event.Start name attrs)) new.tree.nodes) (sym place_is)
-      (builds-start taken place standing old.tree.nodes old.place loads.builds new.tree.nodes n new.scope name attrs formed fits begins);
+loads-start taken place standing old new n name attrs laws formed fits scope_is begins place_is loads = record {
+  builds = subst (Builds [] (taken ++ event.Start name attrs ∷ []) (after Document place (event.Start name attrs)) (moved standing (event.Start name attrs)) new.tree.nodes) (sym place_is)
+      (builds-start [] taken place standing old.tree.nodes old.place loads.builds new.tree.nodes n new.scope name attrs formed fits here begins);
   scope_is = scope_is ∙ ap (λ (l : List Decl). declarations attrs ++ l) loads.scope_is;
 }
+  where
+    here : new.scope ≡ declarations attrs ++ (scope_at old.tree.nodes old.place ++ [])
+    here = scope_is ∙ ap (λ (l : List Decl). declarations attrs ++ l) (loads.scope_is ∙ (sym (builds-scope [] taken place standing old.tree.nodes old.place loads.builds laws) ∙ sym (append-nil (scope_at old.tree.nodes old.place))))
 
 -- what a check says, in the scope of the open elements
 module _ (taken : List Event) (place : Place) (standing : Standing) (old : Loader) (scope : List Decl) (name : List ℕ) (attrs : List Attr) (scope_is : scope ≡ declarations attrs ++ old.scope) (loads : Loads taken place standing old) where
@@ -174,14 +178,11 @@ module _ (taken : List Event) (place : Place) (standing : Standing) (old : Loade
       start-faulty standing name attrs (length (order old.tree.nodes)) what loads.builds.count
       (h ∙ ap (λ (s : List Decl). option_or (tag_fault s name attrs) (room_fault (length (order old.tree.nodes) + tag_nodes attrs))) tag-scope)
 
-  pub element-scope : HasScopes old.tree.nodes → scope ≡ declarations attrs ++ scope_at old.tree.nodes old.place
-  element-scope laws = tag-scope ∙ ap (λ (l : List Decl). declarations attrs ++ l) (sym (builds-scope taken place standing old.tree.nodes old.place loads.builds laws))
-
   pub check-passes : HasWaysUp old.tree.nodes → Passes scope name attrs (length (order old.tree.nodes)) → nat_lt MAX_DEPTH (length (above old.tree.nodes old.place)) ≡ false → event_fault standing (event.Start name attrs) ≡ None
   check-passes ways p shallow =
-      start-passes taken place standing old.tree.nodes old.place loads.builds name attrs ways (ap (λ (s : List Decl). tag_fault s name attrs) (sym tag-scope) ∙ p.good) p.room shallow
+      start-passes [] taken place standing old.tree.nodes old.place loads.builds name attrs ways (ap (λ (s : List Decl). tag_fault s name attrs) (sym tag-scope) ∙ p.good) p.room shallow
 
   pub start-refused : (new : Loader) (err : EventError) → HasWaysUp old.tree.nodes → Passes scope name attrs (length (order old.tree.nodes)) → IsTooDeep old.tree.nodes old.place err → TakesEvent taken place standing (event.Start name attrs) new (Err err)
   start-refused new (Kind what) ways p deep =
-      start-deep taken place standing old.tree.nodes old.place loads.builds name attrs ways (ap (λ (s : List Decl). tag_fault s name attrs) (sym tag-scope) ∙ p.good) p.room deep.1 ∙ ap Some (sym deep.0)
+      start-deep [] taken place standing old.tree.nodes old.place loads.builds name attrs ways (ap (λ (s : List Decl). tag_fault s name attrs) (sym tag-scope) ∙ p.good) p.room deep.1 ∙ ap Some (sym deep.0)
   start-refused new Memory ways p deep = tt

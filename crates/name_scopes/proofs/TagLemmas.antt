@@ -158,10 +158,10 @@ pair-within same xs i x below is h =
     let front : take (i + 1) xs ≡ take i xs ++ x ∷ [] = take_more xs i x below ∙ ap (λ y. take i xs ++ y ∷ []) (sym is) in
     ap (has_pair same) (sym (take-append-drop (i + 1) xs)) ∙ pair-front same (take (i + 1) xs) (drop (i + 1) xs) (ap (has_pair same) front ∙ h)
 
-one-more : {X : Type 0} (p : X → Bool) (x : X) (xs : List X) → p x ≡ true → filter p (x ∷ xs) ≡ x ∷ filter p xs
+pub one-more : {X : Type 0} (p : X → Bool) (x : X) (xs : List X) → p x ≡ true → filter p (x ∷ xs) ≡ x ∷ filter p xs
 one-more p x xs h = ap (λ b. cond b (x ∷ filter p xs) (filter p xs)) h
 
-one-less : {X : Type 0} (p : X → Bool) (x : X) (xs : List X) → p x ≡ false → filter p (x ∷ xs) ≡ filter p xs
+pub one-less : {X : Type 0} (p : X → Bool) (x : X) (xs : List X) → p x ≡ false → filter p (x ∷ xs) ≡ filter p xs
 one-less p x xs h = ap (λ b. cond b (x ∷ filter p xs) (filter p xs)) h
 
 module _ {X : Type 0} (p : X → Bool) (xs : List X) (i : ℕ) (x : X) (below : i < length xs) (is : x ≡ get_or xs i x) where

@@ -26,7 +26,7 @@ tells-receives told names scopes begun text T n tells = record {
   all_live = tells.all_live;
 }
 
-grown-numbers : (T U : Table) (p n : ℕ) (c : Content) → Grew T U p n c → order T ≡ upto (length T) → order U ≡ upto (length U)
+pub grown-numbers : (T U : Table) (p n : ℕ) (c : Content) → Grew T U p n c → order T ≡ upto (length T) → order U ≡ upto (length U)
 grown-numbers T U p n c grew was =
     grew.last_in_order ∙ (ap₂ (λ (l : List ℕ) k. l ++ k ∷ []) was grew.number ∙ sym (ap upto (grown-length T U p n c grew)))
 

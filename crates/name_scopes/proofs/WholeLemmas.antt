@@ -12,19 +12,19 @@ use Rattle.pyx_core.specs.declared.mode.Mode.TheVariants.{Document}
 use Rattle.pyx_core.specs.Nesting.{Place, Nest, after, bare, place_after, start, EventsNest, IsEnd}
 use Rattle.pyx_core.specs.Reading.{events_of, events_unless, events_before_fault, fault_of}
 use Rattle.doc_tree.specs.limits.TheConstants.{MAX_LIVE_TEXT_BYTES}
-use Rattle.doc_tree.specs.Table.{Table, Contents}
-use Rattle.doc_tree.specs.Lines.{Line, closing, closes, last_lines, lines_at}
+use Rattle.doc_tree.specs.Table.{Table, Contents, content_of}
+use Rattle.doc_tree.specs.Lines.{Line, closing, closes, last_lines, lines, lines_at}
 use Rattle.doc_tree.specs.Laws.{HasWaysUp, WellFormed}
-use Rattle.doc_tree.specs.Scope.{Decl}
+use Rattle.doc_tree.specs.Scope.{Decl, scope_at}
 use Rattle.name_scopes.specs.declared.build.Loader.{Loader}
 use Rattle.name_scopes.specs.declared.fault.DocFault.{DocFault}
 use Rattle.name_scopes.specs.declared.fault.LoadError.{LoadError}
 use Rattle.name_scopes.specs.declared.fault.LoadError.TheVariants.{Fault, Memory}
-use Rattle.name_scopes.specs.ScopedTree.{Scoped, unscoped}
+use Rattle.name_scopes.specs.Scoping.{ContentInScope}
+use Rattle.name_scopes.specs.ScopedTree.{Scoped, said_by, unscoped}
 use Rattle.name_scopes.specs.DocFaults.{Standing, Refuses, begin, doc_fault, event_fault, fault_at, first_fault, line_fault, moved}
 use Rattle.name_scopes.specs.inner.Build.{AreOpen, Builds, Comes, IsReady, Loads, event_text}
 use Rattle.name_scopes.specs.inner.Load.{IsBuilt, TakesFound}
-use Rattle.name_scopes.proofs.OpenElements.{open-root}
 
 -- the events so far were taken, and the others may come
 pub record Going (events front back : List Located) (loader : Loader) : Type 0 where
@@ -94,7 +94,7 @@ going-all events i loader past going =
     let front : take i events ≡ events = take_all i events past in
     let back : drop i events ≡ [] = drop_all i events past in
     let last : Going events events [] loader = subst (λ (b : List Located). Going events events b loader) back (subst (λ (f : List Located). Going events f (drop i events) loader) front going) in
-    (last.so_far, (last.standing, (loader.place, subst (λ (p : Place). Builds (bare events) p last.standing loader.tree.nodes loader.place) last.place_is last.loads.builds)))
+    (last.so_far, (last.standing, (loader.place, subst (λ (p : Place). Builds [] (bare events) p last.standing loader.tree.nodes loader.place) last.place_is last.loads.builds)))
 
 -- the whole document
 
@@ -113,23 +113,26 @@ refused-by bytes Memory is = tt
 pub doc-fault-is : (bytes : List ℕ) (o : Option PyxFault) → first_fault begin (events_before_fault Document bytes) ≡ None → fault_of Document bytes ≡ o → doc_fault bytes ≡ option_map line_fault o
 doc-fault-is bytes o none is = ap₂ (λ (a : Option DocFault) (b : Option PyxFault). option_or a (option_map line_fault b)) none is
 
-pub whole : (events : List Event) (place : Place) (standing : Standing) (T : Table) (n : ℕ) → IsEnd place → HasWaysUp T → WellFormed T → Builds events place standing T n → Scoped events T
-whole events place standing T n end ways formed builds =
+-- behind the last end the lines are those that the events say
+pub closed-lines : (around : List Decl) (events : List Event) (place : Place) (standing : Standing) (T : Table) (n : ℕ) → IsEnd place → HasWaysUp T → Builds around events place standing T n → map unscoped (lines T) ≡ flat_map said_by events
+closed-lines around events place standing T n end ways builds =
     let way : AreOpen T [] standing.scopes n = subst (λ (names : List (List ℕ)). AreOpen T names standing.scopes n) end.closed builds.tells.way in
-    let at_root : n ≡ 0 = (open-root T standing.scopes n way).0 in
     let no_end : closing T n ≡ [] = by standing.scopes way in
-    record {
-      lines_are = ap (map unscoped) (builds.tells.lines_are ∙ (ap (λ (l : List Line). builds.told ++ l) no_end ∙ append-nil builds.told)) ∙ builds.told_is;
-      in_scope = builds.scoped;
-      numbered = builds.tells.numbered_so;
-      all_live = builds.tells.all_live;
-      well_formed = formed;
-      document = ap₂ (λ (a b : ℕ). (a == 1) && (b == 0)) (builds.tells.top.elements ∙ ap (λ b. if b then 1 else 0) end.begun) builds.tells.top.no_text;
-    }
+    ap (map unscoped) (builds.tells.lines_are ∙ (ap (λ (l : List Line). builds.told ++ l) no_end ∙ append-nil builds.told)) ∙ builds.told_is
   where
     by : (scopes : List (List Decl)) → AreOpen T [] scopes n → closing T n ≡ []
     by [] way = ap (flat_map (closes T)) (ap (λ (ms : List ℕ). n ∷ ms) (ways.no_ancestors n way.no_parent)) ∙ (append-nil (closes T n) ∙ ap (lines_at last_lines) way.content)
     by (decls ∷ scopes) way = absurd way
+
+pub whole : (events : List Event) (place : Place) (standing : Standing) (T : Table) (n : ℕ) → IsEnd place → HasWaysUp T → WellFormed T → Builds [] events place standing T n → Scoped events T
+whole events place standing T n end ways formed builds = record {
+  lines_are = closed-lines [] events place standing T n end ways builds;
+  in_scope = λ m. subst (λ (s : List Decl). ContentInScope s (content_of T m)) (append-nil (scope_at T m)) (builds.scoped m);
+  numbered = builds.tells.numbered_so;
+  all_live = builds.tells.all_live;
+  well_formed = formed;
+  document = ap₂ (λ (a b : ℕ). (a == 1) && (b == 0)) (builds.tells.top.elements ∙ ap (λ b. if b then 1 else 0) end.begun) builds.tells.top.no_text;
+}
 
 pub loaded : (bytes : List ℕ) (tree : Contents) → EventsNest → fault_of Document bytes ≡ None → HasWaysUp tree.nodes → WellFormed tree.nodes → IsBuilt (events_before_fault Document bytes) (Ok tree) → Scoped (bare (events_of Document bytes)) tree.nodes
 loaded bytes tree laws none ways formed built =

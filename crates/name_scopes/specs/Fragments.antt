@@ -1,5 +1,5 @@
 -- A fragment of a document, and the node under which it is to come: what it breaks, and the tree that it is (Namespaces in XML 1.0).
-use Rattle.std.specs.Prelude.{◌≡◌, ℕ, suc, pred, Bool, true, false, ◌||◌, nat_lt, ◌+◌, List, [], ◌∷◌, ◌++◌, length, map, sum_by, Option, None, Some, is_none, if◌then◌else◌}
+use Rattle.std.specs.Prelude.{◌≡◌, ℕ, suc, pred, Bool, false, ◌||◌, nat_lt, ◌+◌, List, [], ◌∷◌, ◌++◌, length, map, sum_by, Option, None, Some, is_none, if◌then◌else◌}
 use Rattle.std.specs.List.{flat_map, list_any}
 use Rattle.std.specs.Option.{option_or}
 use Rattle.pyx_core.specs.declared.event.Attr.{Attr}
@@ -17,6 +17,8 @@ use Rattle.doc_tree.specs.Table.{Table, content_of, kids_of}
 use Rattle.doc_tree.specs.Walks.{above, order}
 use Rattle.name_scopes.specs.declared.fault.DocKind.{DocKind}
 use Rattle.name_scopes.specs.declared.fault.DocKind.TheVariants as kind
+use Rattle.name_scopes.specs.declared.refusal.PieceError.{PieceError}
+use Rattle.name_scopes.specs.declared.refusal.PieceError.TheVariants.{Refused, Memory}
 use Rattle.name_scopes.specs.Declarations.{declarations, plain_attrs, is_bad_declaration, has_both_quotes}
 use Rattle.name_scopes.specs.DocFaults.{has_pair, in_scope, lacks_prefix, outer_scopes, same_expanded, same_qname, tag_nodes}
 use Rattle.name_scopes.specs.QNames.{prefix_part}
@@ -75,6 +77,14 @@ event_nodes (event.Chars text) = 1
 event_nodes (event.Pi target body) = 1
 event_nodes (event.Comment text) = 1
 
+-- the bytes of text that an event brings: the values of attributes that declare nothing, its text, or its data
+abbrev pub plain_text : Event → ℕ
+plain_text (event.Start name attrs) = sum_by (λ attr. length attr.value) (plain_attrs attrs)
+plain_text (event.End name) = 0
+plain_text (event.Chars text) = length text
+plain_text (event.Pi target body) = length body
+plain_text (event.Comment text) = length text
+
 -- whether an element would have more ancestors than an element may, where the first has so many
 abbrev pub is_too_deep : ℕ → List Event → Bool
 is_too_deep depth [] = false
@@ -92,6 +102,11 @@ piece_refusal T p events =
     else if nat_lt MAX_LIVE_NODES (length (order T) + sum_by event_nodes events) then Some refusal.TooManyNodes
     else if is_too_deep (length (above T p)) events then Some refusal.TooDeep
     else None
+
+-- the answers to a fragment that is refused: its first reason; want of memory comes at any time
+abbrev pub Refuses : Option EditRefusal → PieceError → Type 0
+Refuses reason (Refused found) = reason ≡ Some found
+Refuses reason Memory = Unit {0}
 
 -- the nodes of a piece are in scope, where these declarations are in scope around it
 abbrev pub PieceInScope : List Decl → Table → Type 0

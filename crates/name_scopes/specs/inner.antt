@@ -1,3 +1,4 @@
 pub mod Build
 pub mod Load
+pub mod Piece
 pub mod Scope

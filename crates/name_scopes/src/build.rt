@@ -1,6 +1,6 @@
 //! A tree under way: events are taken one by one.
 
-ghost use Rattle.std.specs.Prelude.{◌≡◌, ◌≢◌, ◌∷◌, ◌+◌, ◌≤◌, [], ◌++◌, List, ℕ, true, false, None, Some, sum_by, length, nat_lt, is_none, IfOk, OnOk, IfErr};
+ghost use Rattle.std.specs.Prelude.{◌≡◌, ◌≢◌, ◌∷◌, ◌+◌, ◌≤◌, [], ◌++◌, List, ℕ, true, false, None, Some, sum_by, length, drop, nat_lt, is_none, IfOk, OnOk, IfErr};
 ghost use Rattle.std.specs.List.{list_all, list_any};
 ghost use Rattle.std.specs.Option.{option_or, option_to_list};
 ghost use Rattle.pyx_core.specs.declared.event.Event.{Event};
@@ -8,13 +8,13 @@ ghost use Rattle.pyx_core.specs.declared.event.Event.TheVariants as event_kind;
 ghost use Rattle.pyx_core.specs.declared.mode.Mode.TheVariants.{Document};
 ghost use Rattle.pyx_core.specs.Nesting.{Place, after, is_attr, is_name, start};
 ghost use Rattle.doc_tree.specs.kind.Kind.TheVariants.{Element};
-ghost use Rattle.doc_tree.specs.Table.{element, attribute, value_in, kind_of, kids_of, attrs_of, decls_of};
+ghost use Rattle.doc_tree.specs.Table.{element, attribute, value_in, kind_of, kids_of, attrs_of, decls_of, parent_of};
 ghost use Rattle.doc_tree.specs.Walks.{above, order, text_bytes};
 ghost use Rattle.doc_tree.specs.Growth.{AttributeFits, FitsUnder, Grew, has_too_many};
-ghost use Rattle.doc_tree.specs.Scope.{namespace_in, scope_at};
+ghost use Rattle.doc_tree.specs.Scope.{namespace_in};
 ghost use Rattle.name_scopes.specs.QNames.{prefix_part};
 ghost use Rattle.name_scopes.specs.Declarations.{declaration_of, declarations, plain_attrs};
-ghost use Rattle.name_scopes.specs.Scoping.{InScope, declares_twice};
+ghost use Rattle.name_scopes.specs.Scoping.{declares_twice};
 ghost use Rattle.name_scopes.specs.DocFaults.{Standing, begin, has_pair, lacks_prefix, moved, same_expanded, tag_fault, tag_nodes};
 ghost use Rattle.name_scopes.specs.inner.Build.{AttributesAll, Begins, Comes, DeclaresAll, IsFull, IsLeaf, IsReady, IsTooDeep, Loads, Receives, TakesEvent, attribute_name, element_name, leaf_of, room_fault, value_bytes};
 
@@ -63,6 +63,7 @@ impl Loader {
         match event {
             Event::Start { name, attrs } => self.start(name.as_str(), attrs.as_slice()),
             Event::End { name: _ } => {
+                self.tree.laws();
                 self.end();
                 Ok(())
             }
@@ -73,12 +74,12 @@ impl Loader {
     }
 
     /// Ends the innermost element.
-    fn end(&mut self)
-        requires { (name : List ℕ) × IsReady self.old (event_kind.End name) }
-        ensures { (name : List ℕ) (taken : List Event) (place : Place) (standing : Standing) → Loads taken place standing self.old → Comes taken place (event_kind.End name) →
-            Loads (taken ++ event_kind.End name ∷ []) (after Document place (event_kind.End name)) (moved standing (event_kind.End name)) self.new }
+    pub(crate) fn end(&mut self)
+        requires { is_none (parent_of self.old.tree.nodes self.old.place) ≡ false }
+        ensures tree { self.new.tree ≡ self.old.tree }
+        ensures place { parent_of self.old.tree.nodes self.old.place ≡ Some self.new.place }
+        ensures scope { self.new.scope ≡ drop (length (decls_of self.old.tree.nodes self.old.place)) self.old.scope }
     {
-        self.tree.laws();
         let count = self.tree.decl_count(self.place);
         self.scope.forget(count);
         match self.tree.parent(self.place) {
@@ -137,7 +138,7 @@ impl Loader {
 }
 
 /// Puts what attributes declare in scope.
-fn declare(scope: &mut Scope, attrs: &[Attr]) -> Result<(), AllocError>
+pub(crate) fn declare(scope: &mut Scope, attrs: &[Attr]) -> Result<(), AllocError>
     ensures { OnOk result (scope.new ≡ declarations attrs.now ++ scope.old) }
 {
     let mut left = attrs.len();
@@ -159,7 +160,11 @@ fn declare_one(scope: &mut Scope, attr: &Attr) -> Result<(), AllocError>
 }
 
 /// Puts the node of an event that is no tag under a node.
-fn append_leaf(tree: &mut Tree, parent: NodeId, event: &Event) -> Result<NodeId, EventError>
+pub(crate) fn append_leaf(
+    tree: &mut Tree,
+    parent: NodeId,
+    event: &Event,
+) -> Result<NodeId, EventError>
     requires receives { Receives tree.old.nodes parent }
     requires fits { FitsUnder tree.old.nodes parent (leaf_of event.now) }
     requires little { text_bytes tree.old.nodes + length (value_in (leaf_of event.now)) ≤ MAX_LIVE_TEXT_BYTES }
@@ -186,7 +191,7 @@ fn append_leaf(tree: &mut Tree, parent: NodeId, event: &Event) -> Result<NodeId,
 }
 
 /// Puts the element of a start tag under a node, with what it declares and its attributes.
-fn begin(
+pub(crate) fn begin(
     tree: &mut Tree,
     parent: NodeId,
     scope: &Scope,
@@ -198,9 +203,7 @@ fn begin(
     requires all_named { list_all is_attr attrs.now ≡ true }
     requires good { tag_fault scope.now name.now attrs.now ≡ None }
     requires room { length (order tree.old.nodes) + tag_nodes attrs.now ≤ MAX_LIVE_NODES }
-    requires little { text_bytes tree.old.nodes + sum_by value_bytes attrs.now ≤ MAX_LIVE_TEXT_BYTES }
-    requires scope_is { scope.now ≡ declarations attrs.now ++ scope_at tree.old.nodes parent }
-    requires scoped { InScope tree.old.nodes }
+    requires little { text_bytes tree.old.nodes + sum_by value_bytes (plain_attrs attrs.now) ≤ MAX_LIVE_TEXT_BYTES }
     ensures begins { IfOk result (λ n. Begins tree.old.nodes tree.new.nodes parent n scope.now name.now attrs.now) }
     ensures shallow { OnOk result (nat_lt MAX_DEPTH (length (above tree.old.nodes parent)) ≡ false) }
     ensures deep { IfErr result (IsTooDeep tree.old.nodes parent) }
@@ -275,9 +278,7 @@ fn append_attributes(
     requires known { list_any (lacks_prefix scope.now) (plain_attrs attrs.now) ≡ false }
     requires differ { has_pair (same_expanded scope.now) (plain_attrs attrs.now) ≡ false }
     requires room { length (order tree.old.nodes) + length (plain_attrs attrs.now) ≤ MAX_LIVE_NODES }
-    requires little { text_bytes tree.old.nodes + sum_by value_bytes attrs.now ≤ MAX_LIVE_TEXT_BYTES }
-    requires scope_is { scope_at tree.old.nodes element ≡ scope.now }
-    requires scoped { InScope tree.old.nodes }
+    requires little { text_bytes tree.old.nodes + sum_by value_bytes (plain_attrs attrs.now) ≤ MAX_LIVE_TEXT_BYTES }
     ensures { OnOk result (AttributesAll tree.old.nodes tree.new.nodes element scope.now attrs.now) }
 {
     for attr in attrs {
@@ -319,7 +320,7 @@ fn append_attribute(
 }
 
 /// How many attributes declare nothing.
-fn count_plain(attrs: &[Attr]) -> usize
+pub(crate) fn count_plain(attrs: &[Attr]) -> usize
     ensures { result ≡ length (plain_attrs attrs.now) }
 {
     attrs.iter().filter(|attr| is_plain(*attr)).count()

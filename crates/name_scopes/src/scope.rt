@@ -1,6 +1,6 @@
 //! The declarations in scope at a place of a document.
 
-ghost use Rattle.std.specs.Prelude.{◌≡◌, ◌∷◌, ◌<◌, [], List, ℕ, None, drop, vec_len, OnOk, slice_get, slice_index_or, slice_set};
+ghost use Rattle.std.specs.Prelude.{◌≡◌, ◌∷◌, ◌<◌, [], List, ℕ, None, drop, length, vec_len, OnOk, slice_get, slice_index_or, slice_set};
 ghost use Rattle.std.specs.Option.{option_copied, option_map};
 ghost use Rattle.doc_tree.specs.Scope.{first_declared, namespace_in};
 ghost use Rattle.name_scopes.specs.inner.Scope.{uri_of};
@@ -72,6 +72,13 @@ impl Scope {
         })?;
         put_place(&mut self.latest, number, Some(place));
         Ok(())
+    }
+
+    /// How many declarations are in scope.
+    pub(crate) fn len(&self) -> usize
+        ensures { result ≡ length self.now }
+    {
+        self.bindings.len()
     }
 
     /// Forgets so many of the nearest declarations.

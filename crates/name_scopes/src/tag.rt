@@ -46,7 +46,7 @@ pub(crate) fn check_tag(
 }
 
 /// Whether the prefix of an element isn't in scope.
-fn is_unknown(scope: &Scope, name: &str) -> bool
+pub(crate) fn is_unknown(scope: &Scope, name: &str) -> bool
     ensures { result ≡ is_none (namespace_in scope.now (prefix_part name.now)) }
 {
     scope.namespace(split(name).prefix).is_none()
@@ -63,7 +63,7 @@ pub(crate) fn attribute_namespace<'a>(scope: &'a Scope, prefix: &str) -> Option<
 }
 
 /// Whether the prefix of some attribute isn't in scope.
-fn lack_prefix(scope: &Scope, attrs: &[Attr]) -> bool
+pub(crate) fn lack_prefix(scope: &Scope, attrs: &[Attr]) -> bool
     ensures { result ≡ list_any (lacks_prefix scope.now) (plain_attrs attrs.now) }
 {
     for attr in attrs {
@@ -103,7 +103,11 @@ fn repeat_qname(alloc: Global, attrs: &[Attr]) -> Result<bool, AllocError>
 /// Whether two attributes, declarations left out, have one expanded name.
 ///
 /// Costs time linear in their names and namespaces.
-fn repeat_expanded(alloc: Global, scope: &Scope, attrs: &[Attr]) -> Result<bool, AllocError>
+pub(crate) fn repeat_expanded(
+    alloc: Global,
+    scope: &Scope,
+    attrs: &[Attr],
+) -> Result<bool, AllocError>
     requires { list_any (lacks_prefix scope.now) (plain_attrs attrs.now) ≡ false }
     ensures { IfOk result (λ repeats. repeats ≡ has_pair (same_expanded scope.now) (plain_attrs attrs.now)) }
 {
@@ -140,7 +144,7 @@ fn number_expanded(
 }
 
 /// Whether a declaration among the attributes may not be.
-fn declare_badly(attrs: &[Attr]) -> bool
+pub(crate) fn declare_badly(attrs: &[Attr]) -> bool
     ensures { result ≡ list_any is_bad_declaration (declarations attrs.now) }
 {
     for attr in attrs {
@@ -181,7 +185,7 @@ fn is_xmlns_namespace(uri: &str) -> bool
 }
 
 /// Whether a namespace among the declarations has both kinds of quotes.
-fn hold_both_quotes(attrs: &[Attr]) -> bool
+pub(crate) fn hold_both_quotes(attrs: &[Attr]) -> bool
     ensures { result ≡ list_any has_both_quotes (declarations attrs.now) }
 {
     for attr in attrs {

@@ -1,5 +1,5 @@
 -- Each text without fault has a tree: its events lead from the root alone to it, one by one.
-use Rattle.std.proofs.Common.{◌≡◌, ℕ, zero, suc, ◌+◌, ◌≤◌, List, [], ◌∷◌, ◌++◌, length, sum_by, Option, None, Some, refl, sym, ap, ◌∙◌, subst, arith, append-nil, append_assoc}
+use Rattle.std.proofs.Common.{◌≡◌, ℕ, ◌+◌, ◌≤◌, List, [], ◌∷◌, ◌++◌, length, sum_by, Option, None, Some, refl, sym, ap, ◌∙◌, subst, arith, append-nil, append_assoc}
 use Rattle.std.specs.Prelude.{option_map}
 use Rattle.std.proofs.lemmas.List.Sums.{sum_by-cons}
 use Rattle.pyx_core.specs.declared.event.Event.{Event}
@@ -10,11 +10,11 @@ use Rattle.pyx_core.specs.Reading.{events_before_fault, events_of, events_unless
 use Rattle.doc_table.proofs.SoundLemmas.{sound_alone}
 use Rattle.doc_table.proofs.TreeLaws.{ways-up, well-formed}
 use Rattle.doc_tree.specs.limits.TheConstants.{MAX_LIVE_TEXT_BYTES}
-use Rattle.doc_tree.specs.Table.{AllLive, Table, root_alone}
+use Rattle.doc_tree.specs.Table.{Table, root_alone}
 use Rattle.name_scopes.specs.DocFaults.{Standing, begin, doc_fault, event_fault, fault_at, first_fault, line_fault, moved}
 use Rattle.name_scopes.specs.ScopedTree.{Scoped}
-use Rattle.name_scopes.specs.Scoping.{InScope}
 use Rattle.name_scopes.specs.inner.Build.{event_text}
+use Rattle.name_scopes.proofs.LoadStart.{root-builds}
 use Rattle.name_scopes.proofs.StepLemmas.{text-more}
 use Rattle.name_scopes.proofs.TextBound.{front-text}
 use Rattle.name_scopes.proofs.WholeLemmas.{whole}
@@ -30,32 +30,8 @@ alone = record {
   tree = root_alone.nodes;
   node = 0;
   formed = (sound_alone []).formed;
-  builds = record {
-    told = [];
-    tells = record {
-      lines_are = refl;
-      all_live = live;
-      last = refl;
-      way = record { number = refl; content = refl; no_parent = refl };
-      top = record { elements = refl; no_text = refl };
-      numbered_so = refl;
-      little = omega arith;
-    };
-    told_is = refl;
-    inside = λ some. absurd (some refl);
-    behind_is = refl;
-    scoped = scoped;
-    count = refl;
-  };
+  builds = root-builds [];
 }
-  where
-    live : AllLive root_alone.nodes
-    live zero below = refl
-    live (suc n) below = absurd (omega arith)
-
-    scoped : InScope root_alone.nodes
-    scoped zero = tt
-    scoped (suc n) = tt
 
 -- events without fault lead a tree on
 events-on : (back : List Located) (taken : List Event) (place : Place) (standing : Standing) → Grown taken place standing → Nest Document place (bare back) → first_fault standing back ≡ None →

@@ -24,11 +24,11 @@ use Rattle.name_scopes.specs.Declarations.{declarations, is_plain, plain_attrs}
 use Rattle.name_scopes.specs.DocFaults.{Standing, event_fault, has_pair, in_scope, lacks_prefix, limit_fault, moved, same_expanded, tag_fault, tag_nodes}
 use Rattle.name_scopes.specs.declared.fault.DocKind.TheVariants.{TooDeep, TooManyNodes}
 use Rattle.name_scopes.specs.inner.Build.{AttributesAll, Begins, Builds, DeclaresAll, IsLeaf, Receives, attribute_name, element_name, event_text, leaf_of, value_bytes}
-use Rattle.name_scopes.proofs.BeginLemmas.{begun, begun-receives, begun-scope, begun-scoped}
+use Rattle.name_scopes.proofs.BeginLemmas.{begun, begun-receives}
 use Rattle.name_scopes.proofs.LeafLemmas.{builds-end, builds-leaf, end-parent, leaf-bytes, leaf-fits, leaf-full}
 use Rattle.name_scopes.proofs.NumberLemmas.{holder-live}
 use Rattle.name_scopes.proofs.OpenElements.{open-depth}
-use Rattle.name_scopes.proofs.StartLemmas.{Attributing, Declaring, attributing-more, attributing-none, attributing-same, bytes-room, declaring-more, declaring-none, fits-next, kept-room}
+use Rattle.name_scopes.proofs.StartLemmas.{Attributing, Declaring, attributing-more, attributing-none, attributing-same, bytes-room, declaring-more, declaring-none, fits-next, kept-room, plain-bytes}
 use Rattle.name_scopes.proofs.StepLemmas.{builds-receives, builds-scope, builds-start}
 use Rattle.name_scopes.proofs.TagFacts.{AreAttrs, TagIsGood, tag-good}
 
@@ -37,7 +37,7 @@ pub record Grown (taken : List Event) (place : Place) (standing : Standing) : Ty
   pub tree : Table
   pub node : ℕ
   pub formed : Formed tree
-  pub builds : Builds taken place standing tree node
+  pub builds : Builds [] taken place standing tree node
 
 pub or-none : {A : Type 0} (a b : Option A) → option_or a b ≡ None → (a ≡ None) × (b ≡ None)
 or-none None b h = (refl, h)
@@ -72,7 +72,7 @@ item-at (x ∷ xs) (suc i) below = item-at xs i (omega arith)
 -- the attributes of an element, one after the other
 module _ (T : Table) (p : ℕ) (scope : List Decl) (attrs : List Attr) (ok : AreAttrs attrs) (known : list_any (lacks_prefix scope) (plain_attrs attrs) ≡ false)
     (differ : has_pair (same_expanded scope) (plain_attrs attrs) ≡ false) (room : length (order T) + length (plain_attrs attrs) ≤ MAX_LIVE_NODES)
-    (little : text_bytes T + sum_by value_bytes attrs ≤ MAX_LIVE_TEXT_BYTES) where
+    (little : text_bytes T + sum_by value_bytes (plain_attrs attrs) ≤ MAX_LIVE_TEXT_BYTES) where
   attribute-on : (i : ℕ) → i < length attrs → (U : Table) → Formed U → Attributing T U p scope (take i attrs) → (V : Table) × Formed V × Attributing T V p scope (take (i + 1) attrs)
   attribute-on i below U formed was = let at = item-at attrs i below in by at.0 at.1 (is_plain at.0) refl
     where
@@ -81,7 +81,7 @@ module _ (T : Table) (p : ℕ) (scope : List Decl) (attrs : List Attr) (ok : Are
       by attr is true plain =
           let c : Content = attribute (attribute_name scope attr.name) attr.value in
           let few : has_too_many U ≡ false = lt-leb MAX_LIVE_NODES (length (order U)) (omega (arith, room, was.all.counted, kept-room attrs i attr below is plain)) in
-          let short : text_bytes U + length attr.value ≤ MAX_LIVE_TEXT_BYTES = omega (arith, little, was.little, bytes-room attrs i attr below is) in
+          let short : text_bytes U + length attr.value ≤ MAX_LIVE_TEXT_BYTES = omega (arith, little, was.all.more_text, bytes-room attrs i attr below is plain) in
           let a : Appended U p c = appended U p c formed was.receives.holder (fits-next T U p scope attrs i attr below is plain differ was) was.receives.last was.receives.all_live (within U p c few refl short) in (
             with_node U p c,
             a.formed,
@@ -104,15 +104,15 @@ limits nodes depth none = by (nat_lt MAX_LIVE_NODES nodes) (nat_lt MAX_DEPTH dep
     by false true few shallow h = absurd (cc)
     by false false few shallow h = (ltb-false MAX_LIVE_NODES nodes few, shallow)
 
-module _ (taken : List Event) (place : Place) (standing : Standing) (T : Table) (p : ℕ) (formed : Formed T) (builds : Builds taken place standing T p) where
+module _ (taken : List Event) (place : Place) (standing : Standing) (T : Table) (p : ℕ) (formed : Formed T) (builds : Builds [] taken place standing T p) where
   receives : Receives T p
-  receives = builds-receives taken place standing T p builds
+  receives = builds-receives [] taken place standing T p builds
 
   leaf-few : (e : Event) → IsLeaf e → event_fault standing e ≡ None → has_too_many T ≡ false
   leaf-few e leaf none = by (has_too_many T) refl
     where
       by : (b : Bool) → has_too_many T ≡ b → b ≡ false
-      by true is = absurd (let full : event_fault standing e ≡ Some TooManyNodes = leaf-full taken place standing T p builds e leaf is in cc)
+      by true is = absurd (let full : event_fault standing e ≡ Some TooManyNodes = leaf-full [] taken place standing T p builds e leaf is in cc)
       by false is = refl
 
   leaf-on : (e : Event) → IsLeaf e → Fits Document place e → sum_by event_text taken + event_text e ≤ MAX_LIVE_TEXT_BYTES → event_fault standing e ≡ None →
@@ -120,25 +120,25 @@ module _ (taken : List Event) (place : Place) (standing : Standing) (T : Table) 
   leaf-on e leaf fits little none =
       let short : text_bytes T + length (value_in (leaf_of e)) ≤ MAX_LIVE_TEXT_BYTES = omega (arith, little, builds.tells.little, leaf-bytes e leaf) in
       let a : Appended T p (leaf_of e) =
-      appended T p (leaf_of e) formed receives.holder (leaf-fits taken place standing T p builds e leaf fits) receives.last receives.all_live
+      appended T p (leaf_of e) formed receives.holder (leaf-fits [] taken place standing T p builds e leaf fits) receives.last receives.all_live
       (within T p (leaf_of e) (leaf-few e leaf none) (leaf-shallow T p e leaf) short) in
       record {
         tree = with_node T p (leaf_of e);
         node = p;
         formed = a.formed;
-        builds = builds-leaf taken place standing T p builds (with_node T p (leaf_of e)) (length T) (ways-up T formed) (well-formed T formed) (has-scopes T formed) e leaf fits a.grew;
+        builds = builds-leaf [] taken place standing T p builds (with_node T p (leaf_of e)) (length T) (ways-up T formed) (well-formed T formed) (has-scopes T formed) e leaf fits a.grew;
       }
 
   end-on : (name : List ℕ) → Fits Document place (event.End name) → Grown (taken ++ event.End name ∷ []) (after Document place (event.End name)) (moved standing (event.End name))
   end-on name fits = by (parent_of T p) refl
     where
       by : (o : Option ℕ) → parent_of T p ≡ o → Grown (taken ++ event.End name ∷ []) (after Document place (event.End name)) (moved standing (event.End name))
-      by None is = absurd (end-parent taken place standing T p builds name (ways-up T formed) fits is)
+      by None is = absurd (end-parent [] taken place standing T p builds name (ways-up T formed) fits is)
       by (Some q) is = record {
         tree = T;
         node = q;
         formed = formed;
-        builds = (builds-end taken place standing T p builds q name (ways-up T formed) is fits).builds_on;
+        builds = (builds-end [] taken place standing T p builds q name (ways-up T formed) is fits).builds_on;
       }
 
   -- an element begins
@@ -162,7 +162,7 @@ module _ (taken : List Event) (place : Place) (standing : Standing) (T : Table) 
 
     scope-is : scope ≡ declarations attrs ++ scope_at T p
     unfolding scope
-    scope-is = ap (λ (l : List Decl). declarations attrs ++ l) (sym (builds-scope taken place standing T p builds (has-scopes T formed)))
+    scope-is = ap (λ (l : List Decl). declarations attrs ++ l) (sym (builds-scope [] taken place standing T p builds (has-scopes T formed)))
 
     started : Appended T p content
     unfolding content
@@ -185,27 +185,26 @@ module _ (taken : List Event) (place : Place) (standing : Standing) (T : Table) 
         let U : Table = with_node T p content in
         let V : Table = declaring.0 in
         let decls : DeclaresAll U V n (declarations attrs) = declaring.2.all in
-        let live = holder-live T p receives.holder in
         let here : Receives V n = begun-receives T U V p n scope name attrs started.grew decls in
-        let scope_at_is : scope_at V n ≡ scope = begun-scope T U V p n scope name attrs started.grew decls (has-scopes T formed) live scope-is in
-        let scoped = begun-scoped T U V p n scope name attrs started.grew decls (has-scopes T formed) live scope-is fits.named fits.attributes good builds.scoped in
         attributes-on V n scope attrs fits.attributes good.all_known good.expanded
         (omega (arith, room.0, builds.count, ap length decls.same_order, ap length started.grew.last_in_order, length-append (order T) (n ∷ [])))
-        (omega (arith, little, builds.tells.little, decls.same_text, started.grew.more_text))
+        (omega (arith, little, builds.tells.little, decls.same_text, started.grew.more_text, plain-bytes attrs))
         (length attrs) 0 (omega arith) V declaring.1
-        (attributing-none V n scope here declaring.2.under decls.no_kid decls.no_attribute scope_at_is scoped)
+        (attributing-none V n scope here declaring.2.under decls.no_kid decls.no_attribute)
 
     start-on : Grown (taken ++ event.Start name attrs ∷ []) (after Document place (event.Start name attrs)) (moved standing (event.Start name attrs))
     unfolding content
     start-on =
         let n : ℕ = length T in
         let begins : Begins T attributing.0 p n scope name attrs =
-        begun T (with_node T p content) declaring.0 p n scope name attrs started.grew declaring.2.all attributing.0 attributing.2 (ways-up T formed) (well-formed T formed) in
+        begun T (with_node T p content) declaring.0 p n scope name attrs started.grew declaring.2.all (has-scopes T formed) (holder-live T p receives.holder) attributing.0 attributing.2 (ways-up T formed) (well-formed T formed)
+        fits.named fits.attributes good in
+        let here : scope ≡ declarations attrs ++ (scope_at T p ++ []) = scope-is ∙ ap (λ (l : List Decl). declarations attrs ++ l) (sym (append-nil (scope_at T p))) in
         record {
           tree = attributing.0;
           node = n;
           formed = attributing.1;
-          builds = builds-start taken place standing T p builds attributing.0 n scope name attrs (well-formed T formed) fits begins;
+          builds = builds-start [] taken place standing T p builds attributing.0 n scope name attrs (well-formed T formed) fits here begins;
         }
 
 -- an event without fault leads a tree on

@@ -13,7 +13,7 @@ use Rattle.doc_tree.specs.Walks.{above, ancestors, is_open, order, text_bytes}
 use Rattle.doc_tree.specs.Lines.{Line, starts, declares, has_attribute, lines, closing}
 use Rattle.doc_tree.specs.Growth.{ends_in_text, has_too_many}
 use Rattle.doc_tree.specs.Kinds.{holds_kids, is_element, is_text}
-use Rattle.doc_tree.specs.Scope.{Decl, namespace_in}
+use Rattle.doc_tree.specs.Scope.{Decl, namespace_in, scope_at}
 use Rattle.name_scopes.specs.declared.build.Loader.{Loader}
 use Rattle.name_scopes.specs.declared.fault.DocKind.{DocKind}
 use Rattle.name_scopes.specs.declared.fault.DocKind.TheVariants.{TooManyNodes, TooDeep}
@@ -21,7 +21,8 @@ use Rattle.name_scopes.specs.declared.fault.EventError.{EventError}
 use Rattle.name_scopes.specs.declared.fault.EventError.TheVariants.{Kind, Memory}
 use Rattle.name_scopes.specs.QNames.{as_written, name_in_namespace, prefix_part, unprefixed}
 use Rattle.name_scopes.specs.Declarations.{declarations, plain_attrs}
-use Rattle.name_scopes.specs.Scoping.{InScope, NodeInScope, attribute_namespace}
+use Rattle.name_scopes.specs.Fragments.{PieceInScope}
+use Rattle.name_scopes.specs.Scoping.{ContentInScope, attribute_namespace}
 use Rattle.name_scopes.specs.ScopedTree.{written, said_by, unscoped}
 use Rattle.name_scopes.specs.DocFaults.{Standing, tag_nodes, in_scope, event_fault, moved}
 
@@ -54,6 +55,10 @@ leaf_of (event.End name) = root
 leaf_of (event.Chars characters) = text characters
 leaf_of (event.Pi target body) = instruction (unprefixed target) body
 leaf_of (event.Comment characters) = comment characters
+
+-- a node is in scope, where these declarations are in scope around the tree
+abbrev pub NodeAround : List Decl → Table → ℕ → Type 0
+NodeAround around T n = ContentInScope (scope_at T n ++ around) (content_of T n)
 
 -- whether an event is no tag
 abbrev pub IsLeaf : Event → Type 0
@@ -107,21 +112,22 @@ pub record Says (told : List Line) (names : List (List ℕ)) (scopes : List (Lis
   pub numbered_so : order T ≡ upto (length T)
   pub little : text_bytes T ≤ text
 
--- the tree is that of the events taken so far, which lead to this place, as things stand there
-pub record Builds (taken : List Event) (place : Place) (standing : Standing) (T : Table) (n : ℕ) : Type 0 where
+-- the tree is that of the events taken so far, which lead to this place, as things stand there, where these declarations are
+-- in scope around it
+pub record Builds (around : List Decl) (taken : List Event) (place : Place) (standing : Standing) (T : Table) (n : ℕ) : Type 0 where
   pub told : List Line
   pub tells : Says told place.opened standing.scopes place.begun (sum_by event_text taken) T n
   pub told_is : map unscoped told ≡ flat_map said_by taken
   pub inside : place.opened ≢ [] → place.begun ≡ true
   pub behind_is : ends_in_text T (kids_of T n) ≡ place.after_chars
-  pub scoped : InScope T
+  pub scoped : PieceInScope around T
   pub count : length (order T) ≡ standing.nodes
 
 -- the element declares all of this, after it declared nothing and held nothing; the others stay in scope
 pub record DeclaresAll (T U : Table) (p : ℕ) (decls : List Decl) : Type 0 where
   pub tells : (told : List Line) (name : List ℕ) (names : List (List ℕ)) (scopes : List (List Decl)) (begun : Bool) (text : ℕ) →
       Says told (name ∷ names) ([] ∷ scopes) begun text T p → Says (told ++ map declares decls) (name ∷ names) (decls ∷ scopes) begun text U p
-  pub others : (m : ℕ) → m ≢ p → NodeInScope T m → NodeInScope U m
+  pub others : (around : List Decl) (m : ℕ) → m ≢ p → NodeAround around T m → NodeAround around U m
   pub content : (name : Name) → content_of T p ≡ Some (element name []) → content_of U p ≡ Some (element name decls)
   pub decls_are : decls_of U p ≡ decls
   pub upper : flat_map (decls_of U) (ancestors U p) ≡ flat_map (decls_of T) (ancestors T p)
@@ -131,14 +137,17 @@ pub record DeclaresAll (T U : Table) (p : ℕ) (decls : List Decl) : Type 0 wher
   pub no_attribute : attrs_of U p ≡ []
   pub same_order : order U ≡ order T
   pub same_text : text_bytes U ≡ text_bytes T
+  pub top_kids : kids_of U 0 ≡ kids_of T 0
 
--- the element has these attributes, after it had none, and all stay in scope
+-- the element has these attributes, after it had none, and all stay in scope, whatever is in scope around the tree
 pub record AttributesAll (T U : Table) (p : ℕ) (scope : List Decl) (attrs : List Attr) : Type 0 where
   pub tells : (told : List Line) (names : List (List ℕ)) (scopes : List (List Decl)) (begun : Bool) (text : ℕ) →
       Says told names scopes begun text T p → Says (told ++ map (scoped_line scope) (plain_attrs attrs)) names scopes begun (text + sum_by value_bytes attrs) U p
-  pub scoped : InScope U
+  pub scoped : (around : List Decl) → scope ≡ scope_at T p ++ around → PieceInScope around T → PieceInScope around U
   pub no_kid : kids_of U p ≡ []
   pub counted : length (order U) ≡ length (order T) + length (plain_attrs attrs)
+  pub more_text : text_bytes U ≡ text_bytes T + sum_by value_bytes (plain_attrs attrs)
+  pub top_kids : kids_of U 0 ≡ kids_of T 0
 
 -- the lines of a start tag, its names in their namespaces
 abbrev pub start_lines : List Decl → List ℕ → List Attr → List Line
@@ -149,9 +158,12 @@ start_lines scope name attrs =
 pub record Begins (T U : Table) (p n : ℕ) (scope : List Decl) (name : List ℕ) (attrs : List Attr) : Type 0 where
   pub tells : (told : List Line) (names : List (List ℕ)) (scopes : List (List Decl)) (begun : Bool) (text : ℕ) → (begun ≡ true → p ≢ 0) → (begun ≡ false → p ≡ 0) →
       Says told names scopes begun text T p → Says (told ++ start_lines scope name attrs) (name ∷ names) (declarations attrs ∷ scopes) true (text + sum_by value_bytes attrs) U n
-  pub scoped : InScope U
+  pub scoped : (around : List Decl) → scope ≡ declarations attrs ++ (scope_at T p ++ around) → PieceInScope around T → PieceInScope around U
   pub no_kid : kids_of U n ≡ []
   pub counted : length (order U) ≡ length (order T) + tag_nodes attrs
+  pub more_text : text_bytes U ≡ text_bytes T + sum_by value_bytes (plain_attrs attrs)
+  pub top_kids : p ≢ 0 → kids_of U 0 ≡ kids_of T 0
+  pub first_kid : p ≡ 0 → kids_of U 0 ≡ kids_of T 0 ++ n ∷ []
 
 -- why an element wasn't begun: it would stand too deep; want of memory comes at any time
 abbrev pub IsTooDeep : Table → ℕ → EventError → Type 0
@@ -169,7 +181,7 @@ room_fault nodes = if nat_lt MAX_LIVE_NODES nodes then Some TooManyNodes else No
 
 -- the loader has built the tree of the events taken so far
 pub record Loads (taken : List Event) (place : Place) (standing : Standing) (loader : Loader) : Type 0 where
-  pub builds : Builds taken place standing loader.tree.nodes loader.place
+  pub builds : Builds [] taken place standing loader.tree.nodes loader.place
   pub scope_is : loader.scope ≡ in_scope standing.scopes
 
 -- the event may come

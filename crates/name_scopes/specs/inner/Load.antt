@@ -21,6 +21,6 @@ TakesFound taken place standing found loader (Err Memory) = Unit {0}
 -- the tree of events without fault, or the first fault; want of memory comes at any time
 abbrev pub IsBuilt : List Located → Result Contents LoadError → Type 0
 IsBuilt events (Ok tree) =
-    (first_fault begin events ≡ None) × ((standing : Standing) × ((n : ℕ) × Builds (bare events) (place_after Document start (bare events)) standing tree.nodes n))
+    (first_fault begin events ≡ None) × ((standing : Standing) × ((n : ℕ) × Builds [] (bare events) (place_after Document start (bare events)) standing tree.nodes n))
 IsBuilt events (Err (Fault fault)) = first_fault begin events ≡ Some fault
 IsBuilt events (Err Memory) = Unit {0}

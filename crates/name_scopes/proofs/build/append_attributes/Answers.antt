@@ -11,7 +11,7 @@ use Rattle.name_scopes.proofs.build.append_attributes.Goals as goal
 use Rattle.name_scopes.proofs.build.append_attributes.Goals.{then-is_plain+in_ok-append_attribute, else-is_plain}
 
 pub loop-attr-init : goal.loop-attr-init
-loop-attr-init c = attributing-none c.args.tree.now.nodes c.args.element c.args.scope.now c.requires.receives c.requires.under c.requires.no_kid c.requires.no_attribute c.requires.scope_is c.requires.scoped
+loop-attr-init c = attributing-none c.args.tree.now.nodes c.args.element c.args.scope.now c.requires.receives c.requires.under c.requires.no_kid c.requires.no_attribute
 
 pub append_attribute-requires-clause-fits : goal.append_attribute-requires-clause-fits
 append_attribute-requires-clause-fits c =
@@ -34,7 +34,7 @@ append_attribute-requires-clause-room c =
 
 pub append_attribute-requires-clause-little : goal.append_attribute-requires-clause-little
 append_attribute-requires-clause-little c =
-    omega (arith, c.requires.little, c.loop-attr.invariant.little, bytes-room c.args.attrs.now c.loop-attr.attr-index c.attr-item.result c.loop-attr-test.true c.attr-item.is)
+    omega (arith, c.requires.little, c.loop-attr.invariant.all.more_text, bytes-room c.args.attrs.now c.loop-attr.attr-index c.attr-item.result c.loop-attr-test.true c.attr-item.is (sym c.is_plain.ensures ∙ c.if-is_plain.true))
 
 pub loop-attr-preserved : goal.loop-attr-preserved
 loop-attr-preserved c = elim c.if-is_plain.branch [

@@ -1,16 +1,16 @@
 -- A node more, under the innermost element.
-use Rattle.std.proofs.Common.{refl, arith}
+use Rattle.std.proofs.Common.{refl, arith, []}
 use Rattle.name_scopes.proofs.StepLemmas.{builds-receives}
 use Rattle.name_scopes.proofs.LeafLemmas.{leaf-fits, leaf-bytes, leaf-room, loads-leaf}
 use Rattle.name_scopes.proofs.build.Loader.leaf.Goals as goal
 
 pub append_leaf-requires-clause-receives : goal.append_leaf-requires-clause-receives
 append_leaf-requires-clause-receives c =
-    builds-receives c.requires.ready.0 c.requires.ready.1.0 c.requires.ready.1.1.0 c.args.self.now.tree.nodes c.args.self.now.place c.requires.ready.1.1.1.0.builds
+    builds-receives [] c.requires.ready.0 c.requires.ready.1.0 c.requires.ready.1.1.0 c.args.self.now.tree.nodes c.args.self.now.place c.requires.ready.1.1.1.0.builds
 
 pub append_leaf-requires-clause-fits : goal.append_leaf-requires-clause-fits
 append_leaf-requires-clause-fits c =
-    leaf-fits c.requires.ready.0 c.requires.ready.1.0 c.requires.ready.1.1.0 c.args.self.now.tree.nodes c.args.self.now.place c.requires.ready.1.1.1.0.builds c.args.event.now c.requires.leaf c.requires.ready.1.1.1.1.fits
+    leaf-fits [] c.requires.ready.0 c.requires.ready.1.0 c.requires.ready.1.1.0 c.args.self.now.tree.nodes c.args.self.now.place c.requires.ready.1.1.1.0.builds c.args.event.now c.requires.leaf c.requires.ready.1.1.1.1.fits
 
 pub append_leaf-requires-clause-little : goal.append_leaf-requires-clause-little
 append_leaf-requires-clause-little c =
@@ -18,7 +18,7 @@ append_leaf-requires-clause-little c =
 
 pub returns : goal.returns
 returns c = λ taken place standing loads comes. (
-  leaf-room taken place standing c.args.self.now.tree.nodes c.args.self.now.place loads.builds c.args.event.now c.requires.leaf c.in_ok-append_leaf.ensures.room,
+  leaf-room [] taken place standing c.args.self.now.tree.nodes c.args.self.now.place loads.builds c.args.event.now c.requires.leaf c.in_ok-append_leaf.ensures.room,
   loads-leaf taken place standing c.args.self.now _ c.in_ok-append_leaf.field-0 c.args.event.now c.requires.leaf comes.fits c.laws.ensures.ways_up c.laws.ensures.well_formed c.laws.ensures.scopes
       c.in_ok-append_leaf.ensures.grew refl refl loads,
 )

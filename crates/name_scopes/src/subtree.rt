@@ -1,0 +1,110 @@
+//! From a fragment to the piece that it is under a node.
+
+ghost use Rattle.std.specs.Prelude.{◌≡◌, ◌≤◌, ◌+◌, ◌∷◌, [], true, List, None, length, sum_by, IfOk, OnOk, IfErr};
+ghost use Rattle.pyx_core.specs.declared.event.Event.{Event};
+ghost use Rattle.pyx_core.specs.declared.mode.Mode.TheVariants.{Fragment};
+ghost use Rattle.pyx_core.specs.Nesting.{Fits, start};
+ghost use Rattle.doc_tree.specs.limits.TheConstants.{MAX_LIVE_TEXT_BYTES};
+ghost use Rattle.doc_tree.specs.Kinds.{holds_kids};
+ghost use Rattle.doc_tree.specs.Scope.{Decl, scope_at};
+ghost use Rattle.doc_tree.specs.Table.{kind_of};
+ghost use Rattle.doc_tree.specs.Walks.{order, text_bytes};
+ghost use Rattle.name_scopes.specs.Fragments.{IsFragment, Refuses, ScopedPiece, event_nodes, names_fault, piece_refusal, plain_text};
+ghost use Rattle.name_scopes.specs.inner.Build.{IsLeaf};
+ghost use Rattle.name_scopes.specs.inner.Piece.{IsAcceptable, IsPiece, begins_element, is_start};
+
+use crate::around::scope_around;
+use crate::build::{Loader, append_leaf};
+use crate::fault::EventError;
+use crate::refusal::PieceError;
+use crate::refuse::refuse_piece;
+use crate::scope::Scope;
+use doc_tree::{NodeId, Tree};
+use pyx_core::{Event, EventList};
+use std::alloc::{AllocError, Global};
+
+/// Loads a fragment as a piece to come under a node of a tree: each name is in the namespace that the nearest declaration of
+/// its prefix gives, in the fragment or at the node and above it (Namespaces in XML 1.0, section 6). Else it answers the
+/// first reason for which the names and the nodes keep the fragment from coming there.
+///
+/// Costs time linear in the fragment and in the declarations in scope at the node.
+pub fn load_subtree(
+    alloc: Global,
+    tree: &Tree,
+    parent: NodeId,
+    events: &EventList,
+) -> Result<Tree, PieceError>
+    requires holder { holds_kids (kind_of tree.now.nodes parent) ≡ true }
+    requires fragment { IsFragment events.now }
+    requires names { names_fault events.now ≡ None }
+    requires text { sum_by plain_text events.now ≤ MAX_LIVE_TEXT_BYTES }
+    ensures within { OnOk result (piece_refusal tree.now.nodes parent events.now ≡ None) }
+    ensures loaded { IfOk result (λ piece. ScopedPiece (scope_at tree.now.nodes parent) events.now piece.nodes) }
+    ensures nodes { IfOk result (λ piece. length (order piece.nodes) ≡ 1 + sum_by event_nodes events.now) }
+    ensures text { IfOk result (λ piece. text_bytes piece.nodes ≡ sum_by plain_text events.now) }
+    ensures refused { IfErr result (Refuses (piece_refusal tree.now.nodes parent events.now)) }
+{
+    if let Some(refusal) = refuse_piece(alloc, tree, parent, events.as_slice())? {
+        return Err(PieceError::Refused(refusal));
+    }
+    let around = scope_around(alloc, tree, parent)?;
+    tree.laws();
+    let piece = build_piece(alloc, around, events.as_slice())?;
+    Ok(piece)
+}
+
+/// The tree of a fragment, where these declarations are in scope around it.
+fn build_piece(alloc: Global, around: Scope, events: &[Event]) -> Result<Tree, AllocError>
+    requires { IsAcceptable around events.now }
+    ensures { IfOk result (λ piece. IsPiece around events.now piece.nodes) }
+{
+    if is_start(&events[0]) {
+        load_element(alloc, around, events)
+    } else {
+        load_leaf(alloc, &events[0])
+    }
+}
+
+/// Whether an event is a start tag.
+fn is_start(event: &Event) -> bool
+    ensures { result ≡ is_start event.now }
+{
+    match event {
+        Event::Start { name: _, attrs: _ } => true,
+        Event::End { name: _ } => false,
+        Event::Chars { text: _ } => false,
+        Event::Pi { target: _, body: _ } => false,
+        Event::Comment { text: _ } => false,
+    }
+}
+
+/// The tree of one element with its content.
+fn load_element(alloc: Global, around: Scope, events: &[Event]) -> Result<Tree, AllocError>
+    requires acceptable { IsAcceptable around events.now }
+    requires element { begins_element events.now ≡ true }
+    ensures { IfOk result (λ piece. IsPiece around events.now piece.nodes) }
+{
+    let mut loader = Loader::within(alloc, around)?;
+    for event in events {
+        loader.put(event)?;
+    }
+    loader.tree.laws();
+    Ok(loader.tree)
+}
+
+/// The tree of one text, comment or processing instruction.
+fn load_leaf(alloc: Global, event: &Event) -> Result<Tree, AllocError>
+    requires leaf { IsLeaf event.now }
+    requires fits { Fits Fragment start event.now }
+    requires little { plain_text event.now ≤ MAX_LIVE_TEXT_BYTES }
+    ensures { IfOk result (λ piece. (around : List Decl) → IsPiece around (event.now ∷ []) piece.nodes) }
+{
+    let mut tree = Tree::new(alloc)?;
+    let root = tree.root();
+    tree.laws();
+    match append_leaf(&mut tree, root, event) {
+        Ok(_) => Ok(tree),
+        Err(EventError::Memory) => Err(AllocError),
+        Err(EventError::Kind(_)) => unreachable!(),
+    }
+}
