@@ -1,0 +1,9 @@
+pub mod CutLemmas
+pub mod FaultLemmas
+pub mod FieldLemmas
+pub mod FormedLemmas
+pub mod NumberLemmas
+pub mod PartLemmas
+pub mod PathLemmas
+pub mod PayloadLemmas
+pub mod PieceLemmas

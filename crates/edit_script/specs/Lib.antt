@@ -1,0 +1,6 @@
+pub mod CommandLine
+pub mod Faults
+pub mod Paths
+pub mod Script
+pub mod WellFormed
+pub mod inner

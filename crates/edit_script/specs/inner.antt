@@ -1,0 +1,5 @@
+pub mod Fields
+pub mod Lines
+pub mod Parts
+pub mod Payload
+pub mod Reader

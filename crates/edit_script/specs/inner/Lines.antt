@@ -1,0 +1,18 @@
+-- How the bytes of a script are cut into lines.
+use Rattle.std.specs.Prelude.{◌≡◌, ℕ, ◌+◌, ◌<◌, ◌≤◌, false, List, ◌∷◌, ◌++◌, length, None}
+use Rattle.pyx_core.specs.Before.{is_nil}
+use Rattle.edit_script.specs.Script.{lines_of, script_at, with_end}
+
+-- the first line of some bytes, and what follows it; where there is more, the line has its line end
+pub record Cuts (bytes line rest : List ℕ) : Type 0 where
+  pub lines : lines_of bytes ≡ line ∷ lines_of rest
+  pub shorter : length rest < length bytes
+  pub size : length line + length rest ≤ length bytes
+  pub ends : 0 < length rest → bytes ≡ with_end line ++ rest
+
+-- from the line with a number on, the first line that isn't empty
+pub record Reaches (from : ℕ) (bytes : List ℕ) (number : ℕ) (line rest : List ℕ) : Type 0 where
+  pub script : script_at None from (lines_of bytes) ≡ script_at None number (line ∷ lines_of rest)
+  pub some : is_nil line ≡ false
+  pub few : number + length rest < from + length bytes
+  pub later : from ≤ number

@@ -1,0 +1,17 @@
+//! Edit scripts: from the bytes of a script to its commands.
+#![tactic(auto)]
+
+mod command;
+mod command_line;
+mod fault;
+mod fields;
+mod limits;
+mod lines;
+mod paths;
+mod payload;
+mod reader;
+
+pub use command::{Command, Path, PathStep};
+pub use fault::{ScriptError, ScriptFault, ScriptKind};
+pub use limits::{MAX_PLACE, MAX_SCRIPT_BYTES};
+pub use reader::ScriptReader;
