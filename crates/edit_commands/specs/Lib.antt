@@ -1,0 +1,5 @@
+pub mod Paths
+pub mod Refusals
+pub mod Commands
+pub mod Touched
+pub mod inner

@@ -1,0 +1,54 @@
+//! The node that a path names.
+
+ghost use Rattle.std.specs.Prelude.{◌≡◌, ◌-◌, ◌≤◌, slice_get};
+ghost use Rattle.doc_tree.specs.Kinds.{is_kind};
+ghost use Rattle.doc_tree.specs.Table.{kind_of};
+ghost use Rattle.edit_script.specs.WellFormed.{IsPath};
+ghost use Rattle.edit_commands.specs.Paths.{kids_of_kind, node_named};
+
+use doc_tree::{Kind, NodeId, Tree};
+use edit_script::PathStep;
+
+/// The node that a path names; None where it names none.
+///
+/// Costs the kids of the nodes along the path.
+pub(crate) fn node_named(tree: &Tree, path: &[PathStep]) -> Option<NodeId>
+    requires { IsPath path.now }
+    ensures { result ≡ node_named tree.now.nodes path.now }
+{
+    let mut node = tree.root();
+    for step in path {
+        match kid_at(tree, node, *step) {
+            Some(kid) => node = kid,
+            None => return None,
+        }
+    }
+    Some(node)
+}
+
+/// The kid of a node to which a step leads.
+fn kid_at(tree: &Tree, node: NodeId, step: PathStep) -> Option<NodeId>
+    requires { 1 ≤ step.index }
+    ensures { result ≡ slice_get (kids_of_kind tree.now.nodes node step.kind) (step.index - 1) }
+{
+    let mut left = step.index - 1;
+    for kid in tree.kids(node) {
+        if is_of_kind(tree, *kid, step.kind) {
+            if left == 0 {
+                return Some(*kid);
+            }
+            left -= 1;
+        }
+    }
+    None
+}
+
+/// Whether a node is of a kind.
+fn is_of_kind(tree: &Tree, node: NodeId, kind: Kind) -> bool
+    ensures { result ≡ is_kind kind (kind_of tree.now.nodes node) }
+{
+    match tree.kind_of(node) {
+        Some(found) => found == kind,
+        None => false,
+    }
+}
