@@ -1,0 +1,3 @@
+pub mod EvaluationLemmas
+pub mod StateLemmas
+pub mod PairLemmas

@@ -1,0 +1,5 @@
+pub mod State
+pub mod Pairs
+pub mod Standing
+pub mod Wrote
+pub mod inner

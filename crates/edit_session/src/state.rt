@@ -1,0 +1,89 @@
+//! The state of an evaluated document, written: the report, or the line of the first fault.
+
+ghost use Rattle.std.specs.Prelude.{◌≡◌};
+ghost use Rattle.edit_session.specs.declared.state.ReportError.TheVariants as errors;
+ghost use Rattle.edit_session.specs.Wrote.{WroteState};
+ghost use Rattle.edit_session.specs.inner.Evaluated.{Evaluates};
+ghost use Rattle.edit_session.specs.inner.Shown.{ShownAs, shown_of};
+
+use crate::evaluation::Evaluated;
+use doc_tree::Tree;
+use sch_compiled::Plan;
+use sch_io::Sink;
+use sch_units::{first_match_fires, lets_stand_in_order};
+use std::alloc::{AllocError, Global};
+use svrl_out::{OutError, write_fault, write_report};
+use thiserror::Error;
+
+/// What a text that was written shows.
+#[derive(Clone, Copy, Debug, PartialEq, Eq)]
+pub enum Shown {
+    /// A report without a finding.
+    Clean,
+    /// A report with a finding.
+    Findings,
+    /// The line of a fault.
+    Fault,
+}
+
+/// Why a state was not written whole.
+#[derive(Clone, Copy, Debug, PartialEq, Eq, Error)]
+pub enum ReportError {
+    /// A write failed.
+    #[error("a write failed")]
+    Failed,
+    #[error("out of memory")]
+    Memory,
+}
+
+impl From<AllocError> for ReportError {
+    ghost from_gives = { λ _ error. error ≡ errors.Memory };
+
+    fn from(_refused: AllocError) -> ReportError {
+        ReportError::Memory
+    }
+}
+
+/// Writes the state of an evaluated document; answers what it shows.
+pub(crate) fn write_evaluated<O: Sink>(
+    alloc: Global,
+    plan: &Plan,
+    tree: &Tree,
+    evaluated: &Evaluated,
+    out: &mut O,
+) -> Result<Shown, ReportError>
+    requires { Evaluates plan.now tree.now.nodes evaluated.now }
+    ensures { WroteState (O.log out.old) (O.log out.new) plan.now tree.now.nodes result }
+{
+    tree.laws();
+    first_match_fires();
+    lets_stand_in_order();
+    match evaluated {
+        Evaluated::Whole { found, finds } => {
+            let written = write_report(alloc, plan, tree, found, out);
+            end_of(written, shown_of(*finds))
+        }
+        Evaluated::Faulted(fault) => {
+            let written = write_fault(alloc, plan, tree, fault, out);
+            end_of(written, Shown::Fault)
+        }
+    }
+}
+
+/// What a report shows, by whether something was found.
+fn shown_of(finds: bool) -> Shown
+    ensures { result ≡ shown_of finds }
+{
+    if finds { Shown::Findings } else { Shown::Clean }
+}
+
+/// What a text shows that was written, or what stopped its writing.
+fn end_of(written: Result<(), OutError>, shown: Shown) -> Result<Shown, ReportError>
+    ensures { ShownAs written shown result }
+{
+    match written {
+        Ok(()) => Ok(shown),
+        Err(OutError::Failed) => Err(ReportError::Failed),
+        Err(OutError::Memory) => Err(ReportError::Memory),
+    }
+}
