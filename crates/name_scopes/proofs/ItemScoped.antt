@@ -1,5 +1,5 @@
--- The items of a tree in scope may stand where they do.
-use Rattle.std.proofs.Common.{◌≡◌, ◌≢◌, ℕ, zero, suc, ◌+◌, ◌≤◌, ◌==◌, Bool, true, false, ◌&&◌, ◌||◌, List, [], ◌∷◌, ◌++◌, length, Option, None, Some, refl, ap, ◌∙◌, subst, arith}
+-- The items of a tree in scope may stand where they do; around the tree are these declarations.
+use Rattle.std.proofs.Common.{◌≡◌, ◌≢◌, ℕ, zero, suc, ◌+◌, ◌≤◌, ◌==◌, Bool, true, false, ◌&&◌, ◌||◌, List, [], ◌∷◌, ◌++◌, length, Option, None, Some, refl, ap, ◌∙◌, subst, arith, append_assoc}
 use Rattle.std.specs.Prelude.{if◌then◌else◌}
 use Rattle.doc_tree.specs.kind.Kind.TheVariants.{Attribute}
 use Rattle.doc_tree.specs.limits.TheConstants.{MAX_DEPTH}
@@ -9,7 +9,8 @@ use Rattle.doc_tree.specs.Lists.{mem, occurs, Distinct}
 use Rattle.doc_tree.specs.Scope.{Decl, scope_at}
 use Rattle.doc_tree.specs.Table.{Table, Name, Content, root, element, attribute, text, comment, instruction, content_of, kind_of, kind_at, decls_at, value_at, kids_of, attrs_of, parent_of, expanded, expanded_of, expanded_in, name_at}
 use Rattle.doc_tree.specs.Walks.{ancestors}
-use Rattle.name_scopes.specs.Scoping.{ContentInScope, InScope}
+use Rattle.name_scopes.specs.Fragments.{PieceInScope}
+use Rattle.name_scopes.specs.Scoping.{ContentInScope}
 use Rattle.name_scopes.proofs.Items.{Items, Pair, PairsFit, Differs, AllDiffer, TagFits, Fit}
 use Rattle.name_scopes.proofs.ItemTables.{IsTree, AreKids, AreAttributes, pairs_in, pairs_of, item, items_at, kids-are, attributes-are, same_number, mem_first, mem_later}
 
@@ -32,12 +33,12 @@ no_decls (Some (text characters)) kind = refl
 no_decls (Some (comment characters)) kind = refl
 no_decls (Some (instruction name body)) kind = refl
 
-pairs-fit : (T : Table) → IsTree T → InScope T → (p : ℕ) (ns : List ℕ) → AreAttributes T p ns → PairsFit (scope_at T p) (pairs_of T ns)
-pairs-fit T tree scoped p [] are = tt
-pairs-fit T tree scoped p (a ∷ ns) are =
+pairs-fit : (around : List Decl) (T : Table) → IsTree T → PieceInScope around T → (p : ℕ) (ns : List ℕ) → AreAttributes T p ns → PairsFit (scope_at T p ++ around) (pairs_of T ns)
+pairs-fit around T tree scoped p [] are = tt
+pairs-fit around T tree scoped p (a ∷ ns) are =
     let same : scope_at T a ≡ scope_at T p = tree.scopes.under a p are.1 ∙ ap (λ (ds : List Decl). ds ++ scope_at T p) (no_decls (content_of T a) are.0) in
-    let P : List Decl → Type 0 = λ scope. ContentInScope scope (content_of T a) in
-    pair-fits (scope_at T p) (content_of T a) (pairs_of T ns) (subst P same (scoped a)) (pairs-fit T tree scoped p ns are.2)
+    let P : List Decl → Type 0 = λ scope. ContentInScope (scope ++ around) (content_of T a) in
+    pair-fits (scope_at T p ++ around) (content_of T a) (pairs_of T ns) (subst P same (scoped a)) (pairs-fit around T tree scoped p ns are.2)
 
 -- their expanded names differ
 pair-differs : (name : Name) (c : Option Content) (rest : List Pair) → Some (expanded name) ≢ expanded_in (name_at c) → Differs name rest → Differs name (pairs_in c ++ rest)
@@ -111,32 +112,36 @@ not-behind true h = absurd (cc)
 not-behind false h = refl
 
 -- a node of a content with what is after it
-module _ (T : Table) (tree : IsTree T) (scoped : InScope T) (kids : List ℕ → Items) (n p : ℕ) (rest : Items) (behind : Bool) (parent : parent_of T n ≡ Some p) where
-  own : (c : Option Content) → content_of T n ≡ c → ContentInScope (scope_at T n) c
-  own c is = let P : Option Content → Type 0 = λ c. ContentInScope (scope_at T n) c in subst P is (scoped n)
+module _ (around : List Decl) (T : Table) (tree : IsTree T) (scoped : PieceInScope around T) (kids : List ℕ → Items) (n p : ℕ) (rest : Items) (behind : Bool) (parent : parent_of T n ≡ Some p) where
+  abbrev scope : ℕ → List Decl
+  scope m = scope_at T m ++ around
 
-  tag-fits : (name : Name) (decls : List Decl) → content_of T n ≡ Some (element name decls) → TagFits (scope_at T n) name decls (pairs_of T (attrs_of T n))
+  own : (c : Option Content) → content_of T n ≡ c → ContentInScope (scope n) c
+  own c is = let P : Option Content → Type 0 = λ c. ContentInScope (scope n) c in subst P is (scoped n)
+
+  tag-fits : (name : Name) (decls : List Decl) → content_of T n ≡ Some (element name decls) → TagFits (scope n) name decls (pairs_of T (attrs_of T n))
   tag-fits name decls is =
       record {
         element = own (Some (element name decls)) is;
-        attributes = pairs-fit T tree scoped n (attrs_of T n) (attributes-are T tree.formed n);
+        attributes = pairs-fit around T tree scoped n (attrs_of T n) (attributes-are T tree.formed n);
         differ = pairs-differ T (attrs_of T n) (tree.formed.attributes_once n) (λ a b. tree.formed.names_differ n a b);
       }
 
-  element-fits : (name : Name) (decls : List Decl) → content_of T n ≡ Some (element name decls) → Fit (scope_at T n) (length (ancestors T n)) false (kids (kids_of T n)) →
-      TagFits (decls ++ scope_at T p) name decls (pairs_of T (attrs_of T n)) × (suc (length (ancestors T p)) ≤ MAX_DEPTH) × Fit (decls ++ scope_at T p) (suc (length (ancestors T p))) false (kids (kids_of T n))
+  element-fits : (name : Name) (decls : List Decl) → content_of T n ≡ Some (element name decls) → Fit (scope n) (length (ancestors T n)) false (kids (kids_of T n)) →
+      TagFits (decls ++ scope p) name decls (pairs_of T (attrs_of T n)) × (suc (length (ancestors T p)) ≤ MAX_DEPTH) × Fit (decls ++ scope p) (suc (length (ancestors T p))) false (kids (kids_of T n))
   element-fits name decls is below =
-      let scope : scope_at T n ≡ decls ++ scope_at T p = tree.scopes.under n p parent ∙ ap (λ (c : Option Content). decls_at c ++ scope_at T p) is in
+      let under : scope_at T n ≡ decls ++ scope_at T p = tree.scopes.under n p parent ∙ ap (λ (c : Option Content). decls_at c ++ scope_at T p) is in
+      let here : scope n ≡ decls ++ scope p = ap (λ (ds : List Decl). ds ++ around) under ∙ append_assoc decls (scope_at T p) around in
       let depth : length (ancestors T n) ≡ suc (length (ancestors T p)) = ap length (tree.ways.ancestors_at n p parent) in
       let shallow : length (ancestors T n) ≤ MAX_DEPTH = tree.formed.not_deep n (ap kind_at is) in
       let P : List Decl → Type 0 = λ s. TagFits s name decls (pairs_of T (attrs_of T n)) in
       let Q : List Decl → Type 0 = λ s. Fit s (length (ancestors T n)) false (kids (kids_of T n)) in
-      let R : ℕ → Type 0 = λ d. Fit (decls ++ scope_at T p) d false (kids (kids_of T n)) in
-      (subst P scope (tag-fits name decls is), omega arith, subst R depth (subst Q scope below))
+      let R : ℕ → Type 0 = λ d. Fit (decls ++ scope p) d false (kids (kids_of T n)) in
+      (subst P here (tag-fits name decls is), omega arith, subst R depth (subst Q here below))
 
   kid-fits : (c : Option Content) → content_of T n ≡ c → can_be_kid (kind_at c) ≡ true → (behind && is_text (kind_at c)) ≡ false →
-      Fit (scope_at T n) (length (ancestors T n)) false (kids (kids_of T n)) → Fit (scope_at T p) (length (ancestors T p)) (is_text (kind_at c)) rest →
-      Fit (scope_at T p) (length (ancestors T p)) behind (item T kids n c rest)
+      Fit (scope n) (length (ancestors T n)) false (kids (kids_of T n)) → Fit (scope p) (length (ancestors T p)) (is_text (kind_at c)) rest →
+      Fit (scope p) (length (ancestors T p)) behind (item T kids n c rest)
   kid-fits None is can apart below later = absurd (cc)
   kid-fits (Some root) is can apart below later = absurd (cc)
   kid-fits (Some (element name decls)) is can apart below later = let f = element-fits name decls is below in (f.0, f.1, f.2, later)
@@ -146,15 +151,16 @@ module _ (T : Table) (tree : IsTree T) (scoped : InScope T) (kids : List ℕ →
   kid-fits (Some (comment characters)) is can apart below later = (own (Some (comment characters)) is, later)
   kid-fits (Some (instruction name body)) is can apart below later = (own (Some (instruction name body)) is, later)
 
-along-fits : (T : Table) (tree : IsTree T) (scoped : InScope T) (levels : ℕ) →
-    ((q : ℕ) (ms : List ℕ) → AreKids T q ms → TextsBehind T false ms → Fit (scope_at T q) (length (ancestors T q)) false (items_at T levels ms)) →
-    (p : ℕ) (ns : List ℕ) (behind : Bool) → AreKids T p ns → TextsBehind T behind ns → Fit (scope_at T p) (length (ancestors T p)) behind (items_at T (suc levels) ns)
-along-fits T tree scoped levels below p [] behind are apart = tt
-along-fits T tree scoped levels below p (n ∷ ns) behind are apart =
-    kid-fits T tree scoped (λ ms. items_at T levels ms) n p (items_at T (suc levels) ns) behind are.1 (content_of T n) refl are.0 apart.0
+along-fits : (around : List Decl) (T : Table) (tree : IsTree T) (scoped : PieceInScope around T) (levels : ℕ) →
+    ((q : ℕ) (ms : List ℕ) → AreKids T q ms → TextsBehind T false ms → Fit (scope_at T q ++ around) (length (ancestors T q)) false (items_at T levels ms)) →
+    (p : ℕ) (ns : List ℕ) (behind : Bool) → AreKids T p ns → TextsBehind T behind ns → Fit (scope_at T p ++ around) (length (ancestors T p)) behind (items_at T (suc levels) ns)
+along-fits around T tree scoped levels below p [] behind are apart = tt
+along-fits around T tree scoped levels below p (n ∷ ns) behind are apart =
+    kid-fits around T tree scoped (λ ms. items_at T levels ms) n p (items_at T (suc levels) ns) behind are.1 (content_of T n) refl are.0 apart.0
     (below n (kids_of T n) (kids-are T tree.formed n) (texts-are T (kids_of T n) (tree.formed.texts_apart n)))
-    (along-fits T tree scoped levels below p ns (is_text (kind_of T n)) are.2 apart.1)
+    (along-fits around T tree scoped levels below p ns (is_text (kind_of T n)) are.2 apart.1)
 
-pub items-fit : (T : Table) → IsTree T → InScope T → (levels p : ℕ) (ns : List ℕ) → AreKids T p ns → TextsBehind T false ns → Fit (scope_at T p) (length (ancestors T p)) false (items_at T levels ns)
-items-fit T tree scoped zero p ns are apart = tt
-items-fit T tree scoped (suc levels) p ns are apart = along-fits T tree scoped levels (λ q ms h t. items-fit T tree scoped levels q ms h t) p ns false are apart
+pub items-fit : (around : List Decl) (T : Table) → IsTree T → PieceInScope around T → (levels p : ℕ) (ns : List ℕ) → AreKids T p ns → TextsBehind T false ns →
+    Fit (scope_at T p ++ around) (length (ancestors T p)) false (items_at T levels ns)
+items-fit around T tree scoped zero p ns are apart = tt
+items-fit around T tree scoped (suc levels) p ns are apart = along-fits around T tree scoped levels (λ q ms h t. items-fit around T tree scoped levels q ms h t) p ns false are apart

@@ -21,7 +21,8 @@ use Rattle.doc_write.specs.TreeText.{line_text, tree_text}
 use Rattle.name_scopes.specs.DocFaults.{begin, first_fault}
 use Rattle.name_scopes.specs.RoundTrip.{ComesBack}
 use Rattle.name_scopes.specs.ScopedTree.{said_by, unscoped}
-use Rattle.name_scopes.specs.Scoping.{InScope}
+use Rattle.name_scopes.specs.Fragments.{PieceInScope}
+use Rattle.name_scopes.specs.Scoping.{ContentInScope, InScope}
 use Rattle.std.proofs.lemmas.Bool.{and_parts}
 use Rattle.name_scopes.proofs.WholeLemmas.{doc-fault-is}
 use Rattle.name_scopes.proofs.Items.{Items, Fit, item_events, item_lines, item_nodes, top_elements, top_texts}
@@ -65,16 +66,23 @@ tree-nodes T tree =
     let count : item_nodes (items_of T) ≡ length (flat_map (below T) (kids_of T 0)) = item-nodes-are T tree.formed (length T) 0 (kids_of T 0) (kids-are T tree.formed 0) in
     omega (arith, ap length all, count, tree.formed.few_nodes)
 
-tree-fits : (T : Table) → IsTree T → InScope T → Fit [] 0 false (items_of T)
-tree-fits T tree scoped =
+-- the items of a tree around which these declarations are in scope
+tree-fits : (around : List Decl) (T : Table) → IsTree T → PieceInScope around T → Fit around 0 false (items_of T)
+tree-fits around T tree scoped =
     let parts = root-opens (content_of T 0) tree.formed.root_kind in
-    let fit : Fit (scope_at T 0) (length (ancestors T 0)) false (items_of T) =
-    items-fit T tree scoped (length T) 0 (kids_of T 0) (kids-are T tree.formed 0) (texts-are T (kids_of T 0) (tree.formed.texts_apart 0)) in
+    let fit : Fit (scope_at T 0 ++ around) (length (ancestors T 0)) false (items_of T) =
+    items-fit around T tree scoped (length T) 0 (kids_of T 0) (kids-are T tree.formed 0) (texts-are T (kids_of T 0) (tree.formed.texts_apart 0)) in
     let scope : scope_at T 0 ≡ [] = tree.scopes.at_top 0 tree.formed.root_parent ∙ parts.2 in
     let depth : length (ancestors T 0) ≡ 0 = ap length (tree.ways.no_ancestors 0 tree.formed.root_parent) in
-    let P : List Decl → Type 0 = λ s. Fit s (length (ancestors T 0)) false (items_of T) in
-    let Q : ℕ → Type 0 = λ d. Fit [] d false (items_of T) in
+    let P : List Decl → Type 0 = λ s. Fit (s ++ around) (length (ancestors T 0)) false (items_of T) in
+    let Q : ℕ → Type 0 = λ d. Fit around d false (items_of T) in
     subst Q depth (subst P scope fit)
+
+-- around a document no declaration is in scope
+none-around : (T : Table) → InScope T → PieceInScope [] T
+none-around T scoped m =
+    let P : List Decl → Type 0 = λ s. ContentInScope s (content_of T m) in
+    subst P (sym (append-nil (scope_at T m))) (scoped m)
 
 -- the top of a document
 pub tree-tops : (T : Table) → WellFormed T → is_document T ≡ true → (top_elements (items_of T) ≡ 1) × (top_texts (items_of T) ≡ 0)
@@ -89,14 +97,14 @@ pub text-gives : (T : Table) → IsTree T → InScope T → is_document T ≡ tr
 text-gives T tree scoped is splits back =
     let tops = tree-tops T tree.formed is in
     let spells : text_of (item_events (items_of T)) ≡ tree_text T = sym (ap (flat_map line_text) (tree-lines T tree) ∙ item_text (items_of T)) in
-    let nest : Nest Document start (item_events (items_of T)) = items-nest splits [] 0 (items_of T) [] false false (tree-fits T tree scoped) (tops.1, omega (arith, tops.0)) in
+    let nest : Nest Document start (item_events (items_of T)) = items-nest splits [] 0 (items_of T) [] false false (tree-fits [] T tree (none-around T scoped)) (tops.1, omega (arith, tops.0)) in
     let P : List ℕ → Type 0 = λ bytes. Gives Document bytes (item_events (items_of T)) in
     subst P spells (back.nested Document (item_events (items_of T)) nest (items-end (items_of T) tops.0))
 
 pub comes-back : (T : Table) → IsTree T → QNamesSplit → WrittenIsReadBack → InScope T → is_document T ≡ true → ComesBack T
 comes-back T tree splits back scoped is =
     let gives = text-gives T tree scoped is splits back in
-    let fit = tree-fits T tree scoped in
+    let fit = tree-fits [] T tree (none-around T scoped) in
     let none : NoFault begin (item_events (items_of T)) = items-none splits (items_of T) false [] 1 fit (tree-nodes T tree) in
     let P : List Event → Type 0 = λ events. NoFault begin events in
     let bare-none : NoFault begin (bare (events_of Document (tree_text T))) = subst P (sym gives.events_are) none in
@@ -109,12 +117,16 @@ comes-back T tree splits back scoped is =
     }
 
 -- namespaces follow from the lines without them
-tree-resolved : (T : Table) → IsTree T → InScope T → resolved ([] ∷ []) (map unscoped (lines T)) ≡ lines T
-tree-resolved T tree scoped =
-    let whole : resolved ([] ∷ []) (map unscoped (item_lines (items_of T)) ++ []) ≡ item_lines (items_of T) ++ [] = items-resolved [] [] 0 false (items_of T) [] (tree-fits T tree scoped) in
-    ap (λ (l : List Line). resolved ([] ∷ []) (map unscoped l)) (tree-lines T tree)
-    ∙ ap (resolved ([] ∷ [])) (sym (append-nil (map unscoped (item_lines (items_of T)))))
+tree-resolved : (around : List Decl) (T : Table) → IsTree T → PieceInScope around T → resolved (around ∷ []) (map unscoped (lines T)) ≡ lines T
+tree-resolved around T tree scoped =
+    let whole : resolved (around ∷ []) (map unscoped (item_lines (items_of T)) ++ []) ≡ item_lines (items_of T) ++ [] = items-resolved around [] 0 false (items_of T) [] (tree-fits around T tree scoped) in
+    ap (λ (l : List Line). resolved (around ∷ []) (map unscoped l)) (tree-lines T tree)
+    ∙ ap (resolved (around ∷ [])) (sym (append-nil (map unscoped (item_lines (items_of T)))))
     ∙ whole ∙ append-nil (item_lines (items_of T)) ∙ sym (tree-lines T tree)
 
+-- also where declarations are in scope around both
+pub follow-within : (around : List Decl) (T U : Table) → IsTree T → IsTree U → PieceInScope around T → PieceInScope around U → map unscoped (lines T) ≡ map unscoped (lines U) → lines T ≡ lines U
+follow-within around T U one other in_one in_other same = sym (tree-resolved around T one in_one) ∙ ap (resolved (around ∷ [])) same ∙ tree-resolved around U other in_other
+
 pub follow : (T U : Table) → IsTree T → IsTree U → InScope T → InScope U → map unscoped (lines T) ≡ map unscoped (lines U) → lines T ≡ lines U
-follow T U one other in_one in_other same = sym (tree-resolved T one in_one) ∙ ap (resolved ([] ∷ [])) same ∙ tree-resolved U other in_other
+follow T U one other in_one in_other same = follow-within [] T U one other (none-around T in_one) (none-around U in_other) same

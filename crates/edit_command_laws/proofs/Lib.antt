@@ -1,0 +1,5 @@
+mod OnePiece
+mod OneEdit
+mod PieceSizes
+mod PieceDepths
+mod TreesKept

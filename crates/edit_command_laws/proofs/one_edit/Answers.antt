@@ -1,0 +1,6 @@
+-- The node and the piece are one, and so is what is made of them.
+use Rattle.edit_command_laws.proofs.OneEdit.{one-edit}
+use Rattle.edit_command_laws.proofs.one_edit.Goals as goal
+
+pub returns : goal.returns
+returns c = one-edit c.laws_from_order.ensures c.one_table.ensures

@@ -1,0 +1,2 @@
+pub mod OneEdit
+pub mod TreesKept

@@ -1,0 +1,30 @@
+//! What holds of the commands of edit scripts: a command makes one tree, and a document stays one.
+#![tactic(auto)]
+
+ghost use Rattle.edit_command_laws.specs.OneEdit.{OneEdit};
+ghost use Rattle.edit_command_laws.specs.TreesKept.{EditsKeepTrees};
+
+use doc_edits::{
+    additions_keep_trees, deletions_keep_trees, edits_keep_documents, removals_keep_trees,
+    sayings_keep_trees,
+};
+use doc_tree::{laws_from_order, one_table};
+
+/// A command makes one tree of a table: what it says decides all of it, the numbers of new nodes too.
+pub fn one_edit()
+    ensures { OneEdit }
+{
+    laws_from_order();
+    one_table();
+}
+
+/// An accepted command makes a tree of a tree, and a document of a document.
+pub fn edits_keep_trees()
+    ensures { EditsKeepTrees }
+{
+    sayings_keep_trees();
+    removals_keep_trees();
+    deletions_keep_trees();
+    additions_keep_trees();
+    edits_keep_documents();
+}
