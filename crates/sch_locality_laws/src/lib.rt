@@ -1,8 +1,11 @@
 //! Locality of units: what a let in force gives, and a node under a pattern, depends on what it reads, and on nothing else.
 #![tactic(auto)]
 
-ghost use Rattle.sch_locality_laws.specs.Locality.{GivenLetsAreLocal, OwnLetsAreLocal};
+ghost use Rattle.std.specs.Prelude.{◌<◌, length};
+ghost use Rattle.sch_compiled.specs.Soundness.{IsCounted};
+ghost use Rattle.sch_locality_laws.specs.Locality.{GivenLetsAreLocal, OwnLetsAreLocal, RulesTyped};
 
+use sch_compiled::Plan;
 use xp_locality_laws::evaluations_are_local;
 use xslt_locality_laws::matches_are_local;
 
@@ -18,4 +21,16 @@ pub fn units_are_local()
 {
     evaluations_are_local();
     matches_are_local();
+}
+
+/// The contexts of the rules of an active pattern, counted from 0, are well typed: what the laws on pairs ask of a plan's
+/// rules. Costs a look at each rule.
+pub fn rules_are_typed(plan: &Plan, p: u32)
+    requires counted { IsCounted plan.now }
+    requires active { p < length plan.now.patterns }
+    ensures { RulesTyped plan.now p }
+{
+    for r in 0..plan.rule_count(p) {
+        let _paths = plan.rule(p, r).context.paths();
+    }
 }
