@@ -1,0 +1,3 @@
+mod SameLemmas
+mod CleanLemmas
+mod BeforeLemmas

@@ -1,0 +1,5 @@
+pub mod SameOutcome
+pub mod Units
+pub mod Dirty
+pub mod Costs
+pub mod Laws
