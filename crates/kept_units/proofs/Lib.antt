@@ -1,0 +1,11 @@
+pub mod ReadLemmas
+pub mod ListLemmas
+pub mod RaisedLemmas
+pub mod LetLemmas
+pub mod PairLemmas
+pub mod KeepLemmas
+pub mod Sets
+pub mod MarkingLemmas
+pub mod CountingLemmas
+pub mod Searches
+pub mod ScanningLemmas

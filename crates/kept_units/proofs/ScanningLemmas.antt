@@ -1,0 +1,113 @@
+-- What the loops over patterns and nodes keep.
+use Rattle.std.proofs.Common.{◌≡◌, ◌∙◌, ℕ, ◌+◌, ◌<◌, ◌≤◌, ◌==◌, zero, suc, Bool, true, false, ◌||◌, List, length, drop, slice_index_or, Option, None, Some, refl, sym, ap, subst, arith}
+use Rattle.std.proofs.lemmas.Bool.{eqb-true, false≢true}
+use Rattle.std.proofs.lemmas.List.FromFn.{get_or-range_with_len, length-range_with_len}
+use Rattle.std.specs.List.{list_any, range_with_len}
+use Rattle.std.specs.Option.{option_or}
+use Rattle.doc_tree.specs.Laws.{Ordered}
+use Rattle.doc_tree.specs.Lists.{mem}
+use Rattle.doc_tree.specs.Table.{Table}
+use Rattle.doc_tree.specs.Walks.{order}
+use Rattle.sch_compiled.specs.declared.plan.Plan.{Plan}
+use Rattle.sch_compiled.specs.declared.state_fault.StateFault.{StateFault}
+use Rattle.sch_compiled.specs.Findings.{outcome_at}
+use Rattle.sch_units.specs.Units.{lets_of}
+use Rattle.sch_units.specs.Validity.{finds, first_fault, first_let_fault, first_node_fault, first_with, has_finding, pair_fault, pair_outcome, pattern_numbers}
+use Rattle.kept_units.specs.declared.kept_units.KeptUnits.{KeptUnits}
+use Rattle.kept_units.specs.declared.scanning.Evaluated.TheVariants.{Whole, Faulted}
+use Rattle.kept_units.specs.Evaluated.{Evaluates}
+use Rattle.kept_units.specs.Keeping.{Keeps, fresh}
+use Rattle.kept_units.specs.inner.Scanning.{came_to, fault_of_node, fault_of_nodes, kept_outcome, node_finds, nodes_find, patterns_came_to}
+use Rattle.kept_units.proofs.Searches.{any_alike, found_all, found_on, with_alike, with_here, with_on, with_past}
+
+-- Nodes and patterns
+
+-- the items before a place have no fault; those from there on decide the rest
+pub record ScannedTo {X : Type 0} (fault : X → Option StateFault) (found : X → Bool) (xs : List X) (i : ℕ) (any : Bool) : Type 0 where
+  pub first : first_with fault (drop i xs) ≡ first_with fault xs
+  pub any_is : (any || list_any found (drop i xs)) ≡ list_any found xs
+
+-- what an item came to
+fault_told : (fault : Option StateFault) (found any : Bool) → came_to fault found ≡ Whole any → (fault ≡ None) × (any ≡ found)
+fault_told None found any is = (refl, let e : any ≡ found = cc in e)
+fault_told (Some f) found any is = absurd (cc)
+
+fault_is : (fault : Option StateFault) (found : Bool) (f : StateFault) → came_to fault found ≡ Faulted f → fault ≡ Some f
+fault_is None found f is = absurd (cc)
+fault_is (Some g) found f is = let e : g ≡ f = cc in ap Some e
+
+module _ {X : Type 0} (fault : X → Option StateFault) (found : X → Bool) (xs : List X) where
+  -- one item more, without a fault
+  pub scan_goes_on : (i : ℕ) (x d : X) (was now finds : Bool) → i < length xs → x ≡ slice_index_or xs i d → came_to (fault x) (found x) ≡ Whole finds → now ≡ (was || finds) →
+      ScannedTo fault found xs i was → ScannedTo fault found xs (i + 1) now
+  scan_goes_on i x d was now finds within is came now_is so_far =
+      let told = fault_told (fault x) (found x) finds came in
+      record {
+        first = with_on fault xs i x d (first_with fault xs) within (sym is) told.0 so_far.first;
+        any_is = found_on found xs i x d was now (list_any found xs) within (sym is) (now_is ∙ ap (λ (b : Bool). was || b) told.1) so_far.any_is;
+      }
+
+  -- an item with a fault ends the scan
+  pub scan_stops : (i : ℕ) (x d : X) (was : Bool) (f : StateFault) → i < length xs → x ≡ slice_index_or xs i d → came_to (fault x) (found x) ≡ Faulted f →
+      ScannedTo fault found xs i was → Faulted f ≡ came_to (first_with fault xs) (list_any found xs)
+  scan_stops i x d was f within is came so_far =
+      ap (λ o. came_to o (list_any found xs)) (with_here fault xs i x d f (first_with fault xs) within (sym is) (fault_is (fault x) (found x) f came) so_far.first)
+
+  -- past the end all is known
+  pub scan_ends : (i : ℕ) (any : Bool) → length xs ≤ i → ScannedTo fault found xs i any → Whole any ≡ came_to (first_with fault xs) (list_any found xs)
+  scan_ends i any past so_far =
+      ap Whole (found_all found xs i any (list_any found xs) past so_far.any_is)
+      ∙ ap (λ o. came_to o (list_any found xs)) (with_past fault xs i (first_with fault xs) past so_far.first)
+
+-- the number of a pattern stands at its place
+pub number_at : (count p : ℕ) → p < count → p ≡ slice_index_or (range_with_len 0 count) p 0
+number_at count p within = sym (get_or-range_with_len 0 count p 0 within ∙ (let e : 0 + p ≡ p = omega arith in e))
+
+pub number_within : (count p : ℕ) → p < count → p < length (range_with_len 0 count)
+number_within count p within = omega (arith, within, length-range_with_len 0 count)
+
+pub numbers_past : (count p : ℕ) → count ≤ p → length (range_with_len 0 count) ≤ p
+numbers_past count p past = omega (arith, past, length-range_with_len 0 count)
+
+-- a number that stands among those in a row is below their end
+number_below : (from count p : ℕ) → mem p (range_with_len from count) ≡ true → p < from + count
+number_below from zero p there = absurd (false≢true there)
+number_below from (suc count) p there = by (p == from) refl there (number_below (from + 1) count p)
+  where
+    by : (b : Bool) → (p == from) ≡ b → (b || mem p (range_with_len (from + 1) count)) ≡ true → (mem p (range_with_len (from + 1) count) ≡ true → p < (from + 1) + count) → p < from + suc count
+    by true same there rest = omega (arith, eqb-true p from same)
+    by false other there rest = omega (arith, rest there)
+
+-- The whole
+
+-- what the outcomes that are kept say is what the plan says
+pub all_scanned : (plan : Plan) (T : Table) (kept : KeptUnits) → Ordered T → Keeps plan T (Some (fresh T)) kept → first_let_fault 0 kept.lets ≡ None →
+    Evaluates plan T (patterns_came_to kept.found (order T) (length plan.patterns))
+all_scanned plan T kept ordered keeps none =
+    subst (Evaluates plan T) (ap (λ o. came_to o (finds plan T)) (sym under_patterns) ∙ ap (came_to (first_with (fault_of_nodes kept.found (order T)) (pattern_numbers plan))) (sym all_found)) told
+  where
+    outcome_is : (p n : ℕ) → mem p (pattern_numbers plan) ≡ true → mem n (order T) ≡ true → kept_outcome (outcome_at kept.found p n) ≡ pair_outcome plan T p n
+    outcome_is p n active there =
+        let lives = ordered.live_in_order n ∙ there in
+        ap kept_outcome (keeps.known.outcomes p n (omega (arith, number_below 0 (length plan.patterns) p active)) lives lives)
+
+    under_patterns : first_with (fault_of_nodes kept.found (order T)) (pattern_numbers plan) ≡ first_with (first_node_fault plan T) (pattern_numbers plan)
+    under_patterns = with_alike (fault_of_nodes kept.found (order T)) (first_node_fault plan T) (pattern_numbers plan) (λ p active.
+        with_alike (fault_of_node kept.found p) (λ n. pair_fault p n (pair_outcome plan T p n)) (order T) (λ n there. ap (pair_fault p n) (outcome_is p n active there)))
+
+    all_found : list_any (nodes_find kept.found (order T)) (pattern_numbers plan) ≡ finds plan T
+    all_found = any_alike (nodes_find kept.found (order T)) (λ p. list_any (λ n. has_finding (pair_outcome plan T p n)) (order T)) (pattern_numbers plan) (λ p active.
+        any_alike (node_finds kept.found p) (λ n. has_finding (pair_outcome plan T p n)) (order T) (λ n there. ap has_finding (outcome_is p n active there)))
+
+    no_let : first_let_fault 0 (lets_of plan T) ≡ None
+    no_let = sym (ap (first_let_fault 0) keeps.known.lets) ∙ none
+
+    whole : first_fault plan T ≡ first_with (first_node_fault plan T) (pattern_numbers plan)
+    whole = ap (λ o. option_or o (first_with (first_node_fault plan T) (pattern_numbers plan))) no_let
+
+    told : Evaluates plan T (came_to (first_with (first_node_fault plan T) (pattern_numbers plan)) (finds plan T))
+    told = by (first_with (first_node_fault plan T) (pattern_numbers plan)) refl
+      where
+        by : (o : Option StateFault) → first_with (first_node_fault plan T) (pattern_numbers plan) ≡ o → Evaluates plan T (came_to o (finds plan T))
+        by None is = (whole ∙ is, refl)
+        by (Some f) is = whole ∙ is
