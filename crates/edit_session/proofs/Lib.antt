@@ -1,3 +1,6 @@
-pub mod EvaluationLemmas
+pub mod SearchLemmas
 pub mod StateLemmas
 pub mod PairLemmas
+pub mod CountLemmas
+pub mod UnitLemmas
+pub mod KeptLemmas

@@ -35,9 +35,9 @@ use Rattle.edit_session.specs.declared.state.Shown.{Shown}
 use Rattle.edit_session.specs.declared.state.Shown.TheVariants as shown
 use Rattle.edit_session.specs.State.{report_of, shown_by, shows, state_text, text_by}
 use Rattle.edit_session.specs.Wrote.{WroteState}
-use Rattle.edit_session.specs.inner.Evaluated.{Holds, StandsFor}
+use Rattle.edit_session.specs.inner.Evaluated.{Holds}
 use Rattle.edit_session.specs.inner.Shown.{ShownAs, shown_of}
-use Rattle.edit_session.proofs.EvaluationLemmas.{mem_item, or_right, with_none, with_some}
+use Rattle.edit_session.proofs.SearchLemmas.{mem_item, or_right, with_none, with_some}
 
 -- The report
 
@@ -161,11 +161,11 @@ wrote_state old new plan T text written showing result reported shows_as same sa
 
 -- the report that was written is the state
 pub whole_wrote : (plan : Plan) (T : Table) (found : OutcomeTable) (any : Bool) (old new : SinkLog) (written : Result (Unit {0}) OutError) (result : Result Shown ReportError) →
-    first_fault plan T ≡ None → StandsFor plan T found any → Reported old new (report plan T (outcome_at found)) written → ShownAs written (shown_of any) result → WroteState old new plan T result
-whole_wrote plan T found any old new written result none stands reported shows_as =
+    first_fault plan T ≡ None → any ≡ finds plan T → Holds plan T found → Reported old new (report plan T (outcome_at found)) written → ShownAs written (shown_of any) result → WroteState old new plan T result
+whole_wrote plan T found any old new written result none any_is holds reported shows_as =
     wrote_state old new plan T (report plan T (outcome_at found)) written (shown_of any) result reported shows_as
-    (ap (text_by plan T) none ∙ report_same plan T found stands.holds)
-    (ap shown_of stands.any_is ∙ shows_found (finds plan T) ∙ sym (ap (shown_by plan T) none))
+    (ap (text_by plan T) none ∙ report_same plan T found holds)
+    (ap shown_of any_is ∙ shows_found (finds plan T) ∙ sym (ap (shown_by plan T) none))
 
 -- and so is the line of the first fault
 pub fault_wrote : (plan : Plan) (T : Table) (fault : StateFault) (old new : SinkLog) (written : Result (Unit {0}) OutError) (result : Result Shown ReportError) →

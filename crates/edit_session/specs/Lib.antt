@@ -2,4 +2,5 @@ pub mod State
 pub mod Pairs
 pub mod Standing
 pub mod Wrote
+pub mod Laws
 pub mod inner

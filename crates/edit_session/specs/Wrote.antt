@@ -22,3 +22,9 @@ pub record WroteState (old new : SinkLog) (plan : Plan) (T : Table) (result : Re
   pub counted : new.faults ≡ faults_of_state result old.faults
   pub grown : MatchResult result (λ shown. (shown ≡ shows plan T) × Appends old.written new.written (state_text plan T))
       (λ _. (done left : List ℕ) × (state_text plan T ≡ done ++ left) × Appends old.written new.written done)
+
+-- what holds of a report that didn't end for want of memory
+abbrev pub UnlessMemory : Result Shown ReportError → Type 0 → Type 0
+UnlessMemory (Ok shown) P = P
+UnlessMemory (Err Failed) P = P
+UnlessMemory (Err Memory) P = Unit {0}

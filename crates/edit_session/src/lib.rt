@@ -1,14 +1,15 @@
 //! A document under a plan, as an editor has it: it is edited by commands, and its state is written at any time.
 #![tactic(auto)]
 
-mod evaluation;
+mod kept;
 mod laws;
 mod pairs;
+mod past;
 mod refusal;
 mod session;
 mod state;
 
-pub use laws::pair_cap_is_for_pairs;
+pub use laws::{pair_cap_is_for_pairs, stale_after_edit};
 pub use refusal::OpenRefusal;
 pub use session::Session;
 pub use state::{ReportError, Shown};

@@ -1,39 +1,49 @@
 //! The session of an editor.
 
-ghost use Rattle.std.specs.Prelude.{◌≡◌, ◌≤◌, true, false, None, IfErr, IfOk, OnErr, OnOk};
+ghost use Rattle.std.specs.Prelude.{◌≡◌, ◌≤◌, true, false, length, None, IfErr, IfOk, OnErr, OnOk};
 ghost use Rattle.doc_tree.specs.Kinds.{is_document};
-ghost use Rattle.sch_compiled.specs.Soundness.{IsCounted};
+ghost use Rattle.doc_edit_laws.specs.Along.{Edit};
 ghost use Rattle.name_scopes.specs.Scoping.{InScope};
 ghost use Rattle.edit_script.specs.WellFormed.{WellFormedCommand};
 ghost use Rattle.edit_commands.specs.Commands.{IsEdited, RefusesCommand, command_refusal};
+ghost use Rattle.edit_commands.specs.Touched.{touched_by};
+ghost use Rattle.sch_compiled.specs.Soundness.{IsSound};
+ghost use Rattle.edit_costs.specs.Costs.{Raised};
+ghost use Rattle.edit_costs.specs.Dirty.{stale_units, units_to_run};
 ghost use Rattle.edit_session.specs.Pairs.{has_too_many_pairs, pair_cap_for};
-ghost use Rattle.edit_session.specs.Standing.{RefusesOpening, stale_units};
-ghost use Rattle.edit_session.specs.Wrote.{WroteState};
+ghost use Rattle.edit_session.specs.Standing.{RefusesOpening, done_more, evaluated_over, since_of};
+ghost use Rattle.edit_session.specs.Wrote.{UnlessMemory, WroteState};
 
-use crate::evaluation::{Evaluated, evaluate};
+use crate::kept::{mark, refreshed};
 use crate::pairs::{has_too_many_pairs, pair_cap_for, units_over};
+use crate::past::Remembered;
 use crate::refusal::OpenRefusal;
-use crate::state::{ReportError, Shown, write_evaluated};
+use crate::state::{ReportError, Shown, write_units};
 use doc_tree::Tree;
 use edit_commands::{ApplyError, apply_to};
 use edit_script::Command;
+use kept_units::KeptUnits;
 use sch_compiled::Plan;
 use sch_io::Sink;
 use std::alloc::{AllocError, Global};
 use std::marker::Model;
+use std::mem::replace;
 use std::sync::ledger::Ledger;
 use xp_outcome::Steps;
 
 /// A document under a plan, which commands edit and whose state is written at any time.
 ///
-/// Contracts see the plan, the tree, and whether what was evaluated is stale: after an edit all is evaluated anew.
+/// Its units are the lets in force, and the live nodes under each active pattern. What each gave and read is kept, so that after an
+/// edit those alone are evaluated anew that read what it touched. Contracts see the plan, the tree, and what was done since all
+/// units were last evaluated.
 #[derive(Drop)]
 pub struct Session {
     alloc: Global,
     plan: Plan,
     tree: Tree,
-    /// What the evaluation of the document came to; None where it is stale.
-    evaluated: Option<Evaluated>,
+    /// What the units gave and read; None where they were not evaluated yet.
+    kept: Option<KeptUnits>,
+    remembered: Remembered,
 }
 
 impl Model for Session {
@@ -58,8 +68,8 @@ impl Session {
     /// nodes.
     pub fn open(alloc: Global, plan: Plan, tree: Tree) -> Result<Session, OpenRefusal>
         requires document { is_document tree.nodes ≡ true }
-        requires counted { IsCounted plan }
-        ensures opened { IfOk result (λ session. session ≡ record { plan = plan; tree = record tree { pair_cap = pair_cap_for plan }; stale = true }) }
+        requires sound { IsSound plan }
+        ensures opened { IfOk result (λ session. session ≡ record { plan = plan; tree = record tree { pair_cap = pair_cap_for plan }; past = None }) }
         ensures within { OnOk result (has_too_many_pairs plan tree.nodes ≡ false) }
         ensures refused { IfErr result (RefusesOpening plan tree.nodes) }
     {
@@ -72,7 +82,8 @@ impl Session {
             alloc,
             plan,
             tree,
-            evaluated: None,
+            kept: None,
+            remembered: Remembered::nothing(),
         })
     }
 
@@ -83,52 +94,66 @@ impl Session {
         &self.tree
     }
 
-    /// How many units are to be evaluated anew: lets in force, and pairs of an active pattern and a live node.
+    /// How many units are stale: those that were not evaluated yet, and those that read what an edit has touched since.
+    ///
+    /// Looks at each of them.
     pub fn stale_count(&self) -> u64
-        ensures { result ≡ stale_units self.now }
+        ensures { result ≡ length (stale_units self.now.plan (since_of self.now.past) self.now.tree.nodes) }
     {
-        match self.evaluated {
-            Some(_) => 0,
+        match &self.kept {
+            Some(kept) => kept.stale_count(&self.plan, &self.tree),
             None => units_over(&self.plan, &self.tree),
         }
     }
 
-    /// Does a command of an edit script on the document, after which all is to be evaluated anew.
+    /// Does a command of an edit script on the document, and marks the units that it touches as stale.
     ///
-    /// A refused command changes nothing, and one that finds no memory leaves the nodes as they were. Costs what the edit of the
-    /// tree costs.
+    /// A refused command changes nothing, and one that finds no memory leaves the nodes as they were; marking takes none. Costs what
+    /// the edit of the tree costs, and a look at each cell that a unit has read.
     pub fn apply(&mut self, command: &Command) -> Result<(), ApplyError>
         requires formed { WellFormedCommand command.now }
         ensures within { OnOk result (command_refusal self.old.tree command.now ≡ None) }
         ensures edited { OnOk result (IsEdited self.old.tree.nodes command.now self.new.tree.nodes) }
-        ensures stale { OnOk result (self.new.stale ≡ true) }
+        ensures edit { OnOk result (Edit self.old.tree.nodes self.new.tree.nodes (touched_by self.old.tree.nodes command.now)) }
+        ensures marked { OnOk result (self.new.past ≡ done_more self.old.past self.old.tree.nodes command.now) }
         ensures scope { InScope self.old.tree.nodes → InScope self.new.tree.nodes }
         ensures refused { IfErr result (RefusesCommand self.old.tree command.now) }
-        ensures unchanged { OnErr result ((self.new.tree.nodes ≡ self.old.tree.nodes) × (self.new.stale ≡ self.old.stale)) }
+        ensures unchanged { OnErr result ((self.new.tree.nodes ≡ self.old.tree.nodes) × (self.new.past ≡ self.old.past)) }
         ensures plan { self.new.plan ≡ self.old.plan }
         ensures cap { self.new.tree.pair_cap ≡ self.old.tree.pair_cap }
     {
-        apply_to(self.alloc, &mut self.tree, command)?;
-        self.evaluated = None;
-        Ok(())
-    }
-
-    /// Evaluates what is stale; where nothing is, no step is taken.
-    ///
-    /// The time and the memory grow with the active patterns times the nodes. After want of memory all is stale as before.
-    pub fn refresh<L: Ledger>(&mut self, steps: &mut Steps<L>) -> Result<(), AllocError>
-        ensures fresh { OnOk result (self.new ≡ record self.old { stale = false }) }
-        ensures unchanged { OnErr result (self.new ≡ self.old) }
-        ensures steps { steps.old ≤ steps.new }
-        ensures idle { self.old.stale ≡ false → steps.new ≡ steps.old }
-    {
-        if self.evaluated.is_none() {
-            self.evaluated = Some(evaluate(self.alloc, &self.plan, &self.tree, steps)?);
+        self.tree.shows_forest();
+        let after = self.remembered.with(&self.tree, command);
+        match apply_to(self.alloc, &mut self.tree, command) {
+            Ok(touched) => {
+                mark(&mut self.kept, &self.tree, &touched);
+                self.remembered = after;
+                Ok(())
+            }
+            Err(error) => Err(error),
         }
+    }
+
+    /// Evaluates the stale units, and those that read a let whose outcome has changed; all units, where they were not evaluated yet.
+    ///
+    /// Costs the visits of these units, and a look at all of them; the memory grows with the active patterns times the nodes. After
+    /// want of memory all is evaluated anew the next time.
+    pub fn refresh<L: Ledger>(&mut self, steps: &mut Steps<L>) -> Result<(), AllocError>
+        ensures fresh { OnOk result (self.new ≡ record self.old { past = evaluated_over self.old.tree.nodes }) }
+        ensures forgotten { OnErr result (self.new ≡ record self.old { past = None }) }
+        ensures raised { OnOk result (Raised self.old.plan self.old.tree.nodes
+            (units_to_run self.old.plan (since_of self.old.past) self.old.tree.nodes) steps.old steps.new) }
+        ensures steps { steps.old ≤ steps.new }
+    {
+        let kept = self.kept.take();
+        let past = replace(&mut self.remembered, Remembered::nothing());
+        let units = refreshed(self.alloc, kept, &past, &self.plan, &self.tree, steps)?;
+        self.kept = Some(units);
+        self.remembered = Remembered::evaluated(&self.tree);
         Ok(())
     }
 
-    /// Evaluates what is stale, and writes the state: the report, or the line of the first fault; answers what it shows.
+    /// Evaluates what `refresh` does, and writes the state: the report, or the line of the first fault; answers what it shows.
     ///
     /// After an error a front of it was written.
     pub fn report<O: Sink, L: Ledger>(
@@ -139,20 +164,22 @@ impl Session {
         ensures wrote { WroteState (O.log sink.old) (O.log sink.new) self.old.plan self.old.tree.nodes result }
         ensures tree { self.new.tree ≡ self.old.tree }
         ensures plan { self.new.plan ≡ self.old.plan }
-        ensures fresh { OnOk result (self.new.stale ≡ false) }
+        ensures fresh { UnlessMemory result (self.new.past ≡ evaluated_over self.old.tree.nodes) }
+        ensures raised { UnlessMemory result (Raised self.old.plan self.old.tree.nodes
+            (units_to_run self.old.plan (since_of self.old.past) self.old.tree.nodes) steps.old steps.new) }
         ensures steps { steps.old ≤ steps.new }
     {
         self.refresh(steps)?;
         self.write_kept(sink)
     }
 
-    /// Writes the state of the document, which was evaluated; answers what it shows.
+    /// Writes the state of the document, whose units were evaluated; answers what it shows.
     fn write_kept<O: Sink>(&self, sink: &mut O) -> Result<Shown, ReportError>
-        requires { self.now.stale ≡ false }
+        requires { self.now.past ≡ evaluated_over self.now.tree.nodes }
         ensures { WroteState (O.log sink.old) (O.log sink.new) self.now.plan self.now.tree.nodes result }
     {
-        match &self.evaluated {
-            Some(evaluated) => write_evaluated(self.alloc, &self.plan, &self.tree, evaluated, sink),
+        match &self.kept {
+            Some(kept) => write_units(self.alloc, &self.plan, &self.tree, kept, sink),
             None => unreachable!(),
         }
     }

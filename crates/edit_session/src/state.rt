@@ -1,14 +1,17 @@
 //! The state of an evaluated document, written: the report, or the line of the first fault.
 
-ghost use Rattle.std.specs.Prelude.{◌≡◌};
+ghost use Rattle.std.specs.Prelude.{◌≡◌, Some};
+ghost use Rattle.sch_compiled.specs.Soundness.{IsCounted};
+ghost use Rattle.kept_units.specs.Evaluated.{Evaluates};
+ghost use Rattle.kept_units.specs.Keeping.{Keeps, fresh};
 ghost use Rattle.edit_session.specs.declared.state.ReportError.TheVariants as errors;
 ghost use Rattle.edit_session.specs.Wrote.{WroteState};
-ghost use Rattle.edit_session.specs.inner.Evaluated.{Evaluates};
+ghost use Rattle.edit_session.specs.inner.Evaluated.{Holds};
 ghost use Rattle.edit_session.specs.inner.Shown.{ShownAs, shown_of};
 
-use crate::evaluation::Evaluated;
 use doc_tree::Tree;
-use sch_compiled::Plan;
+use kept_units::{Evaluated, KeptUnits};
+use sch_compiled::{Findings, Plan};
 use sch_io::Sink;
 use sch_units::{first_match_fires, lets_stand_in_order};
 use std::alloc::{AllocError, Global};
@@ -44,27 +47,46 @@ impl From<AllocError> for ReportError {
     }
 }
 
-/// Writes the state of an evaluated document; answers what it shows.
-pub(crate) fn write_evaluated<O: Sink>(
+/// Writes the state of a document whose units were evaluated, none of which is stale; answers what it shows.
+pub(crate) fn write_units<O: Sink>(
     alloc: Global,
     plan: &Plan,
     tree: &Tree,
-    evaluated: &Evaluated,
+    kept: &KeptUnits,
     out: &mut O,
 ) -> Result<Shown, ReportError>
-    requires { Evaluates plan.now tree.now.nodes evaluated.now }
+    requires counted { IsCounted plan.now }
+    requires fresh { Keeps plan.now tree.now.nodes (Some (fresh tree.now.nodes)) kept.now }
+    ensures { WroteState (O.log out.old) (O.log out.new) plan.now tree.now.nodes result }
+{
+    tree.laws();
+    let evaluated = kept.evaluated(alloc, plan, tree)?;
+    write_evaluated(alloc, plan, tree, kept.found(), evaluated, out)
+}
+
+/// Writes the state of a document by what its units came to; answers what it shows.
+fn write_evaluated<O: Sink>(
+    alloc: Global,
+    plan: &Plan,
+    tree: &Tree,
+    found: &Findings,
+    evaluated: Evaluated,
+    out: &mut O,
+) -> Result<Shown, ReportError>
+    requires evaluated { Evaluates plan.now tree.now.nodes evaluated }
+    requires found { Holds plan.now tree.now.nodes found.now }
     ensures { WroteState (O.log out.old) (O.log out.new) plan.now tree.now.nodes result }
 {
     tree.laws();
     first_match_fires();
     lets_stand_in_order();
     match evaluated {
-        Evaluated::Whole { found, finds } => {
+        Evaluated::Whole { finds } => {
             let written = write_report(alloc, plan, tree, found, out);
-            end_of(written, shown_of(*finds))
+            end_of(written, shown_of(finds))
         }
         Evaluated::Faulted(fault) => {
-            let written = write_fault(alloc, plan, tree, fault, out);
+            let written = write_fault(alloc, plan, tree, &fault, out);
             end_of(written, Shown::Fault)
         }
     }

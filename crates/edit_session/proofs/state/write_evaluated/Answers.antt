@@ -4,22 +4,22 @@ use Rattle.edit_session.proofs.state.write_evaluated.Goals as goal
 
 pub write_report-written-requires : goal.write_report-written-requires
 write_report-written-requires g c =
-    let whole = rw c.in-Whole.is at c.requires in
-    reportable c.args.plan.now c.args.tree.now.nodes _ c.first_match_fires.ensures c.laws.ensures.ordered whole.0 whole.1.holds
+    let whole = rw c.in-Whole.is at c.requires.evaluated in
+    reportable c.args.plan.now c.args.tree.now.nodes _ c.first_match_fires.ensures c.laws.ensures.ordered whole.0 c.requires.found
 
 pub write_fault-written-requires : goal.write_fault-written-requires
 write_fault-written-requires g c =
-    let first = rw c.in-Faulted.is at c.requires in
+    let first = rw c.in-Faulted.is at c.requires.evaluated in
     fault_is_of c.args.plan.now c.args.tree.now.nodes _ c.lets_stand_in_order.ensures c.laws.ensures.ordered first
 
 pub returns-in-Whole : goal.returns-in-Whole
 returns-in-Whole g c =
-    let whole = rw c.in-Whole.is at c.requires in
-    whole_wrote c.args.plan.now c.args.tree.now.nodes c.in-Whole.found c.in-Whole.finds _ _ c.write_report-written.result c.end_of.result whole.0 whole.1
+    let whole = rw c.in-Whole.is at c.requires.evaluated in
+    whole_wrote c.args.plan.now c.args.tree.now.nodes c.args.found.now c.in-Whole.finds _ _ c.write_report-written.result c.end_of.result whole.0 whole.1 c.requires.found
     c.write_report-written.ensures (rw c.shown_of.ensures at c.end_of.ensures)
 
 pub returns-in-Faulted : goal.returns-in-Faulted
 returns-in-Faulted g c =
-    let first = rw c.in-Faulted.is at c.requires in
+    let first = rw c.in-Faulted.is at c.requires.evaluated in
     fault_wrote c.args.plan.now c.args.tree.now.nodes c.in-Faulted.fault _ _ c.write_fault-written.result c.end_of-in-Faulted.result first
     c.write_fault-written.ensures c.end_of-in-Faulted.ensures

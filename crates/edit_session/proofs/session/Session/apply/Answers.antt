@@ -1,13 +1,26 @@
--- The tree under way is that of the session.
-use Rattle.std.proofs.Common.{ap, subst, sym}
+-- The tree under way is that of the session, and the command is one more since the units were evaluated.
+use Rattle.std.proofs.Common.{◌∙◌, Option, ap, subst, sym}
 use Rattle.name_scopes.specs.Scoping.{InScope}
-use Rattle.edit_session.specs.Standing.{Standing}
+use Rattle.edit_session.specs.Standing.{Past, Standing}
+use Rattle.edit_session.specs.inner.Kept.{AreKept}
 use Rattle.edit_session.proofs.session.Session.apply.Goals as goal
 
-pub returns-in_err-apply_to-clause-scope : goal.returns-in_err-apply_to-clause-scope
-returns-in_err-apply_to-clause-scope c = λ scope.
-    c.in_err-apply_to.ensures.scope (subst InScope (sym (ap (λ (session : Standing). session.tree.nodes) c.self.view_is)) scope)
+pub invariant_of-self : goal.invariant_of-self
+invariant_of-self c =
+    let before = c.self.inside in
+    let kept = c.mark.ensures before.plan before.tree.nodes before.remembered.past c.args.command.now c.shows_forest.ensures c.in-Ok.ensures.edit
+    c.in-Ok.ensures.touched c.self.invariant.kept in
+    record {
+      sound = c.self.invariant.sound;
+      document = c.in-Ok.ensures.document;
+      cap = c.in-Ok.ensures.cap ∙ c.self.invariant.cap;
+      kept = subst (λ (past : Option Past). AreKept before.plan c.apply_to.new.tree.nodes past c.mark.new.kept) (sym c.with-after.ensures) kept;
+    }
 
-pub returns-clause-scope : goal.returns-clause-scope
-returns-clause-scope c = λ scope.
-    c.in_ok-apply_to.ensures.scope (subst InScope (sym (ap (λ (session : Standing). session.tree.nodes) c.self.view_is)) scope)
+pub returns-in-Err-clause-scope : goal.returns-in-Err-clause-scope
+returns-in-Err-clause-scope c = λ scope.
+    c.in-Err.ensures.scope (subst InScope (sym (ap (λ (session : Standing). session.tree.nodes) c.self.view_is)) scope)
+
+pub returns-in-Ok-clause-scope : goal.returns-in-Ok-clause-scope
+returns-in-Ok-clause-scope c = λ scope.
+    c.in-Ok.ensures.scope (subst InScope (sym (ap (λ (session : Standing). session.tree.nodes) c.self.view_is)) scope)

@@ -6,8 +6,8 @@ use Rattle.edit_session.proofs.session.Session.open.Goals as goal
 
 pub invariant_of-result : goal.invariant_of-result
 invariant_of-result c = record {
-  counted = c.requires.counted;
+  sound = c.requires.sound;
   document = ap (λ (tree : Contents). is_document tree.nodes) c.set_pair_cap.ensures ∙ c.requires.document;
   cap = ap (λ (tree : Contents). tree.pair_cap) c.set_pair_cap.ensures ∙ c.pair_cap_for.ensures;
-  kept = tt;
+  kept = c.nothing.ensures;
 }

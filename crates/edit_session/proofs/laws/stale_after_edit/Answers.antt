@@ -1,0 +1,5 @@
+use Rattle.edit_session.proofs.UnitLemmas.{stale-after}
+use Rattle.edit_session.proofs.laws.stale_after_edit.Goals as goal
+
+pub returns : goal.returns
+returns c = stale-after c.edits_leave_the_rest.ensures
