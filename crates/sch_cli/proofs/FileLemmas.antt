@@ -1,6 +1,7 @@
 -- The files of a run: what comes of reading them, which are opened, and what is counted.
-use Rattle.std.proofs.Common.{◌∙◌, ◌≡◌, ℕ, ◌≤◌, inr, length, Bool, true, false, List, [], ◌∷◌, ◌++◌, IfErr, IfSome, Option, None, Some, Result, Ok, Err, refl, ap, sym, subst}
+use Rattle.std.proofs.Common.{◌∙◌, ◌≡◌, ℕ, ◌<◌, ◌≤◌, inl, inr, length, Bool, true, false, List, [], ◌∷◌, ◌++◌, IfErr, IfOk, IfSome, OnOk, Option, None, Some, Result, Ok, Err, refl, ap, sym, subst}
 use Rattle.std.specs.FinMap.{get}
+use Rattle.std.proofs.lemmas.Bool.{le-ltb, lt-ltb}
 use Rattle.sch_io.specs.Files.{Files}
 use Rattle.sch_io.specs.declared.reading.TheConstants.{MAX_FILE_BYTES}
 use Rattle.sch_io.specs.ShelfState.{ShelfState}
@@ -8,6 +9,7 @@ use Rattle.pyx_core.specs.declared.mode.Mode.TheVariants.{Document}
 use Rattle.pyx_core.specs.Nesting.{bare}
 use Rattle.pyx_core.specs.Reading.{events_of}
 use Rattle.doc_tree.specs.Table.{Contents, Table}
+use Rattle.edit_script.specs.declared.limits.TheConstants.{MAX_SCRIPT_BYTES}
 use Rattle.name_scopes.specs.DocFaults.{doc_fault}
 use Rattle.name_scopes.specs.ScopedTree.{Scoped}
 use Rattle.name_scopes.specs.declared.fault.DocFault.{DocFault}
@@ -19,14 +21,19 @@ use Rattle.sch_include.specs.declared.fault.IncludeKind.TheVariants as kind
 use Rattle.sch_include.specs.Ends.{IsRead, faults_with, is_of_file, misses_with}
 use Rattle.sch_include.specs.Included.{Including}
 use Rattle.sch_include.specs.Taking.{fault_of}
+use Rattle.sch_compiled.specs.declared.plan.Plan.{Plan}
+use Rattle.edit_session.specs.Pairs.{pair_cap_for}
+use Rattle.edit_session.specs.Standing.{Standing}
 use Rattle.sch_cli.specs.declared.status.Status.TheVariants as status
 use Rattle.sch_cli.specs.declared.refusal.FileRefusal.TheVariants.{TooLarge, Faulted}
+use Rattle.sch_cli.specs.declared.refusal.ScriptRefusal.TheVariants as script
 use Rattle.sch_cli.specs.declared.stop.Stop.{Stop}
-use Rattle.sch_cli.specs.CommandOutput.{IsReadFor}
+use Rattle.sch_cli.specs.declared.stop.Stop.TheVariants.{Memory}
+use Rattle.sch_cli.specs.CommandOutput.{IsReadBy, IsReadFor, Treed}
 use Rattle.sch_cli.specs.Output.{Output}
 use Rattle.sch_cli.specs.Runs.{counted_if, is_status}
-use Rattle.sch_cli.specs.Stages.{Inclusion, Loading, Then, loaded, not_read, not_there, refused_document}
-use Rattle.sch_cli.specs.inner.Stops.{ByCause, Gives, IsInner, IsMissing, IsRead as IsFileRead, ReadsSchema, name_in, status_of, stop_of}
+use Rattle.sch_cli.specs.Stages.{Inclusion, Loading, Planning, Scripting, Then, Treeing, loaded, not_read, not_there, refused_document, refused_script, script_bytes, stop_if}
+use Rattle.sch_cli.specs.inner.Stops.{ByCause, Gives, IsInner, IsMissing, IsRead as IsFileRead, Opening, ReadsSchema, name_in, status_of, stop_of}
 use Rattle.sch_cli.proofs.EndLemmas.{by_cause, first_stops, if_none, second_stops}
 
 -- The file of a schema with its includes
@@ -198,3 +205,63 @@ pub document_faulted : (files : Files) (name : List ℕ) (found : Option (List �
 document_faulted files name found bytes slice fault is same read faulty =
     let held : (get files name ≡ Some bytes) × (length bytes ≤ MAX_FILE_BYTES) = subst (IsFileRead files name) is read in
     not_read bytes held.0 (Faulted fault) (held.1, subst (λ (b : List ℕ). doc_fault b ≡ Some fault) same faulty)
+
+-- The file of a script
+
+-- a script that isn't there is not read
+pub script_missing : {A : Type 0} (goes : A → Type 0) (files : Files) (name : List ℕ) (result : Result A Stop) (stop : Stop) → result ≡ Err stop →
+    ByCause (IsMissing files name) (λ unread. unread ≡ name) ⊥ (Unit {0}) stop →
+    Gives goes (λ output. Scripting files name (Err output)) (λ unread. unread ≡ name) result
+script_missing {A = A} goes files name result stop is missing = subst (λ (r : Result A Stop). Gives goes (λ output. Scripting files name (Err output)) (λ unread. unread ≡ name) r) (sym is)
+    (by_cause (IsMissing files name) (λ output. Scripting files name (Err output)) (λ unread. unread ≡ name) (λ unread. unread ≡ name) ⊥ ⊥ (Unit {0}) (Unit {0})
+    (λ stop missing. ap (λ (output : Output). let no_bytes : Result (List ℕ) Output = Err output in no_bytes) missing.says ∙ ap (script_bytes name) (sym missing.none)) (λ unread is. is) (λ w. w) (λ m. m) stop missing)
+
+-- one that has too many bytes is refused
+pub script_too_large : (files : Files) (name : List ℕ) (found : Option (List ℕ)) → found ≡ None → IsFileRead files name found → Scripting files name (Err (refused_script script.TooLarge))
+script_too_large files name found none read =
+    let held : (bytes : List ℕ) × (get files name ≡ Some bytes) × (MAX_FILE_BYTES < length bytes) = subst (IsFileRead files name) none read in
+    ap (λ (large : Bool). stop_if large (refused_script script.TooLarge) held.0) (sym (lt-ltb MAX_SCRIPT_BYTES (length held.0) held.2)) ∙ ap (script_bytes name) (sym held.1)
+
+-- and the bytes of any other are read
+pub script_read : (files : Files) (name : List ℕ) (found : Option (List ℕ)) (bytes : List ℕ) → found ≡ Some bytes → IsFileRead files name found → Scripting files name (Ok bytes)
+script_read files name found bytes is read =
+    let held : (get files name ≡ Some bytes) × (length bytes ≤ MAX_FILE_BYTES) = subst (IsFileRead files name) is read in
+    ap (λ (large : Bool). stop_if large (refused_script script.TooLarge) bytes) (sym (le-ltb MAX_SCRIPT_BYTES (length bytes) held.1)) ∙ ap (script_bytes name) (sym held.0)
+
+-- A document under a plan
+
+-- memory ran out before
+pub memory_gives : {A : Type 0} (goes : A → Type 0) (stops : Output → Type 0) (unread : List ℕ → Type 0) (result : Result A Stop) (stop : Stop) → result ≡ Err stop → stop ≡ Memory → Gives goes stops unread result
+memory_gives {A = A} goes stops unread result stop is memory = subst (λ (r : Result A Stop). Gives goes stops unread r) (sym (is ∙ ap Err memory)) tt
+
+module _ (files : Files) (phase schema document : List ℕ) where
+  -- the phase of the schema has no plan
+  pub opening_first : {A : Type 0} (goes : A → Type 0) (result : Result A Stop) (stop : Stop) → result ≡ Err stop →
+      ByCause (λ output. Planning files phase schema (Err output)) (IsReadFor files schema) ⊥ (Unit {0}) stop →
+      Gives goes (λ output. Opening files phase schema document (Err output)) (IsReadBy files phase schema document) result
+  opening_first {A = A} goes result stop is stops =
+      subst (λ (r : Result A Stop). Gives goes (λ output. Opening files phase schema document (Err output)) (IsReadBy files phase schema document) r) (sym is)
+      (first_stops (Planning files phase schema) (λ plan. Treeing files plan document) (IsReadFor files schema) (IsReadBy files phase schema document) (λ name comes. inl comes) stop stops)
+
+  -- and else the document is a tree under it, or is not
+  pub opening_second : (plan : Plan) → Planning files phase schema (Ok plan) → (result : Result Standing Stop) → IfOk result (λ session. session.plan ≡ plan) →
+      Gives (λ session. Treeing files plan document (Ok session.tree.nodes)) (λ output. Treeing files plan document (Err output)) (λ unread. unread ≡ document) result →
+      Gives (λ session. Treed files phase schema document session.plan session.tree.nodes) (λ output. Opening files phase schema document (Err output)) (IsReadBy files phase schema document) result
+  opening_second plan planned (Ok session) is gives = record {
+    planned = subst (λ (p : Plan). Planning files phase schema (Ok p)) (sym is) planned;
+    treed = subst (λ (p : Plan). Treeing files p document (Ok session.tree.nodes)) (sym is) gives;
+  }
+  opening_second plan planned (Err stop) is gives =
+      second_stops (Planning files phase schema) (λ plan. Treeing files plan document) plan planned (λ unread. unread ≡ document) (IsReadBy files phase schema document)
+      (λ name same. inr (same, (plan, planned))) stop gives
+
+-- the document has the pair cap of its plan
+pub cap_under : (plan : Plan) (result : Result Standing Stop) → IfOk result (λ session. session.plan ≡ plan) → IfOk result (λ session. session.tree.pair_cap ≡ pair_cap_for plan) →
+    IfOk result (λ session. session.tree.pair_cap ≡ pair_cap_for session.plan)
+cap_under plan (Ok session) is cap = cap ∙ ap pair_cap_for (sym is)
+cap_under plan (Err stop) is cap = tt
+
+-- what holds at any rate holds of an answer
+pub on_ok : {A : Type 0} (P : Type 0) (result : Result A Stop) → P → OnOk result P
+on_ok P (Ok value) holds = holds
+on_ok P (Err stop) holds = tt

@@ -3,7 +3,6 @@ pub mod EndLemmas
 pub mod EventLemmas
 pub mod FileLemmas
 pub mod OpenLemmas
+pub mod FollowLemmas
 pub mod RunLemmas
-pub mod EvaluationLemmas
-pub mod StateLemmas
 pub mod OneOutput

@@ -1,10 +1,17 @@
 -- The words and the files decide the output: at each stage one thing alone may come of it.
-use Rattle.std.proofs.Common.{◌≡◌, ℕ, List, Option, None, Some, Result, Ok, Err, refl, sym, ap, ◌∙◌, subst, ⊎_elim, arith}
+use Rattle.std.proofs.Common.{◌≡◌, ℕ, ◌+◌, List, [], ◌∷◌, ◌++◌, Option, None, Some, Result, Ok, Err, refl, sym, ap, ◌∙◌, subst, ⊎_elim, arith}
+use Rattle.std.specs.FinMap.{get}
 use Rattle.sch_io.specs.Files.{Files}
 use Rattle.pyx_core.specs.declared.mode.Mode.TheVariants.{Document}
 use Rattle.pyx_core.specs.Nesting.{bare}
 use Rattle.pyx_core.specs.Reading.{events_of}
 use Rattle.doc_tree.specs.Table.{Table}
+use Rattle.doc_tree.specs.declared.refusal.EditRefusal.{EditRefusal}
+use Rattle.edit_script.specs.Script.{Script, nothing, onto, script_of, stops}
+use Rattle.edit_script.specs.declared.command.Command.{Command as EditCommand}
+use Rattle.edit_script.specs.declared.fault.ScriptFault.{ScriptFault}
+use Rattle.edit_commands.specs.Commands.{IsEdited, command_refusal}
+use Rattle.edit_command_laws.specs.OneEdit.{OneEdit}
 use Rattle.sch_include.specs.declared.fault.IncludeFault.{IncludeFault}
 use Rattle.sch_include.specs.declared.fault.IncludeKind.{IncludeKind}
 use Rattle.sch_include.specs.declared.fault.IncludeKind.TheVariants.{Failed}
@@ -19,13 +26,20 @@ use Rattle.sch_abstract.specs.FirstFault.{first_fault}
 use Rattle.sch_abstract.specs.Flat.{flat_schema}
 use Rattle.sch_compiled.specs.declared.plan.Plan.{Plan}
 use Rattle.sch_plan.specs.OnePlan.{OnePlan}
+use Rattle.edit_session.specs.Pairs.{has_too_many_pairs}
+use Rattle.edit_session.specs.State.{shows, state_text}
+use Rattle.edit_session.specs.declared.state.Shown.{Shown}
 use Rattle.sch_cli.specs.declared.refusal.FileRefusal.{FileRefusal}
 use Rattle.sch_cli.specs.declared.refusal.FileRefusal.TheVariants.{TooLarge, Faulted}
-use Rattle.sch_cli.specs.Commands.{Command, expand, validate, command_of}
+use Rattle.sch_cli.specs.declared.refusal.ScriptRefusal.TheVariants as script
+use Rattle.sch_cli.specs.declared.status.Status.TheVariants.{ScriptRefused}
+use Rattle.sch_cli.specs.Refusals.{script_refused_line}
+use Rattle.sch_cli.specs.Commands.{Command, expand, validate, follow, command_of}
 use Rattle.sch_cli.specs.CommandOutput.{IsEnd, IsOutput, IsOutputOf}
 use Rattle.sch_cli.specs.Documents.{IsDocument, IsRefused}
-use Rattle.sch_cli.specs.Output.{Output, expanded, state}
-use Rattle.sch_cli.specs.Stages.{Compiling, Expanding, Expansion, Flattening, Inclusion, Is, Loading, Planning, Reading, Then, Treeing, Validating, has_too_many_pairs, loaded, not_read, not_there, refused_document, refused_include, refused_rule, stop_at, stop_if, too_many_pairs}
+use Rattle.sch_cli.specs.Following.{Follows, comes_to_end, edit_line, edits, refused_line, refuses, stops_at, then_shown, under}
+use Rattle.sch_cli.specs.Output.{Output, expanded, in_front, state, stopped}
+use Rattle.sch_cli.specs.Stages.{Compiling, Expanding, Expansion, Flattening, Following, Inclusion, Is, Loading, Planning, Reading, Scripting, Stating, Then, Treeing, Validating, loaded, not_read, not_there, refused_document, refused_include, refused_rule, script_bytes, stop_at, stop_if, too_many_pairs}
 
 -- one thing alone may come of a stage
 abbrev pub Single : {A : Type 0} → (Result A Output → Type 0) → Type 0
@@ -82,7 +96,74 @@ not-failed kind name output is failed = let none : refused_include kind name ≡
 pub one-stop : {A F : Type 0} (fault : Option F) (output : F → Output) (value : A) → Single (Is (stop_at fault output value))
 one-stop fault output value = one-is (stop_at fault output value)
 
-module _ (one_tree : OneTree) (one_inclusion : OneInclusion) (one_plan : OnePlan) (files : Files) where
+-- a script is at its end, or has a fault, or a command comes first
+ends-or-stops : (fault : ScriptFault) → nothing ≡ stops fault → ⊥
+ends-or-stops fault same = let faults : None ≡ Some fault = ap (λ (s : Script). s.fault) same in cc
+
+ends-or-goes : (command : EditCommand) (rest : Script) → nothing ≡ onto command rest → ⊥
+ends-or-goes command rest same = let commands : [] ≡ command ∷ rest.commands = ap (λ (s : Script). s.commands) same in cc
+
+stops-or-goes : (fault : ScriptFault) (command : EditCommand) (rest : Script) → stops fault ≡ onto command rest → ⊥
+stops-or-goes fault command rest same = let commands : [] ≡ command ∷ rest.commands = ap (λ (s : Script). s.commands) same in cc
+
+fault-same : (fault other : ScriptFault) → stops fault ≡ stops other → fault ≡ other
+fault-same fault other same = let faults : Some fault ≡ Some other = ap (λ (s : Script). s.fault) same in cc
+
+command-same : (command other : EditCommand) (rest more : Script) → onto command rest ≡ onto other more → (command ≡ other) × (rest ≡ more)
+command-same command other rest more same =
+    let commands : command ∷ rest.commands ≡ other ∷ more.commands = ap (λ (s : Script). s.commands) same in
+    let first : command ≡ other = cc in
+    let others : rest.commands ≡ more.commands = cc in
+    let faults : rest.fault ≡ more.fault = ap (λ (s : Script). s.fault) same in
+    (first, ap (λ (cs : List EditCommand). record { commands = cs; fault = rest.fault }) others ∙ ap (λ (f : Option ScriptFault). record { commands = more.commands; fault = f }) faults)
+
+refused-same : {o : Option EditRefusal} {a b : EditRefusal} → o ≡ Some a → o ≡ Some b → a ≡ b
+refused-same p q = cc
+
+refused-or-none : {o : Option EditRefusal} {a : EditRefusal} → o ≡ Some a → o ≡ None → ⊥
+refused-or-none p q = cc
+
+-- what follows from a place is one output
+module _ (one_edit : OneEdit) (plan : Plan) where
+  one-follows : (T : Table) (n : ℕ) (seen : Shown) (script other : Script) (a b : Output) → script ≡ other → Follows plan T n seen script a → Follows plan T n seen other b → a ≡ b
+  one-follows T n seen _ _ _ _ same (comes_to_end _ _ _) (comes_to_end _ _ _) = refl
+  one-follows T n seen _ _ _ _ same (comes_to_end _ _ _) (stops_at _ _ _ fault) = absurd (ends-or-stops fault same)
+  one-follows T n seen _ _ _ _ same (comes_to_end _ _ _) (refuses _ _ _ command reason rest output some follows) = absurd (ends-or-goes command rest same)
+  one-follows T n seen _ _ _ _ same (comes_to_end _ _ _) (edits _ U _ _ command rest output none makes follows) = absurd (ends-or-goes command rest same)
+  one-follows T n seen _ _ _ _ same (stops_at _ _ _ fault) (comes_to_end _ _ _) = absurd (ends-or-stops fault (sym same))
+  one-follows T n seen _ _ _ _ same (stops_at _ _ _ fault) (stops_at _ _ _ found) = ap (λ (f : ScriptFault). stopped ScriptRefused (script_refused_line (script.Faulted f))) (fault-same fault found same)
+  one-follows T n seen _ _ _ _ same (stops_at _ _ _ fault) (refuses _ _ _ command reason rest output some follows) = absurd (stops-or-goes fault command rest same)
+  one-follows T n seen _ _ _ _ same (stops_at _ _ _ fault) (edits _ U _ _ command rest output none makes follows) = absurd (stops-or-goes fault command rest same)
+  one-follows T n seen _ _ _ _ same (refuses _ _ _ command reason rest output some follows) (comes_to_end _ _ _) = absurd (ends-or-goes command rest (sym same))
+  one-follows T n seen _ _ _ _ same (refuses _ _ _ command reason rest output some follows) (stops_at _ _ _ fault) = absurd (stops-or-goes fault command rest (sym same))
+  one-follows T n seen _ _ _ _ same (refuses _ _ _ command reason rest output some follows) (refuses _ _ _ other cause more written so goes) =
+      let at = command-same command other rest more same in
+      let reasons : reason ≡ cause = refused-same some (ap (command_refusal (under plan T)) at.0 ∙ so) in
+      ap (λ (r : EditRefusal). in_front (refused_line n r) output) reasons
+      ∙ ap (in_front (refused_line n cause)) (one-follows T (n + 1) seen rest more output written at.1 follows goes)
+  one-follows T n seen _ _ _ _ same (refuses _ _ _ command reason rest output some follows) (edits _ V _ _ other more written none makes goes) =
+      let at = command-same command other rest more same in
+      absurd (refused-or-none some (ap (command_refusal (under plan T)) at.0 ∙ none))
+  one-follows T n seen _ _ _ _ same (edits _ U _ _ command rest output none makes follows) (comes_to_end _ _ _) = absurd (ends-or-goes command rest (sym same))
+  one-follows T n seen _ _ _ _ same (edits _ U _ _ command rest output none makes follows) (stops_at _ _ _ fault) = absurd (stops-or-goes fault command rest (sym same))
+  one-follows T n seen _ _ _ _ same (edits _ U _ _ command rest output none makes follows) (refuses _ _ _ other cause more written so goes) =
+      let at = command-same command other rest more same in
+      absurd (refused-or-none (ap (command_refusal (under plan T)) at.0 ∙ so) none)
+  one-follows T n seen _ _ _ _ same (edits _ U _ _ command rest output none makes follows) (edits _ V _ _ other more written empty made goes) =
+      let at = command-same command other rest more same in
+      let trees : V ≡ U = sym (one_edit T U V command makes (subst (λ (c : EditCommand). IsEdited T c V) (sym at.0) made)) in
+      ap (in_front (edit_line n ++ state_text plan U))
+      (one-follows U (n + 1) (then_shown seen (shows plan U)) rest more output written at.1 follows (subst (λ (X : Table). Follows plan X (n + 1) (then_shown seen (shows plan X)) more written) trees goes))
+      ∙ ap (λ (X : Table). in_front (edit_line n ++ state_text plan X) written) (sym trees)
+
+  pub one-stating : (T : Table) (bytes : List ℕ) → Single (Stating plan T bytes)
+  one-stating T bytes (Ok a) (Ok b) p q =
+      ap (λ (output : Output). Ok output) (p.2 ∙ ap (in_front (state_text plan T)) (one-follows T 1 (shows plan T) (script_of bytes) (script_of bytes) p.0 q.0 refl p.1 q.1) ∙ sym q.2)
+  one-stating T bytes (Ok a) (Err b) p q = absurd q
+  one-stating T bytes (Err a) (Ok b) p q = absurd p
+  one-stating T bytes (Err a) (Err b) p q = absurd p
+
+module _ (one_tree : OneTree) (one_inclusion : OneInclusion) (one_plan : OnePlan) (one_edit : OneEdit) (files : Files) where
   one-loading : (name : List ℕ) → Single (Loading files name)
   one-loading name _ _ (not_there absent) (not_there again) = refl
   one-loading name _ _ (not_there absent) (not_read bytes held refusal is) = absurd (cc)
@@ -142,6 +223,11 @@ module _ (one_tree : OneTree) (one_inclusion : OneInclusion) (one_plan : OnePlan
   one-validating phase schema document = one-then (Planning files phase schema) (λ plan. Then (Treeing files plan document) (λ T. Is (Ok (state plan T))))
       (one-planning phase schema) (λ plan. one-then (Treeing files plan document) (λ T. Is (Ok (state plan T))) (one-treeing plan document) (λ T. one-is (Ok (state plan T))))
 
+  pub one-following : (phase schema document script : List ℕ) → Single (Following files phase schema document script)
+  one-following phase schema document script = one-then (Planning files phase schema) (λ plan. Then (Treeing files plan document) (λ T. Then (Scripting files script) (Stating plan T)))
+      (one-planning phase schema) (λ plan. one-then (Treeing files plan document) (λ T. Then (Scripting files script) (Stating plan T))
+      (one-treeing plan document) (λ T. one-then (Scripting files script) (Stating plan T) (one-is (script_bytes script (get files script))) (one-stating one_edit plan T)))
+
   pub one-expansion : (schema : List ℕ) → Single (Expansion files schema)
   one-expansion schema = one-then (Expanding files schema) (λ flat. Is (Ok (expanded flat))) (one-expanding schema) (λ flat. one-is (Ok (expanded flat)))
 
@@ -166,3 +252,4 @@ module _ (one_tree : OneTree) (one_inclusion : OneInclusion) (one_plan : OnePlan
       by None p q = p ∙ sym q
       by (Some (expand schema)) p q = one-end (Expansion files schema) (one-expansion schema) a b p q
       by (Some (validate phase schema document)) p q = one-end (Validating files phase schema document) (one-validating phase schema document) a b p q
+      by (Some (follow phase schema document script)) p q = one-end (Following files phase schema document script) (one-following phase schema document script) a b p q

@@ -4,37 +4,55 @@ use Rattle.std.specs.Str.{bytes_eq}
 use Rattle.sch_cli.specs.declared.command.Command.{Command as Borrowed}
 use Rattle.sch_cli.specs.declared.command.Command.TheVariants as borrowed
 
--- what accepted words ask for: to expand a schema, or to validate by a phase and a schema a document
+-- what accepted words ask for: to expand a schema, to validate by a phase and a schema a document, or to do the same after each
+-- command of an edit script
 pub data Command : Type 0 where
   expand : List ℕ → Command
   validate : List ℕ → List ℕ → List ℕ → Command
+  follow : List ℕ → List ℕ → List ℕ → List ℕ → Command
 
 -- a file's name is not empty and does not begin with `-`
 abbrev pub is_file_name : List ℕ → Bool
 is_file_name [] = false
 is_file_name (b ∷ bytes) = not (b == 45)
 
-abbrev pub is_validate_of_phase : List ℕ → List ℕ → List ℕ → Bool
-is_validate_of_phase verb option phase =
-    bytes_eq verb (codes "validate") && bytes_eq option (codes "--phase") && not (length phase == 0)
+-- the phase that an option names is not empty
+abbrev pub is_of_phase : List ℕ → List ℕ → Bool
+is_of_phase option phase = bytes_eq option (codes "--phase") && not (length phase == 0)
 
 -- the phase where none is named: the one that the schema chooses
 abbrev pub default_phase : List ℕ
 default_phase = codes "#DEFAULT"
 
--- `expand S`, `validate S D`, `validate --phase P S D`, where P is not empty; no other words are accepted
+-- `expand S`
+abbrev pub expansion_of : List ℕ → List ℕ → Option Command
+expansion_of verb schema = if bytes_eq verb (codes "expand") && is_file_name schema then Some (expand schema) else None
+
+-- `validate S D`, under a phase
+abbrev pub validation_of : List ℕ → List ℕ → List ℕ → List ℕ → Option Command
+validation_of verb phase schema document =
+    if bytes_eq verb (codes "validate") && is_file_name schema && is_file_name document then Some (validate phase schema document) else None
+
+-- `follow S D E`, under a phase
+abbrev pub following_of : List ℕ → List ℕ → List ℕ → List ℕ → List ℕ → Option Command
+following_of verb phase schema document script =
+    if bytes_eq verb (codes "follow") && is_file_name schema && is_file_name document && is_file_name script
+    then Some (follow phase schema document script) else None
+
+-- `expand S`, `validate S D`, `validate --phase P S D`, `follow S D E`, `follow --phase P S D E`, where P is not empty; no other
+-- words are accepted
 abbrev pub command_of : List (List ℕ) → Option Command
-command_of (verb ∷ schema ∷ []) =
-    if bytes_eq verb (codes "expand") && is_file_name schema then Some (expand schema) else None
-command_of (verb ∷ schema ∷ document ∷ []) =
-    if bytes_eq verb (codes "validate") && is_file_name schema && is_file_name document
-    then Some (validate default_phase schema document) else None
+command_of (verb ∷ schema ∷ []) = expansion_of verb schema
+command_of (verb ∷ schema ∷ document ∷ []) = validation_of verb default_phase schema document
+command_of (verb ∷ schema ∷ document ∷ script ∷ []) = following_of verb default_phase schema document script
 command_of (verb ∷ option ∷ phase ∷ schema ∷ document ∷ []) =
-    if is_validate_of_phase verb option phase && is_file_name schema && is_file_name document
-    then Some (validate phase schema document) else None
+    if is_of_phase option phase then validation_of verb phase schema document else None
+command_of (verb ∷ option ∷ phase ∷ schema ∷ document ∷ script ∷ []) =
+    if is_of_phase option phase then following_of verb phase schema document script else None
 command_of words = None
 
 -- what the program's own type of command says
 abbrev pub shown : Borrowed → Command
 shown (borrowed.Expand schema) = expand schema.now
 shown (borrowed.Validate asked) = validate asked.phase.now asked.schema.now asked.document.now
+shown (borrowed.Follow asked) = follow asked.validation.phase.now asked.validation.schema.now asked.validation.document.now asked.script.now

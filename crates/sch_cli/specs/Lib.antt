@@ -2,6 +2,7 @@ pub mod Commands
 pub mod Documents
 pub mod Refusals
 pub mod Output
+pub mod Following
 pub mod Stages
 pub mod CommandOutput
 pub mod OneOutput

@@ -1,15 +1,14 @@
 -- What a run gives: the bytes for the output, the line for the error output, and the status.
-use Rattle.std.specs.Prelude.{ℕ, List, [], ◌++◌, codes, Option, None, Some, if◌then◌else◌}
+use Rattle.std.specs.Prelude.{ℕ, List, [], ◌++◌, codes}
 use Rattle.pyx_core.specs.Escapes.{escaped}
 use Rattle.pyx_core.specs.Written.{text_of}
 use Rattle.doc_tree.specs.Table.{Table}
 use Rattle.sch_model.specs.declared.flat.FlatSchema.{FlatSchema}
 use Rattle.sch_flat.specs.FlatDocument.{flat_events}
-use Rattle.sch_compiled.specs.declared.state_fault.StateFault.{StateFault}
 use Rattle.sch_compiled.specs.declared.plan.Plan.{Plan}
-use Rattle.sch_units.specs.Validity.{finds, first_fault, pair_outcome}
-use Rattle.svrl_out.specs.Report.{report}
-use Rattle.svrl_out.specs.FaultLine.{fault_line}
+use Rattle.edit_session.specs.State.{shows, state_text}
+use Rattle.edit_session.specs.declared.state.Shown.{Shown}
+use Rattle.edit_session.specs.declared.state.Shown.TheVariants as shown
 use Rattle.sch_cli.specs.declared.status.Status.{Status}
 use Rattle.sch_cli.specs.declared.status.Status.TheVariants.{Clean, Findings, Faulted}
 
@@ -18,7 +17,7 @@ pub record Output : Type 0 where
   pub err : List ℕ
   pub ends : Status
 
--- a run that writes no report
+-- a run that is stopped, and of which no more is written
 abbrev pub stopped : Status → List ℕ → Output
 stopped status line = record { out = []; err = line; ends = status }
 
@@ -41,19 +40,30 @@ write_fault_line = codes "sch: write fault\n"
 abbrev pub memory_line : List ℕ
 memory_line = codes "sch: out of memory\n"
 
+-- the status of a run that comes to its end, by what its states show
+abbrev pub status_shown : Shown → Status
+status_shown shown.Clean = Clean
+status_shown shown.Findings = Findings
+status_shown shown.Fault = Faulted
+
+-- and the line of the error output
+abbrev pub line_shown : Shown → List ℕ
+line_shown shown.Clean = []
+line_shown shown.Findings = []
+line_shown shown.Fault = faulted_line
+
+-- a run that comes to its end with a text
+abbrev pub ended : List ℕ → Shown → Output
+ended text last = record { out = text; err = line_shown last; ends = status_shown last }
+
+-- a text in front of what else is written
+abbrev pub in_front : List ℕ → Output → Output
+in_front text output = record { out = text ++ output.out; err = output.err; ends = output.ends }
+
 -- a schema without abstract parts, as the text of its document
 abbrev pub expanded : FlatSchema → Output
 expanded flat = record { out = text_of (flat_events flat); err = []; ends = Clean }
 
--- the report of a tree by a plan, from the outcome of each node under each active pattern
-abbrev pub report_of : Plan → Table → List ℕ
-report_of plan T = report plan T (λ p n. Some (pair_outcome plan T p n))
-
--- a run that comes to its end: the line of the first fault, where there is one, and else the report
-abbrev pub stated : Plan → Table → Option StateFault → Output
-stated plan T (Some fault) = record { out = fault_line plan T fault; err = faulted_line; ends = Faulted }
-stated plan T None = record { out = report_of plan T; err = []; ends = if finds plan T then Findings else Clean }
-
 -- the state of a tree by a plan
 abbrev pub state : Plan → Table → Output
-state plan T = stated plan T (first_fault plan T)
+state plan T = ended (state_text plan T) (shows plan T)

@@ -1,4 +1,4 @@
--- The lines that tell why a schema or a document is refused.
+-- The lines that tell why a schema, a document or an edit script is refused.
 use Rattle.std.specs.Prelude.{ℕ, List, ◌++◌, Option, None, Some, codes}
 use Rattle.std.specs.Fmt.{decimal}
 use Rattle.pyx_core.specs.declared.fault.PyxKind.{PyxKind}
@@ -7,6 +7,9 @@ use Rattle.name_scopes.specs.declared.fault.DocKind.{DocKind}
 use Rattle.name_scopes.specs.declared.fault.DocKind.TheVariants.{Pyx, NoPrefix, SameAttribute, BadDeclaration, BothQuotes, TooManyNodes, TooDeep}
 use Rattle.name_scopes.specs.declared.fault.DocFault.{DocFault}
 use Rattle.pyx_core.specs.Escapes.{escaped}
+use Rattle.edit_script.specs.declared.fault.ScriptFault.{ScriptFault}
+use Rattle.edit_script.specs.declared.fault.ScriptKind.{ScriptKind}
+use Rattle.edit_script.specs.declared.fault.ScriptKind.TheVariants as script
 use Rattle.sch_include.specs.declared.fault.IncludeKind.{IncludeKind}
 use Rattle.sch_include.specs.declared.fault.IncludeKind.TheVariants as include
 use Rattle.sch_model.specs.declared.fault.SchemaFault.{SchemaFault}
@@ -14,6 +17,8 @@ use Rattle.sch_cli.specs.declared.refusal.FileRefusal.{FileRefusal}
 use Rattle.sch_cli.specs.declared.refusal.FileRefusal.TheVariants.{TooLarge, Faulted}
 use Rattle.sch_cli.specs.declared.refusal.DocumentRefusal.{DocumentRefusal}
 use Rattle.sch_cli.specs.declared.refusal.DocumentRefusal.TheVariants as document
+use Rattle.sch_cli.specs.declared.refusal.ScriptRefusal.{ScriptRefusal}
+use Rattle.sch_cli.specs.declared.refusal.ScriptRefusal.TheVariants as refused
 use Rattle.sch_cli.specs.declared.refusal.SchemaRefusal.{SchemaRefusal}
 use Rattle.sch_cli.specs.declared.refusal.SchemaRefusal.TheVariants as schema
 
@@ -58,6 +63,25 @@ document_file_line refusal = codes "sch: document refused: " ++ (reason_text ref
 abbrev pub document_refused_line : DocumentRefusal → List ℕ
 document_refused_line (document.File refusal) = document_file_line refusal
 document_refused_line document.TooManyPairs = codes "sch: document refused: TooManyPairs\n"
+
+-- the names of the rules that a command of a script can break
+abbrev pub script_words : ScriptKind → List ℕ
+script_words script.BadChar = codes "BadChar"
+script_words script.BadWord = codes "BadWord"
+script_words script.BadPath = codes "BadPath"
+script_words script.BadNumber = codes "BadNumber"
+script_words script.BadName = codes "BadName"
+script_words script.BadPayload = codes "BadPayload"
+
+-- the line of a script with a fault: the number of the line that has it, counted from 1, and the kind
+unfoldable pub script_fault_line : ScriptFault → List ℕ
+script_fault_line fault =
+    codes "sch: script refused: line " ++ (decimal fault.line ++ (codes " " ++ (script_words fault.kind ++ codes "\n")))
+
+-- the line of a refused script
+abbrev pub script_refused_line : ScriptRefusal → List ℕ
+script_refused_line refused.TooLarge = codes "sch: script refused: TooLarge\n"
+script_refused_line (refused.Faulted fault) = script_fault_line fault
 
 -- the line of a schema whose file is not read as a tree; the file's name has the escapes of PYX
 abbrev pub schema_file_line : List ℕ → FileRefusal → List ℕ

@@ -10,10 +10,11 @@ use Rattle.sch_cli.specs.declared.status.Status.{Status}
 use Rattle.sch_cli.specs.declared.status.Status.TheVariants.{Clean, Findings, Usage, SchemaRefused, DocumentRefused, ScriptRefused, Faulted, Missing, ReadFault, WriteFault, Memory}
 use Rattle.sch_cli.specs.declared.refusal.DocumentRefusal.{DocumentRefusal}
 use Rattle.sch_cli.specs.declared.refusal.SchemaRefusal.{SchemaRefusal}
-use Rattle.sch_cli.specs.Refusals.{document_refused_line, file_in, schema_refused_line}
-use Rattle.sch_cli.specs.Commands.{Command, expand, validate, command_of}
+use Rattle.sch_cli.specs.declared.refusal.ScriptRefusal.{ScriptRefusal}
+use Rattle.sch_cli.specs.Refusals.{document_refused_line, file_in, schema_refused_line, script_refused_line}
+use Rattle.sch_cli.specs.Commands.{Command, expand, validate, follow, command_of}
 use Rattle.sch_cli.specs.Output.{Output, usage_line, faulted_line, missing_line, read_fault_line, write_fault_line, memory_line}
-use Rattle.sch_cli.specs.CommandOutput.{ComesTo, IsOpenedBy, IsOutput, Opens}
+use Rattle.sch_cli.specs.CommandOutput.{AreWritten, ComesTo, IsOpenedBy, IsOutput, Opens}
 
 -- a front of the text was appended
 abbrev pub AppendsFront : Option (List ℕ) → Option (List ℕ) → List ℕ → Type 0
@@ -29,8 +30,8 @@ pub record OpensFiles (command : Option Command) (old new : List (List ℕ)) : T
   pub noted : new ≡ old ++ opened
   pub which : Opens command opened
 
--- over a shelf that tells its files these decide which are opened for a schema, and whether the document may be; memory may run out
--- before
+-- over a shelf that tells its files these decide which are opened for a schema, and whether the document and the script may be;
+-- memory may run out before
 pub record OpensDecided (command : Option Command) (files : Files) (old new : List (List ℕ)) : Type 0 where
   pub opened : List (List ℕ)
   pub noted : new ≡ old ++ opened
@@ -53,28 +54,13 @@ pub record Decided (is_output : Output → Type 0) (written told : List ℕ → 
   pub out : written output.out
   pub err : told output.err
 
--- whether a run that ends so came to its end
-abbrev pub comes_to_end : Status → Bool
-comes_to_end Clean = true
-comes_to_end Findings = true
-comes_to_end Usage = false
-comes_to_end SchemaRefused = false
-comes_to_end DocumentRefused = false
-comes_to_end ScriptRefused = false
-comes_to_end Faulted = true
-comes_to_end Missing = false
-comes_to_end ReadFault = false
-comes_to_end WriteFault = false
-comes_to_end Memory = false
-
--- a front was written of an output that may be and that comes to its end
-pub record Fronted (is_output : Output → Type 0) (written : List ℕ → Type 0) : Type 0 where
-  pub output : Output
-  pub may_be : is_output output
-  pub whole : comes_to_end output.ends ≡ true
+-- a front was written of a text that the run comes to write
+pub record Fronted (comes_to_write written : List ℕ → Type 0) : Type 0 where
+  pub text : List ℕ
+  pub comes : comes_to_write text
   pub done : List ℕ
   pub left : List ℕ
-  pub is_front : output.out ≡ done ++ left
+  pub is_front : text ≡ done ++ left
   pub out : written done
 
 -- a file to which the run comes was not read, and nothing was written
@@ -84,25 +70,26 @@ pub record Unread (comes_to : List ℕ → Type 0) (written told : List ℕ → 
   pub out : written []
   pub err : told (read_fault_line name)
 
--- what a status says of the bytes on the output and the line on the error output, by the outputs that may be and the
--- files to which the run comes
-abbrev pub EndsBy : (Output → Type 0) → (List ℕ → Type 0) → (List ℕ → Type 0) → (List ℕ → Type 0) → Status → Type 0
-EndsBy is_output comes_to written told Clean = Decided is_output written told Clean
-EndsBy is_output comes_to written told Findings = Decided is_output written told Findings
-EndsBy is_output comes_to written told Usage = Decided is_output written told Usage
-EndsBy is_output comes_to written told SchemaRefused = Decided is_output written told SchemaRefused
-EndsBy is_output comes_to written told DocumentRefused = Decided is_output written told DocumentRefused
-EndsBy is_output comes_to written told ScriptRefused = Decided is_output written told ScriptRefused
-EndsBy is_output comes_to written told Faulted = Decided is_output written told Faulted
-EndsBy is_output comes_to written told Missing = Decided is_output written told Missing
-EndsBy is_output comes_to written told ReadFault = Unread comes_to written told
-EndsBy is_output comes_to written told WriteFault = Fronted is_output written × told write_fault_line
-EndsBy is_output comes_to written told Memory = (written [] ⊎ Fronted is_output written) × told memory_line
+-- what a status says of the bytes on the output and the line on the error output, by the outputs that may be, the files to
+-- which the run comes, and the texts that it comes to write
+abbrev pub EndsBy : (Output → Type 0) → (List ℕ → Type 0) → (List ℕ → Type 0) → (List ℕ → Type 0) → (List ℕ → Type 0) → Status → Type 0
+EndsBy is_output comes_to comes_to_write written told Clean = Decided is_output written told Clean
+EndsBy is_output comes_to comes_to_write written told Findings = Decided is_output written told Findings
+EndsBy is_output comes_to comes_to_write written told Usage = Decided is_output written told Usage
+EndsBy is_output comes_to comes_to_write written told SchemaRefused = Decided is_output written told SchemaRefused
+EndsBy is_output comes_to comes_to_write written told DocumentRefused = Decided is_output written told DocumentRefused
+EndsBy is_output comes_to comes_to_write written told ScriptRefused = Decided is_output written told ScriptRefused
+EndsBy is_output comes_to comes_to_write written told Faulted = Decided is_output written told Faulted
+EndsBy is_output comes_to comes_to_write written told Missing = Decided is_output written told Missing
+EndsBy is_output comes_to comes_to_write written told ReadFault = Unread comes_to written told
+EndsBy is_output comes_to comes_to_write written told WriteFault = Fronted comes_to_write written × told write_fault_line
+EndsBy is_output comes_to comes_to_write written told Memory = (written [] ⊎ Fronted comes_to_write written) × told memory_line
 
 -- the same over a shelf that tells its files; one that tells none decides nothing
 abbrev pub Ends : Option Files → List (List ℕ) → (List ℕ → Type 0) → (List ℕ → Type 0) → Status → Type 0
 Ends None words written told status = Unit {0}
-Ends (Some files) words written told status = EndsBy (IsOutput words files) (ComesTo (command_of words) files) written told status
+Ends (Some files) words written told status =
+    EndsBy (IsOutput words files) (ComesTo (command_of words) files) (AreWritten (command_of words) files) written told status
 
 -- the line of a status; the file that it names is the one that was opened last
 abbrev pub IsLineOf : List (List ℕ) → List (List ℕ) → Status → List ℕ → Type 0
@@ -112,7 +99,7 @@ IsLineOf old new Usage line = line ≡ usage_line
 IsLineOf old new SchemaRefused line = (refusal : SchemaRefusal)
     × IfSome (file_in refusal) (λ name. IsLast name old new) × (line ≡ schema_refused_line refusal)
 IsLineOf old new DocumentRefused line = (refusal : DocumentRefusal) × (line ≡ document_refused_line refusal)
-IsLineOf old new ScriptRefused line = ⊥
+IsLineOf old new ScriptRefused line = (refusal : ScriptRefusal) × (line ≡ script_refused_line refusal)
 IsLineOf old new Faulted line = line ≡ faulted_line
 IsLineOf old new Missing line = (name : List ℕ) × IsLast name old new × (line ≡ missing_line name)
 IsLineOf old new ReadFault line = (name : List ℕ) × IsLast name old new × (line ≡ read_fault_line name)
@@ -134,7 +121,7 @@ may_write Findings = true
 may_write Usage = false
 may_write SchemaRefused = false
 may_write DocumentRefused = false
-may_write ScriptRefused = false
+may_write ScriptRefused = true
 may_write Faulted = true
 may_write Missing = false
 may_write ReadFault = false
@@ -146,3 +133,4 @@ abbrev pub may_evaluate : Option Command → Status → Bool
 may_evaluate None status = false
 may_evaluate (Some (expand schema)) status = false
 may_evaluate (Some (validate phase schema document)) status = may_write status
+may_evaluate (Some (follow phase schema document script)) status = may_write status

@@ -1,11 +1,11 @@
 -- The stages of a run in the order of the work: each goes on with a value, or stops the run with its output. The first stage that
 -- stops the run gives the output.
-use Rattle.std.specs.Prelude.{◌≡◌, ◌⊎◌, ℕ, ◌*◌, nat_lt, Bool, true, false, List, length, Option, None, Some, Result, Ok, Err}
+use Rattle.std.specs.Prelude.{◌≡◌, ◌⊎◌, ℕ, nat_lt, Bool, true, false, List, ◌++◌, length, Option, None, Some, Result, Ok, Err}
 use Rattle.std.specs.FinMap.{get}
 use Rattle.sch_io.specs.Files.{Files}
-use Rattle.sch_base.specs.declared.limits.TheConstants.{MAX_PAIRS}
 use Rattle.doc_tree.specs.Table.{Table}
-use Rattle.doc_tree.specs.Walks.{order}
+use Rattle.edit_script.specs.Script.{script_of}
+use Rattle.edit_script.specs.declared.limits.TheConstants.{MAX_SCRIPT_BYTES}
 use Rattle.sch_include.specs.declared.fault.IncludeFault.{IncludeFault}
 use Rattle.sch_include.specs.declared.fault.IncludeKind.{IncludeKind}
 use Rattle.sch_include.specs.declared.fault.IncludeKind.TheVariants as kind
@@ -20,13 +20,18 @@ use Rattle.sch_abstract.specs.Flat.{flat_schema}
 use Rattle.sch_compiled.specs.declared.plan.Plan.{Plan}
 use Rattle.sch_plan.specs.Compiled.{compiled}
 use Rattle.svrl_out.specs.Locations.{location_of}
-use Rattle.sch_cli.specs.declared.status.Status.TheVariants.{SchemaRefused, DocumentRefused, Missing}
+use Rattle.edit_session.specs.Pairs.{has_too_many_pairs}
+use Rattle.edit_session.specs.State.{shows, state_text}
+use Rattle.sch_cli.specs.declared.status.Status.TheVariants.{SchemaRefused, DocumentRefused, ScriptRefused, Missing}
 use Rattle.sch_cli.specs.declared.refusal.FileRefusal.{FileRefusal}
 use Rattle.sch_cli.specs.declared.refusal.FileRefusal.TheVariants as refusal
 use Rattle.sch_cli.specs.declared.refusal.DocumentRefusal.TheVariants.{File, TooManyPairs}
+use Rattle.sch_cli.specs.declared.refusal.ScriptRefusal.{ScriptRefusal}
+use Rattle.sch_cli.specs.declared.refusal.ScriptRefusal.TheVariants.{TooLarge}
 use Rattle.sch_cli.specs.Documents.{IsDocument, IsRefused}
-use Rattle.sch_cli.specs.Output.{Output, expanded, missing_line, state, stopped}
-use Rattle.sch_cli.specs.Refusals.{document_refused_line, include_line, schema_file_line, schema_rule_line}
+use Rattle.sch_cli.specs.Following.{Begins, Follows}
+use Rattle.sch_cli.specs.Output.{Output, expanded, in_front, missing_line, state, stopped}
+use Rattle.sch_cli.specs.Refusals.{document_refused_line, include_line, schema_file_line, schema_rule_line, script_refused_line}
 
 -- two stages one after the other: the second starts from the value with which the first goes on
 abbrev pub Then : {A B : Type 0} → (Result A Output → Type 0) → (A → Result B Output → Type 0) → Result B Output → Type 0
@@ -62,6 +67,9 @@ refused_document refusal = stopped DocumentRefused (document_refused_line (File 
 
 abbrev pub too_many_pairs : Output
 too_many_pairs = stopped DocumentRefused (document_refused_line TooManyPairs)
+
+abbrev pub refused_script : ScriptRefusal → Output
+refused_script refusal = stopped ScriptRefused (script_refused_line refusal)
 
 -- the output where the includes of a schema have a fault of that name; where the outside failed the files decide none
 abbrev pub refused_include : IncludeKind → List ℕ → Option Output
@@ -109,10 +117,6 @@ pub data Loading (files : Files) (name : List ℕ) : Result Table Output → Typ
       Loading files name (Err (refused_document refusal))
   loaded : (bytes : List ℕ) → get files name ≡ Some bytes → (T : Table) → IsDocument bytes T → Loading files name (Ok T)
 
--- whether there are too many pairs of an active pattern and a node
-abbrev pub has_too_many_pairs : Plan → Table → Bool
-has_too_many_pairs plan T = nat_lt MAX_PAIRS (length plan.patterns * length (order T))
-
 -- the tree of the named document
 abbrev pub Treeing : Files → Plan → List ℕ → Result Table Output → Type 0
 Treeing files plan document = Then (Loading files document)
@@ -122,3 +126,32 @@ Treeing files plan document = Then (Loading files document)
 abbrev pub Validating : Files → List ℕ → List ℕ → List ℕ → Result Output Output → Type 0
 Validating files phase schema document =
     Then (Planning files phase schema) (λ plan. Then (Treeing files plan document) (λ T. Is (Ok (state plan T))))
+
+-- the bytes of a script, by what is held under its name
+abbrev pub script_bytes : List ℕ → Option (List ℕ) → Result (List ℕ) Output
+script_bytes name None = Err (missing name)
+script_bytes name (Some bytes) = stop_if (nat_lt MAX_SCRIPT_BYTES (length bytes)) (refused_script TooLarge) bytes
+
+-- the bytes of the named script
+abbrev pub Scripting : Files → List ℕ → Result (List ℕ) Output → Type 0
+Scripting files script = Is (script_bytes script (get files script))
+
+-- the state of a document, and behind it what is written for the commands of a script
+abbrev pub States : Plan → Table → List ℕ → Output → Type 0
+States plan T script output =
+    (rest : Output) × Follows plan T 1 (shows plan T) (script_of script) rest × (output ≡ in_front (state_text plan T) rest)
+
+-- the state, and behind it what the first of the commands write
+abbrev pub BeginsStates : Plan → Table → List ℕ → List ℕ → Type 0
+BeginsStates plan T script text =
+    (more : List ℕ) × Begins plan T 1 (script_of script) more × (text ≡ state_text plan T ++ more)
+
+-- a script has an output, however it ends
+abbrev pub Stating : Plan → Table → List ℕ → Result Output Output → Type 0
+Stating plan T script (Ok output) = States plan T script output
+Stating plan T script (Err output) = ⊥
+
+-- a script that is followed: the schema comes first, then the document, then all bytes of the script, and then the states
+abbrev pub Following : Files → List ℕ → List ℕ → List ℕ → List ℕ → Result Output Output → Type 0
+Following files phase schema document script =
+    Then (Planning files phase schema) (λ plan. Then (Treeing files plan document) (λ T. Then (Scripting files script) (Stating plan T)))

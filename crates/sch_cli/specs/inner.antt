@@ -1,2 +1,3 @@
-pub mod Evaluated
+pub mod Followers
+pub mod Shelves
 pub mod Stops

@@ -1,7 +1,7 @@
 //! Which words are accepted, and what they ask for.
 
 ghost use Rattle.std.specs.Prelude.{◌≡◌, MatchOption, Some, None};
-ghost use Rattle.sch_cli.specs.Commands.{command_of, is_file_name, is_validate_of_phase, shown};
+ghost use Rattle.sch_cli.specs.Commands.{command_of, expansion_of, following_of, is_file_name, is_of_phase, shown, validation_of};
 
 use sch_base::Text;
 
@@ -16,6 +16,13 @@ pub struct Validation<'a> {
     pub document: &'a Text,
 }
 
+/// What is followed: a validation, and the same after each command of the script.
+#[derive(Clone, Copy, Debug)]
+pub struct ScriptedValidation<'a> {
+    pub validation: Validation<'a>,
+    pub script: &'a Text,
+}
+
 /// What accepted words ask for.
 #[derive(Debug, Drop)]
 pub enum Command<'a> {
@@ -23,6 +30,8 @@ pub enum Command<'a> {
     Expand { schema: &'a Text },
     /// Validate a document, and write the report.
     Validate(Validation<'a>),
+    /// Validate a document, and again after each command of an edit script; write each report.
+    Follow(ScriptedValidation<'a>),
 }
 
 /// Whether a word may name a file: it is not empty and does not begin with `-`.
@@ -33,39 +42,98 @@ fn is_file_name(word: &Text) -> bool
     !word.is_empty() && !word.starts_with('-')
 }
 
+/// Whether the words name a phase.
+fn is_of_phase(option: &Text, phase: &Text) -> bool
+    ensures { result ≡ is_of_phase option.now phase.now }
+{
+    option.as_str() == "--phase" && !phase.as_str().is_empty()
+}
+
+/// The expansion that the words ask for.
+fn expansion_of<'a>(verb: &Text, schema: &'a Text) -> Option<Command<'a>>
+    ensures { MatchOption result (expansion_of verb.now schema.now ≡ None) (λ command. expansion_of verb.now schema.now ≡ Some (shown command)) }
+{
+    if verb.as_str() == "expand" && is_file_name(schema) {
+        Some(Command::Expand { schema })
+    } else {
+        None
+    }
+}
+
+/// The validation that the words ask for.
+fn validation_of<'a>(verb: &Text, asked: Validation<'a>) -> Option<Command<'a>>
+    ensures { MatchOption result (validation_of verb.now asked.entry.phase.now asked.entry.schema.now asked.entry.document.now ≡ None)
+        (λ command. validation_of verb.now asked.entry.phase.now asked.entry.schema.now asked.entry.document.now ≡ Some (shown command)) }
+{
+    if verb.as_str() == "validate" && is_file_name(asked.schema) && is_file_name(asked.document) {
+        Some(Command::Validate(asked))
+    } else {
+        None
+    }
+}
+
+/// The script that the words ask to follow.
+fn following_of<'a>(
+    verb: &Text,
+    validation: Validation<'a>,
+    script: &'a Text,
+) -> Option<Command<'a>>
+    ensures { MatchOption result (following_of verb.now validation.entry.phase.now validation.entry.schema.now validation.entry.document.now script.now ≡ None)
+        (λ command. following_of verb.now validation.entry.phase.now validation.entry.schema.now validation.entry.document.now script.now ≡ Some (shown command)) }
+{
+    if verb.as_str() == "follow"
+        && is_file_name(validation.schema)
+        && is_file_name(validation.document)
+        && is_file_name(script)
+    {
+        Some(Command::Follow(ScriptedValidation { validation, script }))
+    } else {
+        None
+    }
+}
+
 /// What the words ask for, or None where they are not accepted.
 pub fn command_of(words: &[Text]) -> Option<Command<'_>>
     ensures { MatchOption result (command_of words.now ≡ None) (λ command. command_of words.now ≡ Some (shown command)) }
 {
     match words {
-        [verb, schema] if verb.as_str() == "expand" && is_file_name(schema) => {
-            Some(Command::Expand { schema })
-        }
-        [verb, schema, document]
-            if verb.as_str() == "validate" && is_file_name(schema) && is_file_name(document) => {
-            Some(Command::Validate(Validation {
-                phase: DEFAULT_PHASE,
+        [verb, schema] => expansion_of(verb, schema),
+        [verb, schema, document] => {
+            let phase = DEFAULT_PHASE;
+            let asked = Validation {
+                phase,
                 schema,
                 document,
-            }))
+            };
+            validation_of(verb, asked)
         }
-        [verb, option, phase, schema, document]
-            if is_validate_of_phase(verb, option, phase)
-                && is_file_name(schema)
-                && is_file_name(document) => {
-            Some(Command::Validate(Validation {
-                phase: phase.as_str(),
+        [verb, schema, document, script] => {
+            let phase = DEFAULT_PHASE;
+            let asked = Validation {
+                phase,
                 schema,
                 document,
-            }))
+            };
+            following_of(verb, asked, script)
+        }
+        [verb, option, phase, schema, document] if is_of_phase(option, phase) => {
+            let phase = phase.as_str();
+            let asked = Validation {
+                phase,
+                schema,
+                document,
+            };
+            validation_of(verb, asked)
+        }
+        [verb, option, phase, schema, document, script] if is_of_phase(option, phase) => {
+            let phase = phase.as_str();
+            let asked = Validation {
+                phase,
+                schema,
+                document,
+            };
+            following_of(verb, asked, script)
         }
         _ => None,
     }
-}
-
-/// Whether the words begin a validation under a named phase.
-fn is_validate_of_phase(verb: &Text, option: &Text, phase: &Text) -> bool
-    ensures { result ≡ is_validate_of_phase verb.now option.now phase.now }
-{
-    verb.as_str() == "validate" && option.as_str() == "--phase" && !phase.as_str().is_empty()
 }

@@ -1,21 +1,23 @@
 //! An expansion: the schema read, and written without includes and abstract parts.
 
-ghost use Rattle.std.specs.Prelude.{◌≡◌, false, Some, Ok, Err};
+ghost use Rattle.std.specs.Prelude.{◌≡◌, false, Some, Ok, Err, IfOk};
 ghost use Rattle.sch_io.specs.Files.{Files};
 ghost use Rattle.sch_io.specs.Wrote.{Appends, Wrote};
 ghost use Rattle.pyx_core.specs.Written.{text_of};
+ghost use Rattle.sch_flat.specs.FlatDocument.{flat_events};
+ghost use Rattle.edit_session.specs.declared.state.Shown.TheVariants as states;
 ghost use Rattle.sch_cli.specs.declared.status.Status.TheVariants as statuses;
 ghost use Rattle.sch_cli.specs.Commands.{expand};
-ghost use Rattle.sch_cli.specs.CommandOutput.{IsEnd, IsReadFor};
-ghost use Rattle.sch_cli.specs.Output.{expanded};
+ghost use Rattle.sch_cli.specs.CommandOutput.{IsEnd, IsReadFor, IsText};
 ghost use Rattle.sch_cli.specs.Stages.{Expanding, Expansion};
-ghost use Rattle.sch_cli.specs.Runs.{IsLast, OpensFiles, OpensOver, counted_if};
-ghost use Rattle.sch_cli.specs.inner.Stops.{Concludes, Gives, Names, ReadsSchema, WroteState, ends_with, may_have_written, status_of_end};
+ghost use Rattle.sch_cli.specs.Runs.{counted_if};
+ghost use Rattle.sch_cli.specs.inner.Shelves.{ReadsAs};
+ghost use Rattle.sch_cli.specs.inner.Stops.{Concludes, Gives, ReadsSchema, WroteText, ends_with, may_have_written};
 
 use crate::loading::load_schema;
 use crate::schema::read_flat;
-use crate::state::Shown;
 use crate::stop::Stop;
+use edit_session::Shown;
 use pyx_core::Event;
 use pyx_write::write_event;
 use sch_base::Text;
@@ -32,16 +34,11 @@ pub(crate) fn expand_schema<S: Shelf, O: Sink>(
     out: &mut O,
 ) -> Result<Shown, Stop>
     ensures whole { (files : Files) → (S.state shelf.old).files ≡ Some files →
-        Concludes (IsEnd (Expansion files name.now)) (IsReadFor files name.now) (Appends (O.log out.old).written (O.log out.new).written) result }
-    ensures named { Names (λ told. IsLast told (S.state shelf.old).opened (S.state shelf.new).opened) result }
-    ensures opened { OpensFiles (Some (expand name.now)) (S.state shelf.old).opened (S.state shelf.new).opened }
-    ensures decided { OpensOver (S.state shelf.old).files (Some (expand name.now)) (S.state shelf.old).opened (S.state shelf.new).opened (status_of_end result) }
-    ensures words { ends_with statuses.Usage result ≡ false }
-    ensures misses { (S.state shelf.new).misses ≡ counted_if (ends_with statuses.Missing result) (S.state shelf.old).misses }
-    ensures read_faults { (S.state shelf.new).faults ≡ counted_if (ends_with statuses.ReadFault result) (S.state shelf.old).faults }
+        Concludes (IsEnd (Expansion files name.now)) (IsReadFor files name.now) (IsText (Expansion files name.now))
+        (Appends (O.log out.old).written (O.log out.new).written) result }
+    ensures reads { ReadsAs (expand name.now) (S.state shelf.old) (S.state shelf.new) result }
     ensures write_faults { (O.log out.new).faults ≡ counted_if (ends_with statuses.WriteFault result) (O.log out.old).faults }
     ensures untouched { may_have_written result ≡ false → O.log out.new ≡ O.log out.old }
-    ensures held { (S.state shelf.new).files ≡ (S.state shelf.old).files }
 {
     let flat = load_flat(alloc, name, shelf)?;
     write_expanded(alloc, &flat, out)
@@ -57,9 +54,10 @@ fn load_flat<S: Shelf>(alloc: Global, name: &Text, shelf: &mut S) -> Result<Flat
     read_flat(alloc, &tree)
 }
 
-/// Writes a schema without abstract parts; answers what was written.
+/// Writes a schema without abstract parts, which shows nothing to be found.
 fn write_expanded<O: Sink>(alloc: Global, flat: &FlatSchema, out: &mut O) -> Result<Shown, Stop>
-    ensures { WroteState (O.log out.old) (O.log out.new) (expanded flat.now) result }
+    ensures wrote { WroteText (O.log out.old) (O.log out.new) (text_of (flat_events flat.now)) result }
+    ensures shown { IfOk result (λ last. last ≡ states.Clean) }
 {
     let events = flat_events(alloc, flat)?;
     match write_events(events.as_slice(), out) {

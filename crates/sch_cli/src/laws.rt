@@ -2,6 +2,7 @@
 
 ghost use Rattle.sch_cli.specs.OneOutput.{OneOutput};
 
+use edit_command_laws::one_edit;
 use name_scopes::one_tree;
 use sch_include::one_inclusion;
 use sch_plan::one_plan;
@@ -13,4 +14,5 @@ pub fn one_output()
     one_tree();
     one_inclusion();
     one_plan();
+    one_edit();
 }

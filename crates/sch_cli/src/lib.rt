@@ -2,14 +2,14 @@
 #![tactic(auto)]
 
 mod command;
-mod evaluation;
+mod edit_lines;
 mod expansion;
+mod following;
 mod laws;
 mod loading;
 mod program;
 mod refusal;
 mod schema;
-mod state;
 mod status;
 mod stop;
 mod validation;

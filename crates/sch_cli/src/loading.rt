@@ -1,14 +1,15 @@
-//! Named files as trees: a schema with its includes replaced, and a document.
+//! Named files: a schema with its includes replaced and a document, as trees, and the bytes of a script.
 
 ghost use Rattle.std.specs.Prelude.{◌≡◌, ◌≤◌, true, Ok, Err, IfOk, IfSome, length};
 ghost use Rattle.sch_io.specs.Files.{Files};
 ghost use Rattle.sch_io.specs.declared.reading.TheConstants.{MAX_FILE_BYTES};
 ghost use Rattle.doc_tree.specs.Kinds.{is_document};
+ghost use Rattle.edit_script.specs.declared.limits.TheConstants.{MAX_SCRIPT_BYTES};
 ghost use Rattle.sch_cli.specs.CommandOutput.{IsReadFor};
-ghost use Rattle.sch_cli.specs.Stages.{Inclusion, Loading};
+ghost use Rattle.sch_cli.specs.Stages.{Inclusion, Loading, Scripting};
 ghost use Rattle.sch_cli.specs.inner.Stops.{Gives, Reads, ReadsSchema, IsRead, IsMissing, stop_of};
 
-use crate::refusal::{DocumentRefusal, FileRefusal, SchemaRefusal};
+use crate::refusal::{DocumentRefusal, FileRefusal, SchemaRefusal, ScriptRefusal};
 use crate::stop::Stop;
 use doc_tree::Tree;
 use name_scopes::{LoadError, load_tree};
@@ -61,6 +62,7 @@ pub(crate) fn load_document<S: Shelf>(
     ensures told { (files : Files) → (S.state shelf.old).files ≡ Some files → Gives (λ tree. Loading files name (Ok tree.nodes))
         (λ output. Loading files name (Err output)) (λ unread. unread ≡ name) result }
     ensures reads { Reads (S.state shelf.old) (S.state shelf.new) name result }
+    ensures document { IfOk result (λ tree. is_document tree.nodes ≡ true) }
 {
     let Some(bytes) = read_file(alloc, name, shelf)? else {
         return Err(refused_document(FileRefusal::TooLarge));
@@ -77,6 +79,20 @@ fn refused_document(refusal: FileRefusal) -> Stop
     ensures { result ≡ Stop.DocumentRefused (DocumentRefusal.File refusal) }
 {
     Stop::DocumentRefused(DocumentRefusal::File(refusal))
+}
+
+/// The bytes of the named script; the name is kept for the line that tells of it.
+pub(crate) fn read_script<S: Shelf>(alloc: Global, name: Text, shelf: &mut S) -> Result<Bytes, Stop>
+    ensures told { (files : Files) → (S.state shelf.old).files ≡ Some files → Gives (λ bytes. Scripting files name (Ok bytes))
+        (λ output. Scripting files name (Err output)) (λ unread. unread ≡ name) result }
+    ensures reads { Reads (S.state shelf.old) (S.state shelf.new) name result }
+    ensures short { IfOk result (λ bytes. length bytes ≤ MAX_SCRIPT_BYTES) }
+{
+    let found = read_file(alloc, name, shelf)?;
+    match found {
+        Some(bytes) => Ok(bytes),
+        None => Err(Stop::ScriptRefused(ScriptRefusal::TooLarge)),
+    }
 }
 
 /// The bytes of the named file, None where it has more than a file may have.

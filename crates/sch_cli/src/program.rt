@@ -9,18 +9,19 @@ ghost use Rattle.sch_cli.specs.inner.Stops.{ConcludesOver, EndsAs, Names, ends_w
 
 use crate::command::{Command, command_of};
 use crate::expansion::expand_schema;
-use crate::state::Shown;
+use crate::following::follow;
 use crate::status::Status;
 use crate::stop::Stop;
 use crate::validation::validate;
 use crate::words::Words;
+use edit_session::Shown;
 use sch_io::{Failed, Shelf, Sink, write_all};
 use std::alloc::Global;
 use std::sync::ledger::Ledger;
 use xp_outcome::Steps;
 
-/// Carries out what the words ask for, over the files of the shelf: the report or the expanded schema goes to `out`, and where
-/// the run was stopped or its state is a fault its one line goes to `err`, whose failure changes no status.
+/// Carries out what the words ask for, over the files of the shelf: the reports or the expanded schema go to `out`, and where the
+/// run was stopped or a state of it is a fault its one line goes to `err`, whose failure changes no status.
 #[tactic(auto, using(crate::proofs::RunLemmas::run_ends, crate::proofs::RunLemmas::line_named))]
 pub fn run<S: Shelf, O: Sink, E: Sink, L: Ledger>(
     alloc: Global,
@@ -37,8 +38,8 @@ pub fn run<S: Shelf, O: Sink, E: Sink, L: Ledger>(
         × Tells (E.log err.old) (E.log err.new) line }
     ensures usage { (result ≡ statuses.Usage) ↔ (command_of words.now ≡ None) }
     ensures opened { OpensFiles (command_of words.now) (S.state shelf.old).opened (S.state shelf.new).opened }
-    // over a shelf that tells its files these decide which are opened for the schema, and that the document is only where its phase
-    // has a plan; want of memory may come before
+    // over a shelf that tells its files these decide which are opened for the schema, that the document is only where its phase has
+    // a plan, and the script only where the document is a tree under it; want of memory may come before
     ensures decided { OpensOver (S.state shelf.old).files (command_of words.now) (S.state shelf.old).opened (S.state shelf.new).opened result }
     // what the shelf holds stays
     ensures held { (S.state shelf.new).files ≡ (S.state shelf.old).files }
@@ -80,6 +81,7 @@ fn carry_out<S: Shelf, O: Sink, L: Ledger>(
         None => Err(Stop::Usage),
         Some(Command::Expand { schema }) => expand_schema(alloc, schema, shelf, out),
         Some(Command::Validate(asked)) => validate(alloc, asked, shelf, out, steps),
+        Some(Command::Follow(asked)) => follow(alloc, asked, shelf, out, steps),
     }
 }
 

@@ -1,10 +1,11 @@
-//! Why a schema or a document is refused, and the lines that say so.
+//! Why a schema, a document or an edit script is refused, and the lines that say so.
 
 ghost use Rattle.std.specs.Prelude.{◌≡◌, ◌++◌, codes};
 ghost use Rattle.pyx_core.specs.Escapes.{escaped};
 ghost use Rattle.sch_io.specs.Wrote.{Wrote};
-ghost use Rattle.sch_cli.specs.Refusals.{kind_words, pyx_words, reason_text, fault_text, rule_text, document_refused_line, include_line, include_text, include_words, schema_refused_line, schema_rule_line};
+ghost use Rattle.sch_cli.specs.Refusals.{kind_words, pyx_words, reason_text, fault_text, rule_text, document_refused_line, include_line, include_text, include_words, schema_refused_line, schema_rule_line, script_fault_line, script_refused_line, script_words};
 
+use edit_script::{ScriptFault, ScriptKind};
 use itoa::Buffer;
 use name_scopes::{DocFault, DocKind};
 use pyx_core::PyxKind;
@@ -30,6 +31,15 @@ pub(crate) enum DocumentRefusal {
     File(FileRefusal),
     /// It has too many nodes for the active patterns.
     TooManyPairs,
+}
+
+/// Why an edit script is refused.
+#[derive(Clone, Copy, Debug)]
+pub(crate) enum ScriptRefusal {
+    /// It has more bytes than a script may have.
+    TooLarge,
+    /// It has this fault first.
+    Faulted(ScriptFault),
 }
 
 /// Why a schema is refused.
@@ -104,6 +114,18 @@ impl DocumentRefusal {
     }
 }
 
+impl ScriptRefusal {
+    /// Writes the line of a script that is refused for it.
+    pub(crate) fn tell<E: Sink>(&self, err: &mut E) -> Result<(), Failed>
+        ensures { Wrote (E.log err.old) (E.log err.new) (script_refused_line self.now) result }
+    {
+        match self {
+            ScriptRefusal::TooLarge => write_all(err, b"sch: script refused: TooLarge\n"),
+            ScriptRefusal::Faulted(fault) => tell_script_fault(fault, err),
+        }
+    }
+}
+
 impl SchemaRefusal {
     /// Writes the line of a schema that is refused for it.
     pub(crate) fn tell<E: Sink>(&self, err: &mut E) -> Result<(), Failed>
@@ -169,6 +191,31 @@ fn tell_fault<E: Sink>(fault: &DocFault, err: &mut E) -> Result<(), Failed>
     let line = buffer.format(fault.line);
     let kind = kind_words(&fault.kind);
     write_pieces(err, &["line ", line, " ", kind, "\n"])
+}
+
+/// Writes the line of a script with a fault.
+#[tactic(auto, unfolding(crate::specs::Refusals::script_fault_line))]
+fn tell_script_fault<E: Sink>(fault: &ScriptFault, err: &mut E) -> Result<(), Failed>
+    ensures { Wrote (E.log err.old) (E.log err.new) (script_fault_line fault.now) result }
+{
+    let mut buffer = Buffer::new();
+    let line = buffer.format(fault.line);
+    let kind = script_words(fault.kind);
+    write_pieces(err, &["sch: script refused: line ", line, " ", kind, "\n"])
+}
+
+/// The name of a rule that a command of a script can break.
+fn script_words(kind: ScriptKind) -> &'static str
+    ensures { result.now ≡ script_words kind }
+{
+    match kind {
+        ScriptKind::BadChar => "BadChar",
+        ScriptKind::BadWord => "BadWord",
+        ScriptKind::BadPath => "BadPath",
+        ScriptKind::BadNumber => "BadNumber",
+        ScriptKind::BadName => "BadName",
+        ScriptKind::BadPayload => "BadPayload",
+    }
 }
 
 /// The name of a kind of fault.

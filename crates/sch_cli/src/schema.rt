@@ -2,7 +2,7 @@
 
 ghost use Rattle.std.specs.Prelude.{◌≡◌, true, Ok, Err, IfErr, IfOk};
 ghost use Rattle.doc_tree.specs.Kinds.{is_document};
-ghost use Rattle.sch_compiled.specs.Soundness.{IsCounted};
+ghost use Rattle.sch_compiled.specs.Soundness.{IsSound};
 ghost use Rattle.svrl_out.specs.Locations.{location_of};
 ghost use Rattle.sch_cli.specs.Stages.{Compiling, Flattening, Reading, Then};
 ghost use Rattle.sch_cli.specs.inner.Stops.{Gives, IsInner, IsRefusal};
@@ -24,7 +24,7 @@ pub(crate) fn plan_of(alloc: Global, tree: &Tree, phase: &str) -> Result<Plan, S
     requires { is_document tree.now.nodes ≡ true }
     ensures told { Gives (λ plan. Then (Reading tree.now.nodes) (Compiling tree.now.nodes phase.now) (Ok plan))
         (λ output. Then (Reading tree.now.nodes) (Compiling tree.now.nodes phase.now) (Err output)) (λ _. ⊥) result }
-    ensures counted { IfOk result IsCounted }
+    ensures sound { IfOk result IsSound }
     ensures inner { IfErr result IsInner }
 {
     let flat = read_flat(alloc, tree)?;

@@ -4,10 +4,12 @@ ghost use Rattle.std.specs.Prelude.{◌≡◌, ◌++◌, codes};
 ghost use Rattle.pyx_core.specs.Escapes.{escaped};
 ghost use Rattle.sch_io.specs.Wrote.{Wrote};
 ghost use Rattle.sch_cli.specs.declared.stop.Stop.TheVariants as stops;
-ghost use Rattle.sch_cli.specs.inner.Stops.{line_of, status_of};
+ghost use Rattle.sch_cli.specs.inner.Stops.{line_of, of_report, of_script, status_of};
 
-use crate::refusal::{DocumentRefusal, SchemaRefusal};
+use crate::refusal::{DocumentRefusal, SchemaRefusal, ScriptRefusal};
 use crate::status::Status;
+use edit_script::ScriptError;
+use edit_session::ReportError;
 use pyx_write::write_line_rest;
 use sch_base::Text;
 use sch_io::{Failed, Sink, write_all};
@@ -22,6 +24,8 @@ pub(crate) enum Stop {
     SchemaRefused(SchemaRefusal),
     /// The document is refused.
     DocumentRefused(DocumentRefusal),
+    /// The script of edits is refused.
+    ScriptRefused(ScriptRefusal),
     /// There is no file of that name.
     Missing { name: Text },
     /// The file of that name was not read whole.
@@ -40,6 +44,36 @@ impl From<AllocError> for Stop {
     }
 }
 
+impl From<Failed> for Stop {
+    ghost from_gives = { λ _ stop. stop ≡ stops.WriteFault };
+
+    fn from(_failed: Failed) -> Self {
+        Stop::WriteFault
+    }
+}
+
+impl From<ReportError> for Stop {
+    ghost from_gives = { λ error stop. stop ≡ of_report error };
+
+    fn from(error: ReportError) -> Self {
+        match error {
+            ReportError::Failed => Stop::WriteFault,
+            ReportError::Memory => Stop::Memory,
+        }
+    }
+}
+
+impl From<ScriptError> for Stop {
+    ghost from_gives = { λ error stop. stop ≡ of_script error };
+
+    fn from(error: ScriptError) -> Self {
+        match error {
+            ScriptError::Fault(fault) => Stop::ScriptRefused(ScriptRefusal::Faulted(fault)),
+            ScriptError::Memory => Stop::Memory,
+        }
+    }
+}
+
 impl Stop {
     /// The status of a run that ends so.
     pub(crate) fn status(&self) -> Status
@@ -49,6 +83,7 @@ impl Stop {
             Stop::Usage => Status::Usage,
             Stop::SchemaRefused(_) => Status::SchemaRefused,
             Stop::DocumentRefused(_) => Status::DocumentRefused,
+            Stop::ScriptRefused(_) => Status::ScriptRefused,
             Stop::Missing { .. } => Status::Missing,
             Stop::ReadFault { .. } => Status::ReadFault,
             Stop::WriteFault => Status::WriteFault,
@@ -64,6 +99,7 @@ impl Stop {
             Stop::Usage => write_all(err, b"sch: usage\n"),
             Stop::SchemaRefused(refusal) => refusal.tell(err),
             Stop::DocumentRefused(refusal) => refusal.tell(err),
+            Stop::ScriptRefused(refusal) => refusal.tell(err),
             Stop::Missing { name } => write_named(err, b"sch: missing: ", name),
             Stop::ReadFault { name } => write_named(err, b"sch: read fault: ", name),
             Stop::WriteFault => write_all(err, b"sch: write fault\n"),

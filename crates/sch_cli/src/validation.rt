@@ -1,24 +1,26 @@
 //! A validation: the schema and the document read, then the state of the document by the schema.
 
-ghost use Rattle.std.specs.Prelude.{◌≡◌, ◌≤◌, false, Some, Ok, Err, IfOk};
+ghost use Rattle.std.specs.Prelude.{◌≡◌, ◌≤◌, false, Some, Ok, Err, IfOk, OnOk};
 ghost use Rattle.sch_io.specs.Files.{Files};
 ghost use Rattle.sch_io.specs.Wrote.{Appends};
-ghost use Rattle.sch_compiled.specs.Soundness.{IsCounted};
+ghost use Rattle.sch_compiled.specs.Soundness.{IsSound};
+ghost use Rattle.edit_session.specs.Pairs.{pair_cap_for};
+ghost use Rattle.edit_session.specs.State.{shows, state_text};
 ghost use Rattle.sch_cli.specs.declared.status.Status.TheVariants as statuses;
 ghost use Rattle.sch_cli.specs.Commands.{validate};
-ghost use Rattle.sch_cli.specs.CommandOutput.{IsEnd, IsReadBy, IsReadFor};
-ghost use Rattle.sch_cli.specs.Stages.{Planning, Treeing, Validating, has_too_many_pairs};
-ghost use Rattle.sch_cli.specs.Runs.{IsLast, OpensFiles, OpensOver, counted_if};
-ghost use Rattle.sch_cli.specs.inner.Stops.{Gives, Reads, ReadsSchema, Concludes, Names, ends_with, may_have_written, status_of_end};
+ghost use Rattle.sch_cli.specs.CommandOutput.{IsEnd, IsReadBy, IsReadFor, IsText, Treed};
+ghost use Rattle.sch_cli.specs.Stages.{Planning, Treeing, Validating};
+ghost use Rattle.sch_cli.specs.Runs.{counted_if};
+ghost use Rattle.sch_cli.specs.inner.Shelves.{ReadBoth, ReadsAs};
+ghost use Rattle.sch_cli.specs.inner.Stops.{Concludes, Gives, Opening, Reads, ReadsSchema, WroteText, ends_with, may_have_written};
 
 use crate::command::Validation;
 use crate::loading::{load_document, load_schema};
 use crate::refusal::DocumentRefusal;
 use crate::schema::plan_of;
-use crate::state::{Shown, write_state};
 use crate::stop::Stop;
-use doc_tree::Tree;
-use sch_base::{MAX_PAIRS, Text};
+use edit_session::{OpenRefusal, Session, Shown};
+use sch_base::Text;
 use sch_compiled::Plan;
 use sch_io::{Shelf, Sink};
 use std::alloc::Global;
@@ -30,33 +32,70 @@ fn load_plan<S: Shelf>(alloc: Global, name: &Text, phase: &str, shelf: &mut S) -
     ensures told { (files : Files) → (S.state shelf.old).files ≡ Some files → Gives (λ plan. Planning files phase.now name.now (Ok plan))
         (λ output. Planning files phase.now name.now (Err output)) (IsReadFor files name.now) result }
     ensures reads { ReadsSchema (S.state shelf.old) (S.state shelf.new) name.now result }
-    ensures counted { IfOk result IsCounted }
+    ensures sound { IfOk result IsSound }
 {
     let tree = load_schema(alloc, name, shelf)?;
     plan_of(alloc, &tree, phase)
 }
 
-/// The tree of the named document, which is to be validated by the plan.
-fn load_for<S: Shelf>(alloc: Global, plan: &Plan, name: Text, shelf: &mut S) -> Result<Tree, Stop>
-    requires { IsCounted plan.now }
-    ensures told { (files : Files) → (S.state shelf.old).files ≡ Some files → Gives (λ tree. Treeing files plan.now name (Ok tree.nodes))
-        (λ output. Treeing files plan.now name (Err output)) (λ unread. unread ≡ name) result }
+/// The named document, opened under the plan.
+fn load_under<S: Shelf>(
+    alloc: Global,
+    plan: Plan,
+    name: Text,
+    shelf: &mut S,
+) -> Result<Session, Stop>
+    requires { IsSound plan }
+    ensures told { (files : Files) → (S.state shelf.old).files ≡ Some files → Gives (λ session. Treeing files plan name (Ok session.tree.nodes))
+        (λ output. Treeing files plan name (Err output)) (λ unread. unread ≡ name) result }
     ensures reads { Reads (S.state shelf.old) (S.state shelf.new) name result }
+    ensures plan { IfOk result (λ session. session.plan ≡ plan) }
+    ensures cap { IfOk result (λ session. session.tree.pair_cap ≡ pair_cap_for plan) }
 {
     let tree = load_document(alloc, name, shelf)?;
-    if has_too_many_pairs(plan, &tree) {
-        return Err(Stop::DocumentRefused(DocumentRefusal::TooManyPairs));
+    match Session::open(alloc, plan, tree) {
+        Ok(session) => Ok(session),
+        Err(OpenRefusal::TooManyPairs) => {
+            Err(Stop::DocumentRefused(DocumentRefusal::TooManyPairs))
+        }
+        Err(OpenRefusal::Memory) => Err(Stop::Memory),
     }
-    Ok(tree)
 }
 
-/// Whether there are too many pairs of an active pattern and a node.
-fn has_too_many_pairs(plan: &Plan, tree: &Tree) -> bool
-    requires { IsCounted plan.now }
-    ensures { result ≡ has_too_many_pairs plan.now tree.now.nodes }
+/// The document that is asked for, opened under the plan of the schema's phase.
+pub(crate) fn load_asked<S: Shelf>(
+    alloc: Global,
+    asked: Validation<'_>,
+    shelf: &mut S,
+) -> Result<Session, Stop>
+    ensures told { (files : Files) → (S.state shelf.old).files ≡ Some files →
+        Gives (λ session. Treed files asked.entry.phase.now asked.entry.schema.now asked.entry.document.now session.plan session.tree.nodes)
+        (λ output. Opening files asked.entry.phase.now asked.entry.schema.now asked.entry.document.now (Err output))
+        (IsReadBy files asked.entry.phase.now asked.entry.schema.now asked.entry.document.now) result }
+    ensures reads { ReadsAs (validate asked.entry.phase.now asked.entry.schema.now asked.entry.document.now) (S.state shelf.old) (S.state shelf.new) result }
+    ensures both { OnOk result (ReadBoth asked.entry.phase.now asked.entry.schema.now asked.entry.document.now (S.state shelf.old) (S.state shelf.new)) }
+    ensures cap { IfOk result (λ session. session.tree.pair_cap ≡ pair_cap_for session.plan) }
+    ensures unwritten { ends_with statuses.WriteFault result ≡ false }
 {
-    let pairs = u64::from(plan.pattern_count()) * u64::from(tree.live_nodes());
-    pairs > MAX_PAIRS as u64
+    let document = Text::copy(alloc, asked.document.as_str())?;
+    let plan = load_plan(alloc, asked.schema, asked.phase, shelf)?;
+    load_under(alloc, plan, document, shelf)
+}
+
+/// Writes the state of a document; answers what it shows.
+pub(crate) fn write_state<O: Sink, L: Ledger>(
+    session: &mut Session,
+    out: &mut O,
+    steps: &mut Steps<L>,
+) -> Result<Shown, Stop>
+    ensures wrote { WroteText (O.log out.old) (O.log out.new) (state_text session.old.plan session.old.tree.nodes) result }
+    ensures shown { IfOk result (λ last. last ≡ shows session.old.plan session.old.tree.nodes) }
+    ensures tree { session.new.tree ≡ session.old.tree }
+    ensures plan { session.new.plan ≡ session.old.plan }
+    ensures steps { steps.old ≤ steps.new }
+{
+    let last = session.report(out, steps)?;
+    Ok(last)
 }
 
 /// Validates the document that is asked for, and writes its state; answers what the state shows.
@@ -70,23 +109,14 @@ pub(crate) fn validate<S: Shelf, O: Sink, L: Ledger>(
     ensures whole { (files : Files) → (S.state shelf.old).files ≡ Some files →
         Concludes (IsEnd (Validating files asked.entry.phase.now asked.entry.schema.now asked.entry.document.now))
         (IsReadBy files asked.entry.phase.now asked.entry.schema.now asked.entry.document.now)
+        (IsText (Validating files asked.entry.phase.now asked.entry.schema.now asked.entry.document.now))
         (Appends (O.log out.old).written (O.log out.new).written) result }
-    ensures named { Names (λ told. IsLast told (S.state shelf.old).opened (S.state shelf.new).opened) result }
-    ensures opened { OpensFiles (Some (validate asked.entry.phase.now asked.entry.schema.now asked.entry.document.now))
-        (S.state shelf.old).opened (S.state shelf.new).opened }
-    ensures decided { OpensOver (S.state shelf.old).files (Some (validate asked.entry.phase.now asked.entry.schema.now asked.entry.document.now))
-        (S.state shelf.old).opened (S.state shelf.new).opened (status_of_end result) }
-    ensures words { ends_with statuses.Usage result ≡ false }
-    ensures misses { (S.state shelf.new).misses ≡ counted_if (ends_with statuses.Missing result) (S.state shelf.old).misses }
-    ensures read_faults { (S.state shelf.new).faults ≡ counted_if (ends_with statuses.ReadFault result) (S.state shelf.old).faults }
+    ensures reads { ReadsAs (validate asked.entry.phase.now asked.entry.schema.now asked.entry.document.now) (S.state shelf.old) (S.state shelf.new) result }
     ensures write_faults { (O.log out.new).faults ≡ counted_if (ends_with statuses.WriteFault result) (O.log out.old).faults }
     ensures untouched { may_have_written result ≡ false → O.log out.new ≡ O.log out.old }
     ensures unevaluated { may_have_written result ≡ false → steps.new ≡ steps.old }
     ensures steps { steps.old ≤ steps.new }
-    ensures held { (S.state shelf.new).files ≡ (S.state shelf.old).files }
 {
-    let document = Text::copy(alloc, asked.document.as_str())?;
-    let plan = load_plan(alloc, asked.schema, asked.phase, shelf)?;
-    let tree = load_for(alloc, &plan, document, shelf)?;
-    write_state(alloc, &plan, &tree, out, steps)
+    let mut session = load_asked(alloc, asked, shelf)?;
+    write_state(&mut session, out, steps)
 }

@@ -12,28 +12,31 @@ use Rattle.sch_include.specs.declared.fault.IncludeKind.TheVariants as kind
 use Rattle.sch_include.specs.Ends.{IsFirst}
 use Rattle.sch_model.specs.declared.fault.SchemaError.{SchemaError}
 use Rattle.sch_model.specs.declared.fault.SchemaError.TheVariants as error
-use Rattle.svrl_out.specs.declared.report.OutError.{OutError}
-use Rattle.svrl_out.specs.declared.report.OutError.TheVariants as out
+use Rattle.edit_script.specs.declared.fault.ScriptError.{ScriptError}
+use Rattle.edit_script.specs.declared.fault.ScriptError.TheVariants as script
+use Rattle.edit_session.specs.declared.state.ReportError.{ReportError}
+use Rattle.edit_session.specs.declared.state.ReportError.TheVariants as report
+use Rattle.edit_session.specs.declared.state.Shown.{Shown}
 use Rattle.sch_cli.specs.declared.stop.Stop.{Stop}
-use Rattle.sch_cli.specs.declared.stop.Stop.TheVariants.{Usage, SchemaRefused, DocumentRefused, Missing, ReadFault, WriteFault, Memory}
-use Rattle.sch_cli.specs.declared.state.Shown.{Shown}
-use Rattle.sch_cli.specs.declared.state.Shown.TheVariants as shown
+use Rattle.sch_cli.specs.declared.stop.Stop.TheVariants.{Usage, SchemaRefused, DocumentRefused, ScriptRefused, Missing, ReadFault, WriteFault, Memory}
 use Rattle.sch_cli.specs.declared.refusal.FileRefusal.TheVariants as refusal
 use Rattle.sch_cli.specs.declared.refusal.SchemaRefusal.TheVariants as schema
+use Rattle.sch_cli.specs.declared.refusal.ScriptRefusal.TheVariants as refused
 use Rattle.sch_cli.specs.declared.status.Status.{Status}
 use Rattle.sch_cli.specs.declared.status.Status.TheVariants as status
 use Rattle.sch_cli.specs.Commands.{command_of}
-use Rattle.sch_cli.specs.Refusals.{document_refused_line, file_in, schema_refused_line}
-use Rattle.sch_cli.specs.Output.{Output, stopped, usage_line, faulted_line, missing_line, read_fault_line, write_fault_line, memory_line}
-use Rattle.sch_cli.specs.CommandOutput.{ComesTo, IsOpenedFor, IsOutput}
-use Rattle.sch_cli.specs.Stages.{refused_rule}
-use Rattle.sch_cli.specs.Runs.{AppendsFront, Fronted, is_status, counted_if, may_write}
+use Rattle.sch_cli.specs.Refusals.{document_refused_line, file_in, schema_refused_line, script_refused_line}
+use Rattle.sch_cli.specs.Output.{Output, stopped, line_shown, status_shown, usage_line, missing_line, read_fault_line, write_fault_line, memory_line}
+use Rattle.sch_cli.specs.CommandOutput.{AreWritten, ComesTo, IsOpenedFor, IsOutput}
+use Rattle.sch_cli.specs.Stages.{Planning, Then, Treeing, refused_rule}
+use Rattle.sch_cli.specs.Runs.{AppendsFront, Fronted, counted_if, is_status, may_write}
 
 -- the status of a stop
 abbrev pub status_of : Stop → Status
 status_of Usage = status.Usage
 status_of (SchemaRefused refusal) = status.SchemaRefused
 status_of (DocumentRefused refusal) = status.DocumentRefused
+status_of (ScriptRefused refusal) = status.ScriptRefused
 status_of (Missing name) = status.Missing
 status_of (ReadFault name) = status.ReadFault
 status_of WriteFault = status.WriteFault
@@ -44,6 +47,7 @@ abbrev pub line_of : Stop → List ℕ
 line_of Usage = usage_line
 line_of (SchemaRefused refusal) = schema_refused_line refusal
 line_of (DocumentRefused refusal) = document_refused_line refusal
+line_of (ScriptRefused refusal) = script_refused_line refusal
 line_of (Missing name) = missing_line name
 line_of (ReadFault name) = read_fault_line name
 line_of WriteFault = write_fault_line
@@ -54,6 +58,7 @@ abbrev pub name_in : Stop → Option (List ℕ)
 name_in Usage = None
 name_in (SchemaRefused refusal) = file_in refusal
 name_in (DocumentRefused refusal) = None
+name_in (ScriptRefused refusal) = None
 name_in (Missing name) = Some name
 name_in (ReadFault name) = Some name
 name_in WriteFault = None
@@ -69,6 +74,7 @@ abbrev pub ByCause : (Output → Type 0) → (List ℕ → Type 0) → Type 0 �
 ByCause decided unread unwritten memory Usage = decided (stopped_by Usage)
 ByCause decided unread unwritten memory (SchemaRefused refusal) = decided (stopped_by (SchemaRefused refusal))
 ByCause decided unread unwritten memory (DocumentRefused refusal) = decided (stopped_by (DocumentRefused refusal))
+ByCause decided unread unwritten memory (ScriptRefused refusal) = decided (stopped_by (ScriptRefused refusal))
 ByCause decided unread unwritten memory (Missing name) = decided (stopped_by (Missing name))
 ByCause decided unread unwritten memory (ReadFault name) = unread name
 ByCause decided unread unwritten memory WriteFault = unwritten
@@ -96,7 +102,7 @@ pub record IsInner (stop : Stop) : Type 0 where
   pub read_fault : is_status status.ReadFault (status_of stop) ≡ false
   pub write_fault : is_status status.WriteFault (status_of stop) ≡ false
 
--- what a stop tells is of the writing of a state
+-- what a stop tells is of what is written: of the outside only a failed write stops it
 pub record IsOfWriting (stop : Stop) : Type 0 where
   pub unnamed : name_in stop ≡ None
   pub usage : is_status status.Usage (status_of stop) ≡ false
@@ -143,6 +149,10 @@ stop_of kind name = SchemaRefused (schema.Include kind name)
 abbrev pub Gives : {A : Type 0} → (A → Type 0) → (Output → Type 0) → (List ℕ → Type 0) → Result A Stop → Type 0
 Gives goes stops unread result = MatchResult result goes (ByCause stops unread ⊥ (Unit {0}))
 
+-- the named document under the plan of the schema's phase
+abbrev pub Opening : Files → List ℕ → List ℕ → List ℕ → Result Table Output → Type 0
+Opening files phase schema document = Then (Planning files phase schema) (λ plan. Treeing files plan document)
+
 -- the bytes of the named file, and none where it has more than a file may have
 abbrev pub IsRead : Files → List ℕ → Option (List ℕ) → Type 0
 IsRead files name None = (bytes : List ℕ) × (get files name ≡ Some bytes) × (MAX_FILE_BYTES < length bytes)
@@ -158,22 +168,15 @@ abbrev pub IsRefusal : Table → SchemaError → Stop → Type 0
 IsRefusal T (error.Fault fault) stop = ByCause (λ output. output ≡ refused_rule T fault) (λ _. ⊥) ⊥ (Unit {0}) stop
 IsRefusal T error.Memory stop = ByCause (λ _. ⊥) (λ _. ⊥) ⊥ (Unit {0}) stop
 
--- what a report shows, by whether something was found
-abbrev pub shown_of : Bool → Shown
-shown_of true = shown.Findings
-shown_of false = shown.Clean
+-- the stop of a run whose script gives no command more
+abbrev pub of_script : ScriptError → Stop
+of_script (script.Fault fault) = ScriptRefused (refused.Faulted fault)
+of_script script.Memory = Memory
 
--- the status of a state that was written
-abbrev pub status_shown : Shown → Status
-status_shown shown.Clean = status.Clean
-status_shown shown.Findings = status.Findings
-status_shown shown.Fault = status.Faulted
-
--- and the line of the error output
-abbrev pub line_shown : Shown → List ℕ
-line_shown shown.Clean = []
-line_shown shown.Findings = []
-line_shown shown.Fault = faulted_line
+-- the stop of a run whose state is not written whole
+abbrev pub of_report : ReportError → Stop
+of_report report.Failed = WriteFault
+of_report report.Memory = Memory
 
 -- the status of a run by how it ended: with a state that was written, or with what stopped it
 abbrev pub status_of_end : Result Shown Stop → Status
@@ -184,24 +187,27 @@ abbrev pub line_of_end : Result Shown Stop → List ℕ
 line_of_end (Ok state) = line_shown state
 line_of_end (Err stop) = line_of stop
 
--- an output that may be says the state that was shown, and its bytes were written
-pub record Shows (is_output : Output → Type 0) (written : List ℕ → Type 0) (state : Shown) : Type 0 where
+-- an output that may be ends so, and its bytes were written
+pub record Shows (is_output : Output → Type 0) (written : List ℕ → Type 0) (ends : Status) (err : List ℕ) : Type 0 where
   pub output : Output
   pub may_be : is_output output
-  pub ends : output.ends ≡ status_shown state
-  pub err : output.err ≡ line_shown state
+  pub ends_so : output.ends ≡ ends
+  pub err_is : output.err ≡ err
   pub out : written output.out
 
--- how a run or a part of it ends, by the outputs that may be, the files to which it comes, and what is written
-abbrev pub Concludes : (Output → Type 0) → (List ℕ → Type 0) → (List ℕ → Type 0) → Result Shown Stop → Type 0
-Concludes is_output comes_to written result = MatchResult result
-    (Shows is_output written)
-    (ByCause (λ output. is_output output × written output.out) (λ name. comes_to name × written []) (Fronted is_output written) (written [] ⊎ Fronted is_output written))
+-- how a run or a part of it ends, by the outputs that may be, the files to which it comes, the texts that it comes to write, and
+-- what is written
+abbrev pub Concludes : (Output → Type 0) → (List ℕ → Type 0) → (List ℕ → Type 0) → (List ℕ → Type 0) → Result Shown Stop → Type 0
+Concludes is_output comes_to comes_to_write written result = MatchResult result
+    (λ last. Shows is_output written (status_shown last) (line_shown last))
+    (ByCause (λ says. Shows is_output written says.ends says.err) (λ name. comes_to name × written [])
+    (Fronted comes_to_write written) (written [] ⊎ Fronted comes_to_write written))
 
 -- the same over a shelf that tells its files
 abbrev pub ConcludesOver : Option Files → List (List ℕ) → (List ℕ → Type 0) → Result Shown Stop → Type 0
 ConcludesOver None words written result = Unit {0}
-ConcludesOver (Some files) words written result = Concludes (IsOutput words files) (ComesTo (command_of words) files) written result
+ConcludesOver (Some files) words written result =
+    Concludes (IsOutput words files) (ComesTo (command_of words) files) (AreWritten (command_of words) files) written result
 
 -- the status of a run is that of its end, as far as counts and the output go
 pub record EndsAs (ends : Status) (result : Result Shown Stop) : Type 0 where
@@ -211,20 +217,13 @@ pub record EndsAs (ends : Status) (result : Result Shown Stop) : Type 0 where
   pub write_fault : is_status status.WriteFault ends ≡ ends_with status.WriteFault result
   pub writes : may_write ends ≡ may_have_written result
 
--- a state was written whole, or a front of it where a write failed or memory ran out
-abbrev pub Writes : Option (List ℕ) → Option (List ℕ) → Output → Result Shown Stop → Type 0
-Writes old new output result = MatchResult result
-    (λ state. (output.ends ≡ status_shown state) × (output.err ≡ line_shown state) × Appends old new output.out)
-    (ByCause (λ _. ⊥) (λ _. ⊥) (AppendsFront old new output.out) (AppendsFront old new output.out))
+-- a text was appended whole, or a front of it where a write failed or memory ran out
+abbrev pub Writes : {A : Type 0} → Option (List ℕ) → Option (List ℕ) → List ℕ → Result A Stop → Type 0
+Writes old new text result = MatchResult result (λ _. Appends old new text)
+    (ByCause (λ _. ⊥) (λ _. ⊥) (AppendsFront old new text) (AppendsFront old new text))
 
 -- the same with the count of faults, and what may stop the writing
-pub record WroteState (old new : SinkLog) (output : Output) (result : Result Shown Stop) : Type 0 where
-  pub told : Writes old.written new.written output result
+pub record WroteText {A : Type 0} (old new : SinkLog) (text : List ℕ) (result : Result A Stop) : Type 0 where
+  pub told : Writes old.written new.written text result
   pub writing : IfErr result IsOfWriting
   pub faults : new.faults ≡ counted_if (ends_with status.WriteFault result) old.faults
-
--- what a state shows that was written, or what stopped its writing
-abbrev pub ShownAs : Result (Unit {0}) OutError → Shown → Result Shown Stop → Type 0
-ShownAs (Ok done) state result = result ≡ Ok state
-ShownAs (Err out.Failed) state result = result ≡ Err WriteFault
-ShownAs (Err out.Memory) state result = result ≡ Err Memory

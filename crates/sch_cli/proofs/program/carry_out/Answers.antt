@@ -1,55 +1,90 @@
 -- What the words ask for ends the run.
-use Rattle.std.proofs.Common.{◌∙◌, Some, ap}
+use Rattle.std.proofs.Common.{◌∙◌, Some, ap, refl}
 use Rattle.sch_cli.specs.declared.command.Command.TheVariants as borrowed
-use Rattle.sch_cli.specs.Commands.{command_of, expand, validate}
-use Rattle.sch_cli.proofs.RunLemmas.{asks, carries_expansion, carries_validation, decides_asked, evaluates_asked, opens_asked}
+use Rattle.sch_cli.specs.Commands.{command_of, expand, follow, validate}
+use Rattle.sch_cli.proofs.OpenLemmas.{asked_decides, asked_opens}
+use Rattle.sch_cli.proofs.RunLemmas.{asks, asks_nothing, carries, carries_nothing, evaluates_asked}
 use Rattle.sch_cli.proofs.program.carry_out.Goals as goal
+
+pub returns-in-None-clause-whole : goal.returns-in-None-clause-whole
+returns-in-None-clause-whole g c =
+    carries_nothing c.args.words.now _ _ (rw (← c.as_slice.ensures) (asks_nothing c.as_slice.result.now c.command_of.result c.command_of.ensures c.in-None.is))
 
 pub returns-in-Some-Expand-clause-whole : goal.returns-in-Some-Expand-clause-whole
 returns-in-Some-Expand-clause-whole g c =
     let at = c.in-Some-Expand in
-    carries_expansion c.args.words.now _ at.schema.now _ c.expand_schema.result
+    carries c.args.words.now _ (expand at.schema.now) _ c.expand_schema.result
     (rw (← c.as_slice.ensures) (asks c.as_slice.result.now c.command_of.result (borrowed.Expand at.schema) c.command_of.ensures (at.is ∙ ap Some at.field-0-is)))
     c.expand_schema.ensures.whole
 
 pub returns-in-Some-Expand-clause-opened : goal.returns-in-Some-Expand-clause-opened
 returns-in-Some-Expand-clause-opened g c =
     let at = c.in-Some-Expand in
-    opens_asked (command_of c.args.words.now) (Some (expand at.schema.now)) _ _
+    asked_opens (command_of c.args.words.now) (expand at.schema.now) _ _ c.expand_schema.result
     (rw (← c.as_slice.ensures) (asks c.as_slice.result.now c.command_of.result (borrowed.Expand at.schema) c.command_of.ensures (at.is ∙ ap Some at.field-0-is)))
-    c.expand_schema.ensures.opened
+    c.expand_schema.ensures.reads
 
 pub returns-in-Some-Expand-clause-decided : goal.returns-in-Some-Expand-clause-decided
 returns-in-Some-Expand-clause-decided g c =
     let at = c.in-Some-Expand in
-    decides_asked _ (command_of c.args.words.now) (Some (expand at.schema.now)) _ _ _
+    asked_decides (command_of c.args.words.now) (expand at.schema.now) (g.S.Shelf.state c.args.shelf.now) (g.S.Shelf.state c.expand_schema.new.shelf) c.expand_schema.result
     (rw (← c.as_slice.ensures) (asks c.as_slice.result.now c.command_of.result (borrowed.Expand at.schema) c.command_of.ensures (at.is ∙ ap Some at.field-0-is)))
-    c.expand_schema.ensures.decided
+    c.expand_schema.ensures.reads
 
 pub returns-in-Some-Validate-clause-whole : goal.returns-in-Some-Validate-clause-whole
 returns-in-Some-Validate-clause-whole g c =
     let at = c.in-Some-Validate in
-    carries_validation c.args.words.now _ at.asked.phase.now at.asked.schema.now at.asked.document.now _ c.validate.result
+    carries c.args.words.now _ (validate at.asked.phase.now at.asked.schema.now at.asked.document.now) _ c.validate.result
     (rw (← c.as_slice.ensures) (asks c.as_slice.result.now c.command_of.result (borrowed.Validate at.asked) c.command_of.ensures (at.is ∙ ap Some at.field-0-is)))
     c.validate.ensures.whole
 
 pub returns-in-Some-Validate-clause-opened : goal.returns-in-Some-Validate-clause-opened
 returns-in-Some-Validate-clause-opened g c =
     let at = c.in-Some-Validate in
-    opens_asked (command_of c.args.words.now) (Some (validate at.asked.phase.now at.asked.schema.now at.asked.document.now)) _ _
+    asked_opens (command_of c.args.words.now) (validate at.asked.phase.now at.asked.schema.now at.asked.document.now) _ _ c.validate.result
     (rw (← c.as_slice.ensures) (asks c.as_slice.result.now c.command_of.result (borrowed.Validate at.asked) c.command_of.ensures (at.is ∙ ap Some at.field-0-is)))
-    c.validate.ensures.opened
+    c.validate.ensures.reads
 
 pub returns-in-Some-Validate-clause-decided : goal.returns-in-Some-Validate-clause-decided
 returns-in-Some-Validate-clause-decided g c =
     let at = c.in-Some-Validate in
-    decides_asked _ (command_of c.args.words.now) (Some (validate at.asked.phase.now at.asked.schema.now at.asked.document.now)) _ _ _
+    asked_decides (command_of c.args.words.now) (validate at.asked.phase.now at.asked.schema.now at.asked.document.now) (g.S.Shelf.state c.args.shelf.now) (g.S.Shelf.state c.validate.new.shelf) c.validate.result
     (rw (← c.as_slice.ensures) (asks c.as_slice.result.now c.command_of.result (borrowed.Validate at.asked) c.command_of.ensures (at.is ∙ ap Some at.field-0-is)))
-    c.validate.ensures.decided
+    c.validate.ensures.reads
 
 pub returns-in-Some-Validate-clause-unevaluated : goal.returns-in-Some-Validate-clause-unevaluated
 returns-in-Some-Validate-clause-unevaluated g c = λ ends.
     let at = c.in-Some-Validate in
-    c.validate.ensures.unevaluated (evaluates_asked (command_of c.args.words.now) at.asked.phase.now at.asked.schema.now at.asked.document.now c.validate.result
+    c.validate.ensures.unevaluated (evaluates_asked (command_of c.args.words.now) (validate at.asked.phase.now at.asked.schema.now at.asked.document.now) c.validate.result (λ status. refl)
     (rw (← c.as_slice.ensures) (asks c.as_slice.result.now c.command_of.result (borrowed.Validate at.asked) c.command_of.ensures (at.is ∙ ap Some at.field-0-is)))
+    ends)
+
+pub returns-in-Some-Follow-clause-whole : goal.returns-in-Some-Follow-clause-whole
+returns-in-Some-Follow-clause-whole g c =
+    let at = c.in-Some-Follow in
+    carries c.args.words.now _ (follow at.asked.validation.phase.now at.asked.validation.schema.now at.asked.validation.document.now at.asked.script.now) _ c.follow.result
+    (rw (← c.as_slice.ensures) (asks c.as_slice.result.now c.command_of.result (borrowed.Follow at.asked) c.command_of.ensures (at.is ∙ ap Some at.field-0-is)))
+    c.follow.ensures.whole
+
+pub returns-in-Some-Follow-clause-opened : goal.returns-in-Some-Follow-clause-opened
+returns-in-Some-Follow-clause-opened g c =
+    let at = c.in-Some-Follow in
+    asked_opens (command_of c.args.words.now) (follow at.asked.validation.phase.now at.asked.validation.schema.now at.asked.validation.document.now at.asked.script.now) _ _ c.follow.result
+    (rw (← c.as_slice.ensures) (asks c.as_slice.result.now c.command_of.result (borrowed.Follow at.asked) c.command_of.ensures (at.is ∙ ap Some at.field-0-is)))
+    c.follow.ensures.reads
+
+pub returns-in-Some-Follow-clause-decided : goal.returns-in-Some-Follow-clause-decided
+returns-in-Some-Follow-clause-decided g c =
+    let at = c.in-Some-Follow in
+    asked_decides (command_of c.args.words.now) (follow at.asked.validation.phase.now at.asked.validation.schema.now at.asked.validation.document.now at.asked.script.now)
+    (g.S.Shelf.state c.args.shelf.now) (g.S.Shelf.state c.follow.new.shelf) c.follow.result
+    (rw (← c.as_slice.ensures) (asks c.as_slice.result.now c.command_of.result (borrowed.Follow at.asked) c.command_of.ensures (at.is ∙ ap Some at.field-0-is)))
+    c.follow.ensures.reads
+
+pub returns-in-Some-Follow-clause-unevaluated : goal.returns-in-Some-Follow-clause-unevaluated
+returns-in-Some-Follow-clause-unevaluated g c = λ ends.
+    let at = c.in-Some-Follow in
+    c.follow.ensures.unevaluated (evaluates_asked (command_of c.args.words.now)
+    (follow at.asked.validation.phase.now at.asked.validation.schema.now at.asked.validation.document.now at.asked.script.now) c.follow.result (λ status. refl)
+    (rw (← c.as_slice.ensures) (asks c.as_slice.result.now c.command_of.result (borrowed.Follow at.asked) c.command_of.ensures (at.is ∙ ap Some at.field-0-is)))
     ends)

@@ -1,0 +1,381 @@
+-- How the following of a script goes on, and how it ends.
+use Rattle.std.proofs.Common.{◌∙◌, ◌≡◌, ℕ, suc, ◌+◌, ◌<◌, ◌≤◌, ◌^◌, ◌⊎◌, inl, inr, if◌then◌else◌, Bool, true, false, List, [], ◌∷◌, ◌++◌, append_assoc, append-nil, length, length-append, IfErr, IfNone, IfSome, OnOk, Option, None, Some, Result, Ok, Err, refl, ap, sym, subst, arith}
+use Rattle.std.proofs.KnownBytes.{Appends-nil, Appends-trans}
+use Rattle.sch_io.specs.SinkLog.{SinkLog}
+use Rattle.sch_io.specs.Wrote.{Appends}
+use Rattle.pyx_core.proofs.LinesLemmas.{few_ended}
+use Rattle.pyx_core.specs.Before.{is_nil}
+use Rattle.pyx_core.specs.Lines.{ended_lines, unended}
+use Rattle.doc_tree.specs.Table.{Contents, Table}
+use Rattle.doc_tree.specs.declared.refusal.EditRefusal.{EditRefusal}
+use Rattle.edit_script.specs.CommandLine.{command_line}
+use Rattle.edit_script.specs.Faults.{IfFault}
+use Rattle.edit_script.specs.Script.{Opened, Script, goes_on, is_dot, is_piece, joined, last_line, lines_of, nothing, onto, opened_in, payload_fault, piece_of, script_at, script_of, stops, with_line}
+use Rattle.edit_script.specs.declared.command.Command.{Command}
+use Rattle.edit_script.specs.declared.command.Command.TheVariants.{Insert}
+use Rattle.edit_script.specs.declared.command.Said.{Said}
+use Rattle.edit_script.specs.declared.command.Said.TheVariants.{Whole, Opening}
+use Rattle.edit_script.specs.declared.fault.ScriptError.{ScriptError}
+use Rattle.edit_script.specs.declared.fault.ScriptError.TheVariants as script
+use Rattle.edit_script.specs.declared.fault.ScriptKind.{ScriptKind}
+use Rattle.edit_script.specs.declared.limits.TheConstants.{MAX_SCRIPT_BYTES}
+use Rattle.edit_commands.specs.Commands.{IsEdited, command_refusal}
+use Rattle.sch_compiled.specs.declared.plan.Plan.{Plan}
+use Rattle.edit_session.specs.Pairs.{pair_cap_for}
+use Rattle.edit_session.specs.Standing.{Standing}
+use Rattle.edit_session.specs.State.{shows, state_text}
+use Rattle.edit_session.specs.declared.state.Shown.{Shown}
+use Rattle.sch_cli.specs.declared.following.Follower.{Follower}
+use Rattle.sch_cli.specs.declared.refusal.ScriptRefusal.TheVariants as refusal
+use Rattle.sch_cli.specs.declared.status.Status.TheVariants as status
+use Rattle.sch_cli.specs.declared.stop.Stop.{Stop}
+use Rattle.sch_cli.specs.declared.stop.Stop.TheVariants.{ScriptRefused, Memory}
+use Rattle.sch_cli.specs.Following.{Begins, Follows, comes_to_end, edit_line, edited, edits, nothing_yet, refused, refused_line, refuses, stops_at, then_shown, under}
+use Rattle.sch_cli.specs.Output.{Output, ended, in_front}
+use Rattle.sch_cli.specs.Runs.{AppendsFront, Fronted, counted_if}
+use Rattle.sch_cli.specs.Stages.{BeginsStates, States}
+use Rattle.sch_cli.specs.inner.Followers.{Beginning, Ending, Goes, IsLed, IsReady, in_front_of}
+use Rattle.sch_cli.specs.inner.Stops.{Concludes, IsOfWriting, Shows, WroteText, ends_with, of_script, stopped_by}
+use Rattle.sch_cli.proofs.EndLemmas.{by_cause, concludes_behind}
+
+-- How many commands a script has
+
+-- a line gives one command at most
+module _ (line : List ℕ) (lines : List (List ℕ)) (before : (insert : Option Opened) (number : ℕ) → length (script_at insert number lines).commands ≤ length lines) where
+  few_said : (number : ℕ) (said : Result Said ScriptKind) →
+      length (goes_on number said (script_at None (suc number) lines) (λ insert. script_at (Some insert) (suc number) lines)).commands ≤ suc (length lines)
+  few_said number (Err kind) = omega arith
+  few_said number (Ok (Whole command)) = omega (arith, before None (suc number))
+  few_said number (Ok (Opening path at)) = omega (arith, before (Some (opened_in number path at)) (suc number))
+
+  few_piece : (insert : Opened) (number : ℕ) (b : Bool) →
+      length (if b then onto (Insert insert.path insert.at (piece_of (joined insert.lines))) (script_at None (suc number) lines) else stops (payload_fault insert)).commands ≤ suc (length lines)
+  few_piece insert number true = omega (arith, before None (suc number))
+  few_piece insert number false = omega arith
+
+  few_between : (number : ℕ) (b : Bool) → is_nil line ≡ b → length (script_at None number (line ∷ lines)).commands ≤ suc (length lines)
+  few_between number true is = rw is (omega (arith, before None (suc number)))
+  few_between number false is = rw is (few_said number (command_line line))
+
+  few_within : (insert : Opened) (number : ℕ) (b : Bool) → is_dot line ≡ b → length (script_at (Some insert) number (line ∷ lines)).commands ≤ suc (length lines)
+  few_within insert number true is = rw is (few_piece insert number (is_piece (joined insert.lines)))
+  few_within insert number false is = rw is (omega (arith, before (Some (with_line insert line)) (suc number)))
+
+few_in_lines : (lines : List (List ℕ)) (insert : Option Opened) (number : ℕ) → length (script_at insert number lines).commands ≤ length lines
+few_in_lines [] None number = omega arith
+few_in_lines [] (Some insert) number = omega arith
+few_in_lines (line ∷ lines) None number = few_between line lines (few_in_lines lines) number (is_nil line) refl
+few_in_lines (line ∷ lines) (Some insert) number = few_within line lines (few_in_lines lines) insert number (is_dot line) refl
+
+few_last : (bytes : List ℕ) → length (last_line bytes) ≤ 1
+few_last [] = omega arith
+few_last (b ∷ bytes) = omega arith
+
+-- a script can be numbered
+pub few_commands : (bytes : List ℕ) → length bytes ≤ MAX_SCRIPT_BYTES → 1 + length (script_of bytes).commands < 2 ^ 64
+few_commands bytes short =
+    let lines : length (lines_of bytes) ≤ suc (length bytes) = omega (arith, few_ended bytes, few_last (unended bytes), length-append (ended_lines bytes) (last_line (unended bytes))) in
+    omega (arith, lines, few_in_lines (lines_of bytes) None 1, short)
+
+-- Commands
+
+-- no reason depends on names
+pub refusal_under : (plan : Plan) (tree : Contents) (command : Command) → tree.pair_cap ≡ pair_cap_for plan → command_refusal (under plan tree.nodes) command ≡ command_refusal tree command
+refusal_under plan tree command cap = ap (λ (count : ℕ). command_refusal (record { nodes = tree.nodes; names = []; pair_cap = count }) command) (sym cap)
+
+-- what is to come does not depend on how its place is told
+follows_same : (plan other : Plan) (T U : Table) (n m : ℕ) (seen shown : Shown) (script rest : Script) (output : Output) → plan ≡ other → T ≡ U → n ≡ m → seen ≡ shown → script ≡ rest →
+    Follows plan T n seen script output → Follows other U m shown rest output
+follows_same plan other T U n m seen shown script rest output plans trees numbers states scripts follows =
+    subst (λ (s : Script). Follows other U m shown s output) scripts
+    (subst (λ (s : Shown). Follows other U m s script output) states
+    (subst (λ (k : ℕ). Follows other U k seen script output) numbers
+    (subst (λ (X : Table). Follows other X n seen script output) trees
+    (subst (λ (p : Plan). Follows p T n seen script output) plans follows))))
+
+begins_same : (plan other : Plan) (T U : Table) (n m : ℕ) (script rest : Script) (text : List ℕ) → plan ≡ other → T ≡ U → n ≡ m → script ≡ rest → Begins plan T n script text → Begins other U m rest text
+begins_same plan other T U n m script rest text plans trees numbers scripts begins =
+    subst (λ (s : Script). Begins other U m s text) scripts
+    (subst (λ (k : ℕ). Begins other U k script text) numbers
+    (subst (λ (X : Table). Begins other X n script text) trees
+    (subst (λ (p : Plan). Begins p T n script text) plans begins)))
+
+-- where a place is told by another
+pub record IsPlace (at : Follower) (plan : Plan) (T : Table) (number : ℕ) (rest : Script) : Type 0 where
+  pub plan_is : at.session.plan ≡ plan
+  pub tree_is : at.session.tree.nodes ≡ T
+  pub number_is : at.number ≡ number
+  pub rest_is : at.script ≡ rest
+
+module _ (at later : Follower) (command : Command) (cap : at.session.tree.pair_cap ≡ pair_cap_for at.session.plan) where
+  -- an accepted command leads from one place to the next
+  pub led_edited : (U : Table) → command_refusal at.session.tree command ≡ None → IsEdited at.session.tree.nodes command U →
+      IsPlace later at.session.plan U (at.number + 1) at.script → later.seen ≡ then_shown at.seen (shows at.session.plan U) →
+      IsLed (in_front_of command at) later (edit_line at.number ++ state_text at.session.plan U)
+  led_edited U none makes place seen = record {
+    ends = λ output follows. edits at.session.tree.nodes U at.number at.seen command at.script output (refusal_under at.session.plan at.session.tree command cap ∙ none) makes
+        (follows_same later.session.plan at.session.plan later.session.tree.nodes U later.number (at.number + 1) later.seen (then_shown at.seen (shows at.session.plan U)) later.script at.script output
+        place.plan_is place.tree_is place.number_is seen place.rest_is follows);
+    begins = λ more begins. edited at.session.tree.nodes U at.number command at.script more (refusal_under at.session.plan at.session.tree command cap ∙ none) makes
+        (begins_same later.session.plan at.session.plan later.session.tree.nodes U later.number (at.number + 1) later.script at.script more
+        place.plan_is place.tree_is place.number_is place.rest_is begins);
+  }
+
+  -- and its text is one that is written
+  pub begun_edited : (U : Table) → command_refusal at.session.tree command ≡ None → IsEdited at.session.tree.nodes command U →
+      Beginning (in_front_of command at) ((edit_line at.number ++ state_text at.session.plan U) ++ [])
+  begun_edited U none makes = edited at.session.tree.nodes U at.number command at.script [] (refusal_under at.session.plan at.session.tree command cap ∙ none) makes (nothing_yet U (at.number + 1) at.script)
+
+  -- and so does a refused command, which changes nothing
+  pub led_refused : (reason : EditRefusal) → command_refusal at.session.tree command ≡ Some reason → IsPlace later at.session.plan at.session.tree.nodes (at.number + 1) at.script → later.seen ≡ at.seen →
+      IsLed (in_front_of command at) later (refused_line at.number reason)
+  led_refused reason some place seen = record {
+    ends = λ output follows. refuses at.session.tree.nodes at.number at.seen command reason at.script output (refusal_under at.session.plan at.session.tree command cap ∙ some)
+        (follows_same later.session.plan at.session.plan later.session.tree.nodes at.session.tree.nodes later.number (at.number + 1) later.seen at.seen later.script at.script output
+        place.plan_is place.tree_is place.number_is seen place.rest_is follows);
+    begins = λ more begins. refused at.session.tree.nodes at.number command reason at.script more (refusal_under at.session.plan at.session.tree command cap ∙ some)
+        (begins_same later.session.plan at.session.plan later.session.tree.nodes at.session.tree.nodes later.number (at.number + 1) later.script at.script more
+        place.plan_is place.tree_is place.number_is place.rest_is begins);
+  }
+
+  pub begun_refused : (reason : EditRefusal) → command_refusal at.session.tree command ≡ Some reason → Beginning (in_front_of command at) (refused_line at.number reason ++ [])
+  begun_refused reason some = refused at.session.tree.nodes at.number command reason at.script [] (refusal_under at.session.plan at.session.tree command cap ∙ some)
+      (nothing_yet at.session.tree.nodes (at.number + 1) at.script)
+
+-- a text that was written leads on, or a front of it was
+pub goes_by : {A : Type 0} (earlier later : Follower) (old new : SinkLog) (text : List ℕ) (result : Result A Stop) → OnOk result (IsLed earlier later text) → Beginning earlier (text ++ []) →
+    WroteText {A = A} old new text result → Goes {A = A} earlier later old new result
+goes_by earlier later old new text (Ok done) led begun wrote = record { told = (text, led, wrote.told); writing = tt; faults = wrote.faults }
+goes_by earlier later old new text (Err stop) led begun wrote = record {
+  told = by_cause (λ _. ⊥) (λ _. ⊥) (λ _. ⊥) (λ _. ⊥) (AppendsFront old.written new.written text) (Fronted (Beginning earlier) (Appends old.written new.written))
+      (AppendsFront old.written new.written text) (Fronted (Beginning earlier) (Appends old.written new.written)) (λ stop no. no) (λ name no. no) front front stop wrote.told;
+  writing = wrote.writing;
+  faults = wrote.faults;
+}
+  where
+    front : AppendsFront old.written new.written text → Fronted (Beginning earlier) (Appends old.written new.written)
+    front appended = record {
+      text = text ++ [];
+      comes = begun;
+      done = appended.0;
+      left = appended.1;
+      is_front = append-nil text ∙ appended.2;
+      out = appended.3;
+    }
+
+-- nothing was written, for want of memory
+pub goes_nowhere : {A : Type 0} (earlier later : Follower) (log : SinkLog) → Goes {A = A} earlier later log log (Err Memory)
+goes_nowhere earlier later log = record {
+  told = record {
+    text = [];
+    comes = nothing_yet earlier.session.tree.nodes earlier.number earlier.script;
+    done = [];
+    left = [];
+    is_front = refl;
+    out = Appends-nil log.written;
+  };
+  writing = record { unnamed = refl; usage = refl; missing = refl; read_fault = refl; writes = refl };
+  faults = refl;
+}
+
+-- what comes of an accepted command
+pub command_edited : (at later : Follower) (command : Command) (session : Standing) (old new : SinkLog) (result : Result (Unit {0}) Stop) → at.session.tree.pair_cap ≡ pair_cap_for at.session.plan →
+    command_refusal at.session.tree command ≡ None → IsEdited at.session.tree.nodes command session.tree.nodes → session.plan ≡ at.session.plan →
+    WroteText {A = Unit {0}} old new (edit_line at.number ++ state_text session.plan session.tree.nodes) result →
+    later.session.plan ≡ session.plan → later.session.tree ≡ session.tree → later.number ≡ at.number + 1 → later.script ≡ at.script →
+    OnOk result (later.seen ≡ then_shown at.seen (shows session.plan session.tree.nodes)) → Goes {A = Unit {0}} (in_front_of command at) later old new result
+command_edited at later command session old new result cap none makes plan wrote plans trees numbers scripts seen =
+    goes_by {A = Unit {0}} (in_front_of command at) later old new (edit_line at.number ++ state_text at.session.plan session.tree.nodes) result (led result seen)
+    (begun_edited at later command cap session.tree.nodes none makes)
+    (subst (λ (p : Plan). WroteText {A = Unit {0}} old new (edit_line at.number ++ state_text p session.tree.nodes) result) plan wrote)
+  where
+    led : (result : Result (Unit {0}) Stop) → OnOk result (later.seen ≡ then_shown at.seen (shows session.plan session.tree.nodes)) →
+        OnOk result (IsLed (in_front_of command at) later (edit_line at.number ++ state_text at.session.plan session.tree.nodes))
+    led (Ok done) seen = led_edited at later command cap session.tree.nodes none makes
+        (record { plan_is = plans ∙ plan; tree_is = ap (λ (tree : Contents). tree.nodes) trees; number_is = numbers; rest_is = scripts })
+        (seen ∙ ap (λ (p : Plan). then_shown at.seen (shows p session.tree.nodes)) plan)
+    led (Err stop) seen = tt
+
+-- and of a refused one
+pub command_refused : (at later : Follower) (command : Command) (reason : EditRefusal) (old new : SinkLog) (result : Result (Unit {0}) Stop) → at.session.tree.pair_cap ≡ pair_cap_for at.session.plan →
+    command_refusal at.session.tree command ≡ Some reason → WroteText {A = Unit {0}} old new (refused_line at.number reason) result →
+    later.session.plan ≡ at.session.plan → later.session.tree.nodes ≡ at.session.tree.nodes → later.number ≡ at.number + 1 → later.script ≡ at.script → later.seen ≡ at.seen →
+    Goes {A = Unit {0}} (in_front_of command at) later old new result
+command_refused at later command reason old new result cap some wrote plans trees numbers scripts seen =
+    goes_by {A = Unit {0}} (in_front_of command at) later old new (refused_line at.number reason) result (led result)
+    (begun_refused at later command cap reason some) wrote
+  where
+    led : (result : Result (Unit {0}) Stop) → OnOk result (IsLed (in_front_of command at) later (refused_line at.number reason))
+    led (Ok done) = led_refused at later command cap reason some (record { plan_is = plans; tree_is = trees; number_is = numbers; rest_is = scripts }) seen
+    led (Err stop) = tt
+
+-- the next place is ready too
+pub ready_after : (at later : Follower) (command : Command) → IsReady (in_front_of command at) → later.session.tree.pair_cap ≡ at.session.tree.pair_cap → later.session.plan ≡ at.session.plan →
+    later.number ≡ at.number + 1 → later.script ≡ at.script → IsReady later
+ready_after at later command ready caps plans numbers scripts = record {
+  cap = caps ∙ ready.cap ∙ ap pair_cap_for (sym plans);
+  few =
+      let length_is : length later.script.commands ≡ length at.script.commands = ap (λ (s : Script). length s.commands) scripts in
+      omega (arith, ready.few, numbers, length_is);
+}
+
+-- The commands one after another
+
+-- the later place was come to from the earlier one
+pub record HasCome (earlier later : Follower) (old new : SinkLog) : Type 0 where
+  pub text : List ℕ
+  pub led : IsLed earlier later text
+  pub out : Appends old.written new.written text
+
+-- no command was done yet
+pub not_gone : (at : Follower) (log : SinkLog) → HasCome at at log log
+not_gone at log = record { text = []; led = record { ends = λ output follows. follows; begins = λ more begins. begins }; out = Appends-nil log.written }
+
+led_on : (a b c : Follower) (text more : List ℕ) → IsLed a b text → IsLed b c more → IsLed a c (text ++ more)
+led_on a b c text more first next = record {
+  ends = λ output follows. subst (λ (bytes : List ℕ). Ending a (record { out = bytes; err = output.err; ends = output.ends })) (sym (append_assoc text more output.out))
+      (first.ends (in_front more output) (next.ends output follows));
+  begins = λ rest begins. subst (Beginning a) (sym (append_assoc text more rest)) (first.begins (more ++ rest) (next.begins rest begins));
+}
+
+-- the place in front of the next command is the one that was come to
+led_same : (earlier later rest : Follower) (command : Command) (text : List ℕ) → IsPlace later rest.session.plan rest.session.tree.nodes rest.number (onto command rest.script) → later.seen ≡ rest.seen →
+    IsLed earlier later text → IsLed earlier (in_front_of command rest) text
+led_same earlier later rest command text place seen led = record {
+  ends = λ output follows. led.ends output (follows_same rest.session.plan later.session.plan rest.session.tree.nodes later.session.tree.nodes rest.number later.number rest.seen later.seen
+      (onto command rest.script) later.script output (sym place.plan_is) (sym place.tree_is) (sym place.number_is) (sym seen) (sym place.rest_is) follows);
+  begins = λ more begins. led.begins more (begins_same rest.session.plan later.session.plan rest.session.tree.nodes later.session.tree.nodes rest.number later.number
+      (onto command rest.script) later.script more (sym place.plan_is) (sym place.tree_is) (sym place.number_is) (sym place.rest_is) begins);
+}
+
+pub come_before : (earlier later rest : Follower) (command : Command) (old new : SinkLog) → IsPlace later rest.session.plan rest.session.tree.nodes rest.number (onto command rest.script) → later.seen ≡ rest.seen →
+    HasCome earlier later old new → HasCome earlier (in_front_of command rest) old new
+come_before earlier later rest command old new place seen come = record { text = come.text; led = led_same earlier later rest command come.text place seen come.led; out = come.out }
+
+-- one command more was done
+pub come_on : {A : Type 0} (earlier before later : Follower) (old mid new : SinkLog) (value : A) → HasCome earlier before old mid → Goes {A = A} before later mid new (Ok value) → HasCome earlier later old new
+come_on earlier before later old mid new value come goes = record {
+  text = come.text ++ goes.told.0;
+  led = led_on earlier before later come.text goes.told.0 come.led goes.told.1;
+  out = Appends-trans old.written mid.written new.written come.text goes.told.0 come.out goes.told.2;
+}
+
+-- the next command, where there is one
+next_command : (next : Option Command) (command : Command) (old new : Script) → next ≡ Some command → IfSome next (λ c. old ≡ onto c new) → old ≡ onto command new
+next_command next command old new is says = subst (λ (n : Option Command). IfSome n (λ c. old ≡ onto c new)) is says
+
+pub come_to_next : (earlier later : Follower) (rest : Script) (next : Option Command) (command : Command) (old new : SinkLog) → next ≡ Some command → IfSome next (λ c. later.script ≡ onto c rest) →
+    HasCome earlier later old new → HasCome earlier (in_front_of command (record later { script = rest })) old new
+come_to_next earlier later rest next command old new is says come = come_before earlier later (record later { script = rest }) command old new
+    (record { plan_is = refl; tree_is = refl; number_is = refl; rest_is = next_command next command later.script rest is says }) refl come
+
+-- the script is at its end where there is none
+pub no_next : (next : Option Command) (old new : Script) → ((command : Command) → next ≡ Some command → ⊥) → IfNone next ((old ≡ nothing) × (new ≡ old)) → old ≡ nothing
+no_next None old new none says = says.0
+no_next (Some command) old new none says = absurd (none command refl)
+
+-- how the rest ends is how all ends
+comes_to_conclude : (earlier later : Follower) (old mid new : SinkLog) → HasCome earlier later old mid → (result : Result Shown Stop) →
+    Concludes (Ending later) (λ _. ⊥) (Beginning later) (Appends mid.written new.written) result → Concludes (Ending earlier) (λ _. ⊥) (Beginning earlier) (Appends old.written new.written) result
+comes_to_conclude earlier later old mid new come = concludes_behind (Ending later) (Ending earlier) (Beginning later) (Beginning earlier) old.written mid.written new.written come.text come.out
+    come.led.ends come.led.begins (come.led.begins [] (nothing_yet later.session.tree.nodes later.number later.script))
+
+-- the script comes to its end
+pub rest_ends : (earlier later : Follower) (old mid : SinkLog) → HasCome earlier later old mid → later.script ≡ nothing →
+    Concludes (Ending earlier) (λ _. ⊥) (Beginning earlier) (Appends old.written mid.written) (Ok later.seen)
+rest_ends earlier later old mid come none = comes_to_conclude earlier later old mid mid come (Ok later.seen) (record {
+  output = ended [] later.seen;
+  may_be = subst (λ (s : Script). Follows later.session.plan later.session.tree.nodes later.number later.seen s (ended [] later.seen)) (sym none)
+      (comes_to_end later.session.tree.nodes later.number later.seen);
+  ends_so = refl;
+  err_is = refl;
+  out = Appends-nil mid.written;
+})
+
+-- it has a fault, or memory runs out
+pub rest_stops : (earlier later : Follower) (old mid : SinkLog) → HasCome earlier later old mid → (error : ScriptError) (stop : Stop) (result : Result Shown Stop) → result ≡ Err stop → stop ≡ of_script error →
+    IfFault (λ found. later.script ≡ stops found) error → Concludes (Ending earlier) (λ _. ⊥) (Beginning earlier) (Appends old.written mid.written) result
+rest_stops earlier later old mid come error stop result is says found = subst (Concludes (Ending earlier) (λ _. ⊥) (Beginning earlier) (Appends old.written mid.written)) (sym (is ∙ ap Err says))
+    (comes_to_conclude earlier later old mid mid come (Err (of_script error)) (by error found))
+  where
+    by : (error : ScriptError) → IfFault (λ found. later.script ≡ stops found) error → Concludes (Ending later) (λ _. ⊥) (Beginning later) (Appends mid.written mid.written) (Err (of_script error))
+    by (script.Fault fault) found = record {
+      output = stopped_by (ScriptRefused (refusal.Faulted fault));
+      may_be = subst (λ (s : Script). Follows later.session.plan later.session.tree.nodes later.number later.seen s (stopped_by (ScriptRefused (refusal.Faulted fault)))) (sym found)
+          (stops_at later.session.tree.nodes later.number later.seen fault);
+      ends_so = refl;
+      err_is = refl;
+      out = Appends-nil mid.written;
+    }
+    by script.Memory found = inl (Appends-nil mid.written)
+
+pub script_writing : (error : ScriptError) (stop : Stop) (result : Result Shown Stop) → result ≡ Err stop → stop ≡ of_script error → IfErr result IsOfWriting
+script_writing error stop result is says = subst (λ (r : Result Shown Stop). IfErr r IsOfWriting) (sym (is ∙ ap Err says)) (by error)
+  where
+    by : (error : ScriptError) → IsOfWriting (of_script error)
+    by (script.Fault fault) = record { unnamed = refl; usage = refl; missing = refl; read_fault = refl; writes = refl }
+    by script.Memory = record { unnamed = refl; usage = refl; missing = refl; read_fault = refl; writes = refl }
+
+pub script_faults : (count : ℕ) (error : ScriptError) (stop : Stop) (result : Result Shown Stop) → result ≡ Err stop → stop ≡ of_script error → count ≡ counted_if (ends_with status.WriteFault result) count
+script_faults count error stop result is says = subst (λ (r : Result Shown Stop). count ≡ counted_if (ends_with status.WriteFault r) count) (sym (is ∙ ap Err says)) (by error)
+  where
+    by : (error : ScriptError) → count ≡ counted_if (ends_with {A = Shown} status.WriteFault (Err (of_script error))) count
+    by (script.Fault fault) = refl
+    by script.Memory = refl
+
+-- what comes of a command is not written whole
+pub command_stops : {A : Type 0} (earlier before later : Follower) (old mid new : SinkLog) → HasCome earlier before old mid → (stop : Stop) (result : Result Shown Stop) → result ≡ Err stop →
+    Goes {A = A} before later mid new (Err stop) → Concludes (Ending earlier) (λ _. ⊥) (Beginning earlier) (Appends old.written new.written) result
+command_stops earlier before later old mid new come stop result is goes = subst (Concludes (Ending earlier) (λ _. ⊥) (Beginning earlier) (Appends old.written new.written)) (sym is)
+    (comes_to_conclude earlier before old mid new come (Err stop)
+    (by_cause (λ _. ⊥) (λ says. Shows (Ending before) (Appends mid.written new.written) says.ends says.err) (λ _. ⊥) (λ name. ⊥ × Appends mid.written new.written [])
+    (Fronted (Beginning before) (Appends mid.written new.written)) (Fronted (Beginning before) (Appends mid.written new.written))
+    (Fronted (Beginning before) (Appends mid.written new.written)) (Appends mid.written new.written [] ⊎ Fronted (Beginning before) (Appends mid.written new.written))
+    (λ stop no. absurd no) (λ name no. absurd no) (λ front. front) (λ front. inr front) stop goes.told))
+
+pub goes_writing : {A : Type 0} (before later : Follower) (mid new : SinkLog) (stop : Stop) (result : Result Shown Stop) → result ≡ Err stop → Goes {A = A} before later mid new (Err stop) → IfErr result IsOfWriting
+goes_writing before later mid new stop result is goes = subst (λ (r : Result Shown Stop). IfErr r IsOfWriting) (sym is) goes.writing
+
+pub goes_faults : {A : Type 0} (before later : Follower) (mid new : SinkLog) (count : ℕ) (stop : Stop) (result : Result Shown Stop) → result ≡ Err stop → mid.faults ≡ count → Goes {A = A} before later mid new (Err stop) →
+    new.faults ≡ counted_if (ends_with status.WriteFault result) count
+goes_faults before later mid new count stop result is same goes = subst (λ (r : Result Shown Stop). new.faults ≡ counted_if (ends_with status.WriteFault r) count) (sym is)
+    (goes.faults ∙ ap (λ (faults : ℕ). counted_if (ends_with {A = Shown} status.WriteFault (Err stop)) faults) same)
+
+-- The first state
+
+-- the first state is not written whole
+pub first_stops : (plan : Plan) (T : Table) (bytes : List ℕ) (old new : SinkLog) (stop : Stop) (result : Result Shown Stop) → result ≡ Err stop →
+    WroteText {A = Shown} old new (state_text plan T) (Err stop) → Concludes (States plan T bytes) (λ _. ⊥) (BeginsStates plan T bytes) (Appends old.written new.written) result
+first_stops plan T bytes old new stop result is wrote = subst (Concludes (States plan T bytes) (λ _. ⊥) (BeginsStates plan T bytes) (Appends old.written new.written)) (sym is)
+    (by_cause (λ _. ⊥) (λ says. Shows (States plan T bytes) (Appends old.written new.written) says.ends says.err) (λ _. ⊥) (λ name. ⊥ × Appends old.written new.written [])
+    (AppendsFront old.written new.written (state_text plan T)) (Fronted (BeginsStates plan T bytes) (Appends old.written new.written))
+    (AppendsFront old.written new.written (state_text plan T)) (Appends old.written new.written [] ⊎ Fronted (BeginsStates plan T bytes) (Appends old.written new.written))
+    (λ stop no. absurd no) (λ name no. absurd no) front (λ appended. inr (front appended)) stop wrote.told)
+  where
+    front : AppendsFront old.written new.written (state_text plan T) → Fronted (BeginsStates plan T bytes) (Appends old.written new.written)
+    front appended = record {
+      text = state_text plan T ++ [];
+      comes = ([], nothing_yet T 1 (script_of bytes), refl);
+      done = appended.0;
+      left = appended.1;
+      is_front = append-nil (state_text plan T) ∙ appended.2;
+      out = appended.3;
+    }
+
+-- and behind it stands what comes of the commands
+pub first_then : (plan : Plan) (T : Table) (bytes : List ℕ) (old mid new : SinkLog) (first : Follower) → IsPlace first plan T 1 (script_of bytes) → first.seen ≡ shows plan T →
+    Appends old.written mid.written (state_text plan T) → (result : Result Shown Stop) →
+    Concludes (Ending first) (λ _. ⊥) (Beginning first) (Appends mid.written new.written) result → Concludes (States plan T bytes) (λ _. ⊥) (BeginsStates plan T bytes) (Appends old.written new.written) result
+first_then plan T bytes old mid new first place seen out = concludes_behind (Ending first) (States plan T bytes) (Beginning first) (BeginsStates plan T bytes) old.written mid.written new.written (state_text plan T) out
+    (λ output follows. (
+      output,
+      follows_same first.session.plan plan first.session.tree.nodes T first.number 1 first.seen (shows plan T) first.script (script_of bytes) output
+          place.plan_is place.tree_is place.number_is seen place.rest_is follows,
+      refl,
+    ))
+    (λ more begins. (
+      more,
+      begins_same first.session.plan plan first.session.tree.nodes T first.number 1 first.script (script_of bytes) more place.plan_is place.tree_is place.number_is place.rest_is begins,
+      refl,
+    ))
+    ([], nothing_yet T 1 (script_of bytes), refl)

@@ -1,0 +1,16 @@
+-- The commands so far were done.
+use Rattle.std.proofs.Common.{◌≡◌, ◌≤◌, length}
+use Rattle.sch_cli.specs.inner.Followers.{IsReady}
+use Rattle.sch_cli.proofs.FollowLemmas.{HasCome}
+use Rattle.sch_cli.proofs.following.Follower.follow_rest.Given as goal
+
+abbrev pub invariant-loop-command : goal.invariant-loop-command
+invariant-loop-command g l = record {
+  ready : IsReady l.self;
+  come : HasCome l.initial.self l.self (g.O.Sink.log l.initial.out) (g.O.Sink.log l.out);
+  faults : (g.O.Sink.log l.out).faults ≡ (g.O.Sink.log l.initial.out).faults;
+  steps : l.initial.steps ≤ l.steps;
+}
+
+abbrev pub decreases-loop-command : goal.decreases-loop-command
+decreases-loop-command g l = length l.self.script.commands

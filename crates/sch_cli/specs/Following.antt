@@ -1,0 +1,79 @@
+-- What is written for the commands of an edit script, one after another.
+use Rattle.std.specs.Prelude.{◌≡◌, ℕ, ◌+◌, List, [], ◌++◌, None, Some, codes}
+use Rattle.std.specs.Fmt.{decimal}
+use Rattle.doc_tree.specs.Table.{Contents, Table}
+use Rattle.doc_tree.specs.declared.refusal.EditRefusal.{EditRefusal}
+use Rattle.doc_tree.specs.declared.refusal.EditRefusal.TheVariants.{NoNode, WrongKind, NotInRange, RootElement, TextBeside, EmptyText, NoPrefix, XmlnsName, NoAttribute, TooManyNodes, TooDeep, TooMuchText, IdsSpent, TooManyPairs, SameAttribute}
+use Rattle.edit_script.specs.Script.{Script, nothing, onto, stops}
+use Rattle.edit_script.specs.declared.command.Command.{Command}
+use Rattle.edit_script.specs.declared.fault.ScriptFault.{ScriptFault}
+use Rattle.edit_commands.specs.Commands.{IsEdited, command_refusal}
+use Rattle.sch_compiled.specs.declared.plan.Plan.{Plan}
+use Rattle.edit_session.specs.Pairs.{pair_cap_for}
+use Rattle.edit_session.specs.State.{shows, state_text}
+use Rattle.edit_session.specs.declared.state.Shown.{Shown}
+use Rattle.edit_session.specs.declared.state.Shown.TheVariants.{Clean, Findings, Fault}
+use Rattle.sch_cli.specs.declared.status.Status.TheVariants.{ScriptRefused}
+use Rattle.sch_cli.specs.declared.refusal.ScriptRefusal.TheVariants.{Faulted}
+use Rattle.sch_cli.specs.Output.{Output, ended, in_front, stopped}
+use Rattle.sch_cli.specs.Refusals.{script_refused_line}
+
+-- the line in front of the state behind an accepted command, which tells its number
+unfoldable pub edit_line : ℕ → List ℕ
+edit_line number = codes "?edit " ++ (decimal number ++ codes "\n")
+
+-- the names of the reasons against a command
+abbrev pub refusal_words : EditRefusal → List ℕ
+refusal_words NoNode = codes "NoNode"
+refusal_words WrongKind = codes "WrongKind"
+refusal_words NotInRange = codes "NotInRange"
+refusal_words RootElement = codes "RootElement"
+refusal_words TextBeside = codes "TextBeside"
+refusal_words EmptyText = codes "EmptyText"
+refusal_words NoPrefix = codes "NoPrefix"
+refusal_words XmlnsName = codes "XmlnsName"
+refusal_words NoAttribute = codes "NoAttribute"
+refusal_words TooManyNodes = codes "TooManyNodes"
+refusal_words TooDeep = codes "TooDeep"
+refusal_words TooMuchText = codes "TooMuchText"
+refusal_words IdsSpent = codes "IdsSpent"
+refusal_words TooManyPairs = codes "TooManyPairs"
+refusal_words SameAttribute = codes "SameAttribute"
+
+-- the line of a refused command: its number, and the first reason against it
+unfoldable pub refused_line : ℕ → EditRefusal → List ℕ
+refused_line number reason = codes "?refused " ++ (decimal number ++ (codes " " ++ (refusal_words reason ++ codes "\n")))
+
+-- a document under a plan, which says how many nodes may live in it; no reason depends on names
+abbrev pub under : Plan → Table → Contents
+under plan T = record { nodes = T; names = []; pair_cap = pair_cap_for plan }
+
+-- what the states so far show, with one more: a fault where one is, and else what the last one shows
+abbrev pub then_shown : Shown → Shown → Shown
+then_shown Fault next = Fault
+then_shown Clean next = next
+then_shown Findings next = next
+
+-- the output of the commands from the one with a number on, by the document that they find, what the states so far show, and
+-- what is to come of the script
+pub data Follows (plan : Plan) : Table → ℕ → Shown → Script → Output → Type 0 where
+  comes_to_end : (T : Table) (number : ℕ) (seen : Shown) → Follows plan T number seen nothing (ended [] seen)
+  stops_at : (T : Table) (number : ℕ) (seen : Shown) (fault : ScriptFault) →
+      Follows plan T number seen (stops fault) (stopped ScriptRefused (script_refused_line (Faulted fault)))
+  refuses : (T : Table) (number : ℕ) (seen : Shown) (command : Command) (reason : EditRefusal) (rest : Script) (output : Output) →
+      command_refusal (under plan T) command ≡ Some reason → Follows plan T (number + 1) seen rest output →
+      Follows plan T number seen (onto command rest) (in_front (refused_line number reason) output)
+  edits : (T U : Table) (number : ℕ) (seen : Shown) (command : Command) (rest : Script) (output : Output) →
+      command_refusal (under plan T) command ≡ None → IsEdited T command U →
+      Follows plan U (number + 1) (then_shown seen (shows plan U)) rest output →
+      Follows plan T number seen (onto command rest) (in_front (edit_line number ++ state_text plan U) output)
+
+-- a text that the first of these commands write
+pub data Begins (plan : Plan) : Table → ℕ → Script → List ℕ → Type 0 where
+  nothing_yet : (T : Table) (number : ℕ) (script : Script) → Begins plan T number script []
+  refused : (T : Table) (number : ℕ) (command : Command) (reason : EditRefusal) (rest : Script) (text : List ℕ) →
+      command_refusal (under plan T) command ≡ Some reason → Begins plan T (number + 1) rest text →
+      Begins plan T number (onto command rest) (refused_line number reason ++ text)
+  edited : (T U : Table) (number : ℕ) (command : Command) (rest : Script) (text : List ℕ) →
+      command_refusal (under plan T) command ≡ None → IsEdited T command U → Begins plan U (number + 1) rest text →
+      Begins plan T number (onto command rest) ((edit_line number ++ state_text plan U) ++ text)

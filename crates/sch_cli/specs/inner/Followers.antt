@@ -1,0 +1,43 @@
+-- Where the following of a script stands, and how it comes from one place to another.
+use Rattle.std.specs.Prelude.{◌≡◌, ℕ, ◌+◌, ◌<◌, ◌^◌, List, ◌++◌, length}
+use Rattle.edit_script.specs.Script.{onto}
+use Rattle.edit_script.specs.declared.command.Command.{Command}
+use Rattle.edit_session.specs.Pairs.{pair_cap_for}
+use Rattle.sch_io.specs.SinkLog.{SinkLog}
+use Rattle.std.specs.Prelude.{Result, MatchResult, IfErr}
+use Rattle.sch_io.specs.Wrote.{Appends}
+use Rattle.sch_cli.specs.declared.following.Follower.{Follower}
+use Rattle.sch_cli.specs.declared.status.Status.TheVariants as status
+use Rattle.sch_cli.specs.declared.stop.Stop.{Stop}
+use Rattle.sch_cli.specs.Following.{Begins, Follows}
+use Rattle.sch_cli.specs.Output.{Output, in_front}
+use Rattle.sch_cli.specs.Runs.{Fronted, counted_if}
+use Rattle.sch_cli.specs.inner.Stops.{ByCause, IsOfWriting, ends_with}
+
+-- the outputs of what is to come, and the texts that it comes to write
+abbrev pub Ending : Follower → Output → Type 0
+Ending at output = Follows at.session.plan at.session.tree.nodes at.number at.seen at.script output
+
+abbrev pub Beginning : Follower → List ℕ → Type 0
+Beginning at text = Begins at.session.plan at.session.tree.nodes at.number at.script text
+
+-- the same place in front of a command
+abbrev pub in_front_of : Command → Follower → Follower
+in_front_of command at = record at { script = onto command at.script }
+
+-- what comes behind the later place comes behind the earlier one, with a text in front
+pub record IsLed (earlier later : Follower) (text : List ℕ) : Type 0 where
+  pub ends : (output : Output) → Ending later output → Ending earlier (in_front text output)
+  pub begins : (more : List ℕ) → Beginning later more → Beginning earlier (text ++ more)
+
+-- the document has its plan's pair cap, and the commands can be numbered
+pub record IsReady (at : Follower) : Type 0 where
+  pub cap : at.session.tree.pair_cap ≡ pair_cap_for at.session.plan
+  pub few : at.number + length at.script.commands < 2 ^ 64
+
+-- what is written leads to the later place, or a front was written of a text of the earlier one
+pub record Goes {A : Type 0} (earlier later : Follower) (old new : SinkLog) (result : Result A Stop) : Type 0 where
+  pub told : MatchResult result (λ _. (text : List ℕ) × IsLed earlier later text × Appends old.written new.written text)
+      (ByCause (λ _. ⊥) (λ _. ⊥) (Fronted (Beginning earlier) (Appends old.written new.written)) (Fronted (Beginning earlier) (Appends old.written new.written)))
+  pub writing : IfErr result IsOfWriting
+  pub faults : new.faults ≡ counted_if (ends_with status.WriteFault result) old.faults

@@ -1,0 +1,182 @@
+//! A script that is followed: the schema, the document and the script read, then the first state, and what comes of each command.
+
+ghost use Rattle.std.specs.Prelude.{◌≡◌, ◌≤◌, ◌+◌, ◌<◌, ◌^◌, ◌++◌, false, Some, Ok, IfErr, IfOk, OnOk, length};
+ghost use Rattle.sch_io.specs.Files.{Files};
+ghost use Rattle.sch_io.specs.Wrote.{Appends};
+ghost use Rattle.edit_script.specs.WellFormed.{WellFormedCommand};
+ghost use Rattle.edit_script.specs.declared.limits.TheConstants.{MAX_SCRIPT_BYTES};
+ghost use Rattle.edit_session.specs.Pairs.{pair_cap_for};
+ghost use Rattle.edit_session.specs.State.{shows, state_text};
+ghost use Rattle.sch_cli.specs.declared.status.Status.TheVariants as statuses;
+ghost use Rattle.sch_cli.specs.Commands.{follow};
+ghost use Rattle.sch_cli.specs.CommandOutput.{IsBegun, IsEnd, IsReadAlong};
+ghost use Rattle.sch_cli.specs.Following.{edit_line, refused_line, then_shown};
+ghost use Rattle.sch_cli.specs.Stages.{BeginsStates, Following, States};
+ghost use Rattle.sch_cli.specs.Runs.{counted_if};
+ghost use Rattle.sch_cli.specs.inner.Followers.{Beginning, Ending, Goes, IsReady, in_front_of};
+ghost use Rattle.sch_cli.specs.inner.Shelves.{ReadsAs};
+ghost use Rattle.sch_cli.specs.inner.Stops.{Concludes, IsOfWriting, WroteText, ends_with, may_have_written};
+
+use crate::command::ScriptedValidation;
+use crate::edit_lines::{write_edit_line, write_refused_line};
+use crate::loading::read_script;
+use crate::stop::Stop;
+use crate::validation::{load_asked, write_state};
+use doc_tree::EditRefusal;
+use edit_commands::ApplyError;
+use edit_script::{Command, ScriptReader};
+use edit_session::{Session, Shown};
+use sch_base::Text;
+use sch_io::{Shelf, Sink};
+use std::alloc::Global;
+use std::sync::ledger::Ledger;
+use xp_outcome::Steps;
+
+/// Follows the script that is asked for: writes the first state of the document, and what comes of each command; answers what the
+/// states show.
+pub(crate) fn follow<S: Shelf, O: Sink, L: Ledger>(
+    alloc: Global,
+    asked: ScriptedValidation<'_>,
+    shelf: &mut S,
+    out: &mut O,
+    steps: &mut Steps<L>,
+) -> Result<Shown, Stop>
+    ensures whole { (files : Files) → (S.state shelf.old).files ≡ Some files →
+        Concludes (IsEnd (Following files asked.entry.validation.phase.now asked.entry.validation.schema.now asked.entry.validation.document.now asked.entry.script.now))
+        (IsReadAlong files asked.entry.validation.phase.now asked.entry.validation.schema.now asked.entry.validation.document.now asked.entry.script.now)
+        (IsBegun files asked.entry.validation.phase.now asked.entry.validation.schema.now asked.entry.validation.document.now asked.entry.script.now)
+        (Appends (O.log out.old).written (O.log out.new).written) result }
+    ensures reads { ReadsAs (follow asked.entry.validation.phase.now asked.entry.validation.schema.now asked.entry.validation.document.now asked.entry.script.now)
+        (S.state shelf.old) (S.state shelf.new) result }
+    ensures write_faults { (O.log out.new).faults ≡ counted_if (ends_with statuses.WriteFault result) (O.log out.old).faults }
+    ensures untouched { may_have_written result ≡ false → O.log out.new ≡ O.log out.old }
+    ensures unevaluated { may_have_written result ≡ false → steps.new ≡ steps.old }
+    ensures steps { steps.old ≤ steps.new }
+{
+    let name = Text::copy(alloc, asked.script.as_str())?;
+    let session = load_asked(alloc, asked.validation, shelf)?;
+    let script = read_script(alloc, name, shelf)?;
+    write_states(alloc, session, script.as_slice(), out, steps)
+}
+
+/// Writes the state of a document, and what comes of each command of a script; answers what the states show.
+fn write_states<O: Sink, L: Ledger>(
+    alloc: Global,
+    session: Session,
+    script: &[u8],
+    out: &mut O,
+    steps: &mut Steps<L>,
+) -> Result<Shown, Stop>
+    requires cap { session.tree.pair_cap ≡ pair_cap_for session.plan }
+    requires short { length script.now ≤ MAX_SCRIPT_BYTES }
+    ensures told { Concludes (States session.plan session.tree.nodes script.now) (λ _. ⊥) (BeginsStates session.plan session.tree.nodes script.now)
+        (Appends (O.log out.old).written (O.log out.new).written) result }
+    ensures writing { IfErr result IsOfWriting }
+    ensures write_faults { (O.log out.new).faults ≡ counted_if (ends_with statuses.WriteFault result) (O.log out.old).faults }
+    ensures steps { steps.old ≤ steps.new }
+{
+    let mut session = session;
+    let seen = write_state(&mut session, out, steps)?;
+    let script = ScriptReader::new(alloc, script);
+    let mut follower = Follower {
+        session,
+        script,
+        number: 1,
+        seen,
+    };
+    follower.follow_rest(out, steps)
+}
+
+/// Where the following of a script stands.
+#[derive(Drop)]
+struct Follower<'a> {
+    session: Session,
+    /// What is to come of the script.
+    script: ScriptReader<'a>,
+    /// The number of the next command, counted from 1.
+    number: u64,
+    /// What the states so far show: a fault where one is, and else what the last one shows.
+    seen: Shown,
+}
+
+impl Follower<'_> {
+    /// Does each command that is to come, and writes what comes of it; answers what the states show.
+    fn follow_rest<O: Sink, L: Ledger>(
+        &mut self,
+        out: &mut O,
+        steps: &mut Steps<L>,
+    ) -> Result<Shown, Stop>
+        requires { IsReady self.old }
+        ensures told { Concludes (Ending self.old) (λ _. ⊥) (Beginning self.old) (Appends (O.log out.old).written (O.log out.new).written) result }
+        ensures writing { IfErr result IsOfWriting }
+        ensures write_faults { (O.log out.new).faults ≡ counted_if (ends_with statuses.WriteFault result) (O.log out.old).faults }
+        ensures steps { steps.old ≤ steps.new }
+    {
+        while let Some(command) = self.script.next()? {
+            self.follow_command(&command, out, steps)?;
+        }
+        Ok(self.seen)
+    }
+
+    /// Does a command, and writes what comes of it.
+    fn follow_command<O: Sink, L: Ledger>(
+        &mut self,
+        command: &Command,
+        out: &mut O,
+        steps: &mut Steps<L>,
+    ) -> Result<(), Stop>
+        requires formed { WellFormedCommand command.now }
+        requires ready { IsReady (in_front_of command.now self.old) }
+        ensures goes { Goes (in_front_of command.now self.old) self.new (O.log out.old) (O.log out.new) result }
+        ensures ready { OnOk result (IsReady self.new) }
+        ensures script { self.new.script ≡ self.old.script }
+        ensures steps { steps.old ≤ steps.new }
+    {
+        let number = self.number;
+        self.number += 1;
+        match self.session.apply(command) {
+            Ok(()) => self.write_edited(number, out, steps),
+            Err(ApplyError::Refused(reason)) => write_refused(number, reason, out),
+            Err(ApplyError::Memory) => Err(Stop::Memory),
+        }
+    }
+
+    /// Writes the line of an accepted command with the number, and the state behind it.
+    fn write_edited<O: Sink, L: Ledger>(
+        &mut self,
+        number: u64,
+        out: &mut O,
+        steps: &mut Steps<L>,
+    ) -> Result<(), Stop>
+        ensures wrote { WroteText (O.log out.old) (O.log out.new) (edit_line number ++ state_text self.old.session.plan self.old.session.tree.nodes) result }
+        ensures seen { OnOk result (self.new.seen ≡ then_shown self.old.seen (shows self.old.session.plan self.old.session.tree.nodes)) }
+        ensures tree { self.new.session.tree ≡ self.old.session.tree }
+        ensures plan { self.new.session.plan ≡ self.old.session.plan }
+        ensures script { self.new.script ≡ self.old.script }
+        ensures number { self.new.number ≡ self.old.number }
+        ensures steps { steps.old ≤ steps.new }
+    {
+        write_edit_line(number, out)?;
+        let last = write_state(&mut self.session, out, steps)?;
+        self.seen = then_shown(self.seen, last);
+        Ok(())
+    }
+}
+
+/// Writes the line of a refused command.
+fn write_refused<O: Sink>(number: u64, reason: EditRefusal, out: &mut O) -> Result<(), Stop>
+    ensures { WroteText (O.log out.old) (O.log out.new) (refused_line number reason) result }
+{
+    write_refused_line(number, reason, out)?;
+    Ok(())
+}
+
+/// What the states so far show, with one more.
+fn then_shown(seen: Shown, next: Shown) -> Shown
+    ensures { result ≡ then_shown seen next }
+{
+    match seen {
+        Shown::Fault => Shown::Fault,
+        Shown::Clean | Shown::Findings => next,
+    }
+}
