@@ -4,3 +4,4 @@ pub mod PairLemmas
 pub mod CountLemmas
 pub mod UnitLemmas
 pub mod KeptLemmas
+pub mod FaultLemmas

@@ -16,7 +16,7 @@ mem_item (m ∷ ns) zero n d within is = ap (λ (b : Bool). b || mem n ns) (eq-e
 mem_item (m ∷ ns) (suc i) n d within is = or_right (n == m) (mem n ns) (mem_item ns i n d (omega arith) is)
 
 -- what gives nothing has nothing that gives something, and the other way round
-option_none : {B : Type 0} (a b : Option B) → option_or a b ≡ None → (a ≡ None) × (b ≡ None)
+pub option_none : {B : Type 0} (a b : Option B) → option_or a b ≡ None → (a ≡ None) × (b ≡ None)
 option_none None b is = (refl, is)
 option_none (Some y) b is = absurd (cc)
 

@@ -1,5 +1,5 @@
 -- What writing a state has done to its sink.
-use Rattle.std.specs.Prelude.{◌≡◌, ℕ, List, ◌++◌, Result, Ok, Err, MatchResult}
+use Rattle.std.specs.Prelude.{◌≡◌, ℕ, ◌+◌, List, ◌++◌, Result, Ok, Err, MatchResult}
 use Rattle.sch_io.specs.Counts.{one_more}
 use Rattle.sch_io.specs.SinkLog.{SinkLog}
 use Rattle.sch_io.specs.Wrote.{Appends}
@@ -8,6 +8,7 @@ use Rattle.sch_compiled.specs.declared.plan.Plan.{Plan}
 use Rattle.edit_session.specs.declared.state.ReportError.{ReportError}
 use Rattle.edit_session.specs.declared.state.ReportError.TheVariants.{Failed, Memory}
 use Rattle.edit_session.specs.declared.state.Shown.{Shown}
+use Rattle.edit_session.specs.declared.state.Shown.TheVariants.{Fault}
 use Rattle.edit_session.specs.State.{shows, state_text}
 
 -- a state adds one to the sink's faults where a write failed, and none else
@@ -28,3 +29,8 @@ abbrev pub UnlessMemory : Result Shown ReportError → Type 0 → Type 0
 UnlessMemory (Ok shown) P = P
 UnlessMemory (Err Failed) P = P
 UnlessMemory (Err Memory) P = Unit {0}
+
+-- a count rose by exactly an amount, where a report shows no fault
+abbrev pub RoseBy : ℕ → ℕ → ℕ → Result Shown ReportError → Type 0
+RoseBy amount before after (Ok shown) = (shown ≡ Fault → ⊥) → after ≡ before + amount
+RoseBy amount before after (Err error) = Unit {0}

@@ -8,11 +8,11 @@ ghost use Rattle.edit_script.specs.WellFormed.{WellFormedCommand};
 ghost use Rattle.edit_commands.specs.Commands.{IsEdited, RefusesCommand, command_refusal};
 ghost use Rattle.edit_commands.specs.Touched.{touched_by};
 ghost use Rattle.sch_compiled.specs.Soundness.{IsSound};
-ghost use Rattle.edit_costs.specs.Costs.{Raised};
+ghost use Rattle.edit_costs.specs.Costs.{Raised, cost_of};
 ghost use Rattle.edit_costs.specs.Dirty.{stale_units, units_to_run};
 ghost use Rattle.edit_session.specs.Pairs.{has_too_many_pairs, pair_cap_for};
 ghost use Rattle.edit_session.specs.Standing.{RefusesOpening, done_more, evaluated_over, since_of};
-ghost use Rattle.edit_session.specs.Wrote.{UnlessMemory, WroteState};
+ghost use Rattle.edit_session.specs.Wrote.{RoseBy, UnlessMemory, WroteState};
 
 use crate::kept::{mark, refreshed};
 use crate::pairs::{has_too_many_pairs, pair_cap_for, units_over};
@@ -167,8 +167,11 @@ impl Session {
         ensures fresh { UnlessMemory result (self.new.past ≡ evaluated_over self.old.tree.nodes) }
         ensures raised { UnlessMemory result (Raised self.old.plan self.old.tree.nodes
             (units_to_run self.old.plan (since_of self.old.past) self.old.tree.nodes) steps.old steps.new) }
+        ensures exactly { RoseBy (cost_of self.old.plan self.old.tree.nodes
+            (units_to_run self.old.plan (since_of self.old.past) self.old.tree.nodes)) steps.old steps.new result }
         ensures steps { steps.old ≤ steps.new }
     {
+        self.tree.laws();
         self.refresh(steps)?;
         self.write_kept(sink)
     }

@@ -22,7 +22,7 @@ use Rattle.edit_script.specs.declared.limits.TheConstants.{MAX_SCRIPT_BYTES}
 use Rattle.edit_commands.specs.Commands.{IsEdited, command_refusal}
 use Rattle.sch_compiled.specs.declared.plan.Plan.{Plan}
 use Rattle.edit_session.specs.Pairs.{pair_cap_for}
-use Rattle.edit_session.specs.Standing.{Standing}
+use Rattle.edit_session.specs.Standing.{Standing, evaluated_over}
 use Rattle.edit_session.specs.State.{shows, state_text}
 use Rattle.edit_session.specs.declared.state.Shown.{Shown}
 use Rattle.sch_cli.specs.declared.following.Follower.{Follower}
@@ -211,13 +211,22 @@ command_refused at later command reason old new result cap some wrote plans tree
 
 -- the next place is ready too
 pub ready_after : (at later : Follower) (command : Command) → IsReady (in_front_of command at) → later.session.tree.pair_cap ≡ at.session.tree.pair_cap → later.session.plan ≡ at.session.plan →
-    later.number ≡ at.number + 1 → later.script ≡ at.script → IsReady later
-ready_after at later command ready caps plans numbers scripts = record {
+    later.number ≡ at.number + 1 → later.script ≡ at.script → later.session.past ≡ evaluated_over later.session.tree.nodes → IsReady later
+ready_after at later command ready caps plans numbers scripts fresh = record {
   cap = caps ∙ ready.cap ∙ ap pair_cap_for (sym plans);
   few =
       let length_is : length later.script.commands ≡ length at.script.commands = ap (λ (s : Script). length s.commands) scripts in
       omega (arith, ready.few, numbers, length_is);
+  fresh = fresh;
 }
+
+-- where the state behind it is written
+pub ready_written : (at later : Follower) (command : Command) (session : Standing) (result : Result (Unit {0}) Stop) → IsReady (in_front_of command at) → later.session.tree.pair_cap ≡ at.session.tree.pair_cap →
+    later.session.plan ≡ at.session.plan → later.number ≡ at.number + 1 → later.script ≡ at.script → later.session.tree ≡ session.tree →
+    OnOk result (later.session.past ≡ evaluated_over session.tree.nodes) → OnOk result (IsReady later)
+ready_written at later command session (Ok done) ready caps plans numbers scripts trees fresh =
+    ready_after at later command ready caps plans numbers scripts (fresh ∙ ap (λ (tree : Contents). evaluated_over tree.nodes) (sym trees))
+ready_written at later command session (Err stop) ready caps plans numbers scripts trees fresh = tt
 
 -- The commands one after another
 
@@ -261,7 +270,7 @@ come_on earlier before later old mid new value come goes = record {
 }
 
 -- the next command, where there is one
-next_command : (next : Option Command) (command : Command) (old new : Script) → next ≡ Some command → IfSome next (λ c. old ≡ onto c new) → old ≡ onto command new
+pub next_command : (next : Option Command) (command : Command) (old new : Script) → next ≡ Some command → IfSome next (λ c. old ≡ onto c new) → old ≡ onto command new
 next_command next command old new is says = subst (λ (n : Option Command). IfSome n (λ c. old ≡ onto c new)) is says
 
 pub come_to_next : (earlier later : Follower) (rest : Script) (next : Option Command) (command : Command) (old new : SinkLog) → next ≡ Some command → IfSome next (λ c. later.script ≡ onto c rest) →

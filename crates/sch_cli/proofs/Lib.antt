@@ -6,3 +6,4 @@ pub mod OpenLemmas
 pub mod FollowLemmas
 pub mod RunLemmas
 pub mod OneOutput
+pub mod StepLemmas

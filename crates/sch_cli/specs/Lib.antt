@@ -9,3 +9,4 @@ pub mod OneOutput
 pub mod Runs
 pub mod Status
 pub mod inner
+pub mod Steps

@@ -1,3 +1,4 @@
 pub mod Followers
 pub mod Shelves
 pub mod Stops
+pub mod Counts

@@ -1,11 +1,12 @@
 //! A script that is followed: the schema, the document and the script read, then the first state, and what comes of each command.
 
-ghost use Rattle.std.specs.Prelude.{◌≡◌, ◌≤◌, ◌+◌, ◌<◌, ◌^◌, ◌++◌, false, Some, Ok, IfErr, IfOk, OnOk, length};
+ghost use Rattle.std.specs.Prelude.{◌≡◌, ◌≤◌, ◌+◌, ◌<◌, ◌^◌, ◌++◌, false, None, Some, Ok, IfErr, IfOk, OnOk, length};
 ghost use Rattle.sch_io.specs.Files.{Files};
 ghost use Rattle.sch_io.specs.Wrote.{Appends};
 ghost use Rattle.edit_script.specs.WellFormed.{WellFormedCommand};
 ghost use Rattle.edit_script.specs.declared.limits.TheConstants.{MAX_SCRIPT_BYTES};
 ghost use Rattle.edit_session.specs.Pairs.{pair_cap_for};
+ghost use Rattle.edit_session.specs.Standing.{evaluated_over};
 ghost use Rattle.edit_session.specs.State.{shows, state_text};
 ghost use Rattle.sch_cli.specs.declared.status.Status.TheVariants as statuses;
 ghost use Rattle.sch_cli.specs.Commands.{follow};
@@ -13,9 +14,11 @@ ghost use Rattle.sch_cli.specs.CommandOutput.{IsBegun, IsEnd, IsReadAlong};
 ghost use Rattle.sch_cli.specs.Following.{edit_line, refused_line, then_shown};
 ghost use Rattle.sch_cli.specs.Stages.{BeginsStates, Following, States};
 ghost use Rattle.sch_cli.specs.Runs.{counted_if};
+ghost use Rattle.sch_cli.specs.Steps.{CountsBy, FollowingCosts};
+ghost use Rattle.sch_cli.specs.inner.Counts.{CountsAlong, CountsOn, IsCosted, RoseFor, StatesCost, next_cost};
 ghost use Rattle.sch_cli.specs.inner.Followers.{Beginning, Ending, Goes, IsReady, in_front_of};
 ghost use Rattle.sch_cli.specs.inner.Shelves.{ReadsAs};
-ghost use Rattle.sch_cli.specs.inner.Stops.{Concludes, IsOfWriting, WroteText, ends_with, may_have_written};
+ghost use Rattle.sch_cli.specs.inner.Stops.{Concludes, IsOfWriting, WroteText, ends_with, may_have_written, status_of_end};
 
 use crate::command::ScriptedValidation;
 use crate::edit_lines::{write_edit_line, write_refused_line};
@@ -51,6 +54,9 @@ pub(crate) fn follow<S: Shelf, O: Sink, L: Ledger>(
     ensures write_faults { (O.log out.new).faults ≡ counted_if (ends_with statuses.WriteFault result) (O.log out.old).faults }
     ensures untouched { may_have_written result ≡ false → O.log out.new ≡ O.log out.old }
     ensures unevaluated { may_have_written result ≡ false → steps.new ≡ steps.old }
+    ensures counted { (files : Files) → (S.state shelf.old).files ≡ Some files →
+        CountsBy (FollowingCosts files asked.entry.validation.phase.now asked.entry.validation.schema.now asked.entry.validation.document.now asked.entry.script.now)
+        (status_of_end result) steps.old steps.new }
     ensures steps { steps.old ≤ steps.new }
 {
     let name = Text::copy(alloc, asked.script.as_str())?;
@@ -69,10 +75,12 @@ fn write_states<O: Sink, L: Ledger>(
 ) -> Result<Shown, Stop>
     requires cap { session.tree.pair_cap ≡ pair_cap_for session.plan }
     requires short { length script.now ≤ MAX_SCRIPT_BYTES }
+    requires unevaluated { session.past ≡ None }
     ensures told { Concludes (States session.plan session.tree.nodes script.now) (λ _. ⊥) (BeginsStates session.plan session.tree.nodes script.now)
         (Appends (O.log out.old).written (O.log out.new).written) result }
     ensures writing { IfErr result IsOfWriting }
     ensures write_faults { (O.log out.new).faults ≡ counted_if (ends_with statuses.WriteFault result) (O.log out.old).faults }
+    ensures counted { CountsAlong (StatesCost session.plan session.tree.nodes script.now) steps.old steps.new result }
     ensures steps { steps.old ≤ steps.new }
 {
     let mut session = session;
@@ -110,6 +118,7 @@ impl Follower<'_> {
         ensures told { Concludes (Ending self.old) (λ _. ⊥) (Beginning self.old) (Appends (O.log out.old).written (O.log out.new).written) result }
         ensures writing { IfErr result IsOfWriting }
         ensures write_faults { (O.log out.new).faults ≡ counted_if (ends_with statuses.WriteFault result) (O.log out.old).faults }
+        ensures counted { CountsOn self.old steps.old steps.new result }
         ensures steps { steps.old ≤ steps.new }
     {
         while let Some(command) = self.script.next()? {
@@ -130,6 +139,7 @@ impl Follower<'_> {
         ensures goes { Goes (in_front_of command.now self.old) self.new (O.log out.old) (O.log out.new) result }
         ensures ready { OnOk result (IsReady self.new) }
         ensures script { self.new.script ≡ self.old.script }
+        ensures costed { OnOk result (IsCosted (in_front_of command.now self.old) self.new steps.old steps.new) }
         ensures steps { steps.old ≤ steps.new }
     {
         let number = self.number;
@@ -154,6 +164,9 @@ impl Follower<'_> {
         ensures plan { self.new.session.plan ≡ self.old.session.plan }
         ensures script { self.new.script ≡ self.old.script }
         ensures number { self.new.number ≡ self.old.number }
+        ensures fresh { OnOk result (self.new.session.past ≡ evaluated_over self.old.session.tree.nodes) }
+        ensures rose { OnOk result (RoseFor (next_cost self.old.session) steps.old steps.new
+            (shows self.old.session.plan self.old.session.tree.nodes)) }
         ensures steps { steps.old ≤ steps.new }
     {
         write_edit_line(number, out)?;

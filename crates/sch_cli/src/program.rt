@@ -5,6 +5,7 @@ ghost use Rattle.sch_io.specs.Wrote.{Appends, Wrote};
 ghost use Rattle.sch_cli.specs.declared.status.Status.TheVariants as statuses;
 ghost use Rattle.sch_cli.specs.Commands.{command_of};
 ghost use Rattle.sch_cli.specs.Runs.{Ends, Tells, IsLineOf, IsLast, OpensFiles, OpensOver, counted_if, is_status, may_evaluate, may_write};
+ghost use Rattle.sch_cli.specs.Steps.{CountsOver};
 ghost use Rattle.sch_cli.specs.inner.Stops.{ConcludesOver, EndsAs, Names, ends_with, may_have_written, status_of_end, line_of_end};
 
 use crate::command::{Command, command_of};
@@ -50,6 +51,9 @@ pub fn run<S: Shelf, O: Sink, E: Sink, L: Ledger>(
     // a run that stops before it writes leaves the output as it was, and one that does not evaluate the count of steps
     ensures untouched { may_write result ≡ false → O.log out.new ≡ O.log out.old }
     ensures unevaluated { may_evaluate (command_of words.now) result ≡ false → steps.new ≡ steps.old }
+    // the count of steps rises by the visits of all units for the first state, and for an accepted edit by those of the units that are
+    // new or whose reads it touched; where an evaluation faults it may rise by less
+    ensures counted { CountsOver (S.state shelf.old).files words.now result steps.old steps.new }
     ensures steps { steps.old ≤ steps.new }
 {
     conclude(carry_out(alloc, words, shelf, out, steps), err)
@@ -75,6 +79,7 @@ fn carry_out<S: Shelf, O: Sink, L: Ledger>(
     ensures write_faults { (O.log out.new).faults ≡ counted_if (ends_with statuses.WriteFault result) (O.log out.old).faults }
     ensures untouched { may_have_written result ≡ false → O.log out.new ≡ O.log out.old }
     ensures unevaluated { may_evaluate (command_of words.now) (status_of_end result) ≡ false → steps.new ≡ steps.old }
+    ensures counted { CountsOver (S.state shelf.old).files words.now (status_of_end result) steps.old steps.new }
     ensures steps { steps.old ≤ steps.new }
 {
     match command_of(words.as_slice()) {

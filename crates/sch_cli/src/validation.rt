@@ -1,18 +1,21 @@
 //! A validation: the schema and the document read, then the state of the document by the schema.
 
-ghost use Rattle.std.specs.Prelude.{◌≡◌, ◌≤◌, false, Some, Ok, Err, IfOk, OnOk};
+ghost use Rattle.std.specs.Prelude.{◌≡◌, ◌≤◌, false, None, Some, Ok, Err, IfOk, OnOk};
 ghost use Rattle.sch_io.specs.Files.{Files};
 ghost use Rattle.sch_io.specs.Wrote.{Appends};
 ghost use Rattle.sch_compiled.specs.Soundness.{IsSound};
 ghost use Rattle.edit_session.specs.Pairs.{pair_cap_for};
+ghost use Rattle.edit_session.specs.Standing.{evaluated_over};
 ghost use Rattle.edit_session.specs.State.{shows, state_text};
 ghost use Rattle.sch_cli.specs.declared.status.Status.TheVariants as statuses;
 ghost use Rattle.sch_cli.specs.Commands.{validate};
 ghost use Rattle.sch_cli.specs.CommandOutput.{IsEnd, IsReadBy, IsReadFor, IsText, Treed};
 ghost use Rattle.sch_cli.specs.Stages.{Planning, Treeing, Validating};
 ghost use Rattle.sch_cli.specs.Runs.{counted_if};
+ghost use Rattle.sch_cli.specs.Steps.{CountsBy, ValidationCosts};
+ghost use Rattle.sch_cli.specs.inner.Counts.{RoseFor, next_cost};
 ghost use Rattle.sch_cli.specs.inner.Shelves.{ReadBoth, ReadsAs};
-ghost use Rattle.sch_cli.specs.inner.Stops.{Concludes, Gives, Opening, Reads, ReadsSchema, WroteText, ends_with, may_have_written};
+ghost use Rattle.sch_cli.specs.inner.Stops.{Concludes, Gives, Opening, Reads, ReadsSchema, WroteText, ends_with, may_have_written, status_of_end};
 
 use crate::command::Validation;
 use crate::loading::{load_document, load_schema};
@@ -51,6 +54,7 @@ fn load_under<S: Shelf>(
     ensures reads { Reads (S.state shelf.old) (S.state shelf.new) name result }
     ensures plan { IfOk result (λ session. session.plan ≡ plan) }
     ensures cap { IfOk result (λ session. session.tree.pair_cap ≡ pair_cap_for plan) }
+    ensures unevaluated { IfOk result (λ session. session.past ≡ None) }
 {
     let tree = load_document(alloc, name, shelf)?;
     match Session::open(alloc, plan, tree) {
@@ -75,6 +79,7 @@ pub(crate) fn load_asked<S: Shelf>(
     ensures reads { ReadsAs (validate asked.entry.phase.now asked.entry.schema.now asked.entry.document.now) (S.state shelf.old) (S.state shelf.new) result }
     ensures both { OnOk result (ReadBoth asked.entry.phase.now asked.entry.schema.now asked.entry.document.now (S.state shelf.old) (S.state shelf.new)) }
     ensures cap { IfOk result (λ session. session.tree.pair_cap ≡ pair_cap_for session.plan) }
+    ensures unevaluated { IfOk result (λ session. session.past ≡ None) }
     ensures unwritten { ends_with statuses.WriteFault result ≡ false }
 {
     let document = Text::copy(alloc, asked.document.as_str())?;
@@ -92,6 +97,8 @@ pub(crate) fn write_state<O: Sink, L: Ledger>(
     ensures shown { IfOk result (λ last. last ≡ shows session.old.plan session.old.tree.nodes) }
     ensures tree { session.new.tree ≡ session.old.tree }
     ensures plan { session.new.plan ≡ session.old.plan }
+    ensures fresh { OnOk result (session.new.past ≡ evaluated_over session.old.tree.nodes) }
+    ensures rose { IfOk result (RoseFor (next_cost session.old) steps.old steps.new) }
     ensures steps { steps.old ≤ steps.new }
 {
     let last = session.report(out, steps)?;
@@ -115,6 +122,8 @@ pub(crate) fn validate<S: Shelf, O: Sink, L: Ledger>(
     ensures write_faults { (O.log out.new).faults ≡ counted_if (ends_with statuses.WriteFault result) (O.log out.old).faults }
     ensures untouched { may_have_written result ≡ false → O.log out.new ≡ O.log out.old }
     ensures unevaluated { may_have_written result ≡ false → steps.new ≡ steps.old }
+    ensures counted { (files : Files) → (S.state shelf.old).files ≡ Some files →
+        CountsBy (ValidationCosts files asked.entry.phase.now asked.entry.schema.now asked.entry.document.now) (status_of_end result) steps.old steps.new }
     ensures steps { steps.old ≤ steps.new }
 {
     let mut session = load_asked(alloc, asked, shelf)?;

@@ -3,6 +3,7 @@ use Rattle.std.specs.Prelude.{◌≡◌, ℕ, ◌+◌, ◌<◌, ◌^◌, List, �
 use Rattle.edit_script.specs.Script.{onto}
 use Rattle.edit_script.specs.declared.command.Command.{Command}
 use Rattle.edit_session.specs.Pairs.{pair_cap_for}
+use Rattle.edit_session.specs.Standing.{evaluated_over}
 use Rattle.sch_io.specs.SinkLog.{SinkLog}
 use Rattle.std.specs.Prelude.{Result, MatchResult, IfErr}
 use Rattle.sch_io.specs.Wrote.{Appends}
@@ -30,10 +31,11 @@ pub record IsLed (earlier later : Follower) (text : List ℕ) : Type 0 where
   pub ends : (output : Output) → Ending later output → Ending earlier (in_front text output)
   pub begins : (more : List ℕ) → Beginning later more → Beginning earlier (text ++ more)
 
--- the document has its plan's pair cap, and the commands can be numbered
+-- the document has its plan's pair cap, the commands can be numbered, and nothing was done since all units were evaluated
 pub record IsReady (at : Follower) : Type 0 where
   pub cap : at.session.tree.pair_cap ≡ pair_cap_for at.session.plan
   pub few : at.number + length at.script.commands < 2 ^ 64
+  pub fresh : at.session.past ≡ evaluated_over at.session.tree.nodes
 
 -- what is written leads to the later place, or a front was written of a text of the earlier one
 pub record Goes {A : Type 0} (earlier later : Follower) (old new : SinkLog) (result : Result A Stop) : Type 0 where

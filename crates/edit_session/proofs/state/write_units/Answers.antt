@@ -1,5 +1,5 @@
 -- The table that is kept is that of the tree.
-use Rattle.std.proofs.Common.{ap, subst, sym}
+use Rattle.std.proofs.Common.{subst, sym}
 use Rattle.edit_session.specs.inner.Evaluated.{Holds}
 use Rattle.edit_session.proofs.KeptLemmas.{holds-fresh}
 use Rattle.edit_session.proofs.state.write_units.Goals as goal

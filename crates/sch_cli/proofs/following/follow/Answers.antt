@@ -5,8 +5,10 @@ use Rattle.sch_io.specs.Wrote.{Appends}
 use Rattle.sch_cli.specs.Commands.{follow}
 use Rattle.sch_cli.specs.CommandOutput.{IsBegun, IsEnd, IsReadAlong}
 use Rattle.sch_cli.specs.Stages.{Following}
+use Rattle.sch_cli.specs.Steps.{FollowingCosts}
 use Rattle.sch_cli.proofs.EndLemmas.{memory_ends, not_untouched, opening_ends_along, script_ends, states_end}
 use Rattle.sch_cli.proofs.OpenLemmas.{nothing_written, reads_along, reads_err, reads_nothing, reads_script, reads_written}
+use Rattle.sch_cli.proofs.StepLemmas.{following_counts, still_counts}
 use Rattle.sch_cli.proofs.following.follow.Goals as goal
 
 pub returns-in_err-name-clause-whole : goal.returns-in_err-name-clause-whole
@@ -83,3 +85,29 @@ returns-clause-untouched g c = λ untouched. absurd (not_untouched c.write_state
 
 pub returns-clause-unevaluated : goal.returns-clause-unevaluated
 returns-clause-unevaluated g c = λ untouched. absurd (not_untouched c.write_states.result c.write_states.ensures.writing untouched)
+
+pub returns-in_err-name-clause-counted : goal.returns-in_err-name-clause-counted
+returns-in_err-name-clause-counted g c = λ files held.
+    let error = err_from_is_err_and c.from_residual.result c.from_residual.ensures.1 in
+    let asked = c.args.asked.validation in
+    still_counts (FollowingCosts files asked.phase.now asked.schema.now asked.document.now c.args.asked.script.now) c.args.steps.now c.from_residual.result error.0 (error.1)
+
+pub returns-in_err-session-clause-counted : goal.returns-in_err-session-clause-counted
+returns-in_err-session-clause-counted g c = λ files held.
+    let error = err_from_is_err_and c.from_residual-in_err-session.result c.from_residual-in_err-session.ensures.1 in
+    let asked = c.args.asked.validation in
+    still_counts (FollowingCosts files asked.phase.now asked.schema.now asked.document.now c.args.asked.script.now) c.args.steps.now c.from_residual-in_err-session.result c.in_err-session.field-0.0 (error.1 ∙ ap Err error.2)
+
+pub returns-in_err-script-clause-counted : goal.returns-in_err-script-clause-counted
+returns-in_err-script-clause-counted g c = λ files held.
+    let error = err_from_is_err_and c.from_residual-in_err-script.result c.from_residual-in_err-script.ensures.1 in
+    let asked = c.args.asked.validation in
+    still_counts (FollowingCosts files asked.phase.now asked.schema.now asked.document.now c.args.asked.script.now) c.args.steps.now c.from_residual-in_err-script.result c.in_err-script.field-0.0 (error.1 ∙ ap Err error.2)
+
+pub returns-clause-counted : goal.returns-clause-counted
+returns-clause-counted g c = λ files held.
+    let asked = c.args.asked.validation in
+    following_counts files asked.phase.now asked.schema.now asked.document.now c.args.asked.script.now c.in_ok-session.session.plan c.in_ok-session.session.tree.nodes c.in_ok-script.script
+    c.args.steps.now c.write_states.new.steps c.write_states.result (c.in_ok-session.ensures.told files held)
+    (rw (c.in_ok-name.ensures, c.as_str.ensures) at (c.in_ok-script.ensures.told files (c.in_ok-session.ensures.reads.held ∙ held)))
+    (rw c.as_slice.ensures at c.write_states.ensures.counted)

@@ -4,10 +4,12 @@ use Rattle.std.proofs.lemmas.Result.{err_from_is_err_and}
 use Rattle.doc_tree.specs.Table.{Contents}
 use Rattle.edit_script.specs.Script.{Script, script_of}
 use Rattle.edit_session.specs.Pairs.{pair_cap_for}
+use Rattle.edit_session.specs.Standing.{evaluated_over}
 use Rattle.edit_session.specs.State.{state_text}
 use Rattle.sch_cli.specs.declared.following.Follower.{Follower}
 use Rattle.sch_cli.proofs.EndLemmas.{text_err}
 use Rattle.sch_cli.proofs.FollowLemmas.{few_commands, first_stops, first_then}
+use Rattle.sch_cli.proofs.StepLemmas.{first_unsaid, states_count}
 use Rattle.sch_cli.proofs.following.write_states.Goals as goal
 
 pub returns-in_err-seen-clause-told : goal.returns-in_err-seen-clause-told
@@ -31,7 +33,20 @@ follow_rest-requires g c = record {
   few =
       let same : length c.new-script.result.commands ≡ length (script_of c.args.script.now).commands = ap (λ (s : Script). length s.commands) c.new-script.ensures in
       omega (arith, few_commands c.args.script.now c.requires.short, same);
+  fresh = c.in_ok-seen.ensures.fresh ∙ ap (λ (tree : Contents). evaluated_over tree.nodes) (sym c.in_ok-seen.ensures.tree);
 }
+
+pub returns-in_err-seen-clause-counted : goal.returns-in_err-seen-clause-counted
+returns-in_err-seen-clause-counted g c =
+    let error = err_from_is_err_and c.from_residual.result c.from_residual.ensures.1 in
+    first_unsaid c.args.session.plan c.args.session.tree.nodes c.args.script.now (state_text c.args.session.plan c.args.session.tree.nodes) _ _ _ _ c.in_err-seen.field-0.0 c.from_residual.result
+    (error.1 ∙ ap Err error.2) c.in_err-seen.ensures.wrote
+
+pub returns-clause-counted : goal.returns-clause-counted
+returns-clause-counted g c =
+    let first : Follower = record { session = c.write_state.new.session; script = c.new-script.result; number = 1; seen = c.in_ok-seen.seen } in
+    states_count c.args.session c.args.script.now first c.args.steps.now c.write_state.new.steps c.follow_rest.new.steps c.follow_rest.result c.requires.unevaluated
+    c.in_ok-seen.ensures.plan c.in_ok-seen.ensures.tree c.new-script.ensures c.in_ok-seen.ensures.rose c.follow_rest.ensures.counted
 
 pub returns-clause-told : goal.returns-clause-told
 returns-clause-told g c =

@@ -4,6 +4,8 @@ use Rattle.sch_cli.specs.declared.command.Command.TheVariants as borrowed
 use Rattle.sch_cli.specs.Commands.{command_of, expand, follow, validate}
 use Rattle.sch_cli.proofs.OpenLemmas.{asked_decides, asked_opens}
 use Rattle.sch_cli.proofs.RunLemmas.{asks, asks_nothing, carries, carries_nothing, evaluates_asked}
+use Rattle.sch_cli.specs.inner.Stops.{status_of_end}
+use Rattle.sch_cli.proofs.StepLemmas.{carries_counts, carries_none, no_counts}
 use Rattle.sch_cli.proofs.program.carry_out.Goals as goal
 
 pub returns-in-None-clause-whole : goal.returns-in-None-clause-whole
@@ -88,3 +90,29 @@ returns-in-Some-Follow-clause-unevaluated g c = λ ends.
     (follow at.asked.validation.phase.now at.asked.validation.schema.now at.asked.validation.document.now at.asked.script.now) c.follow.result (λ status. refl)
     (rw (← c.as_slice.ensures) (asks c.as_slice.result.now c.command_of.result (borrowed.Follow at.asked) c.command_of.ensures (at.is ∙ ap Some at.field-0-is)))
     ends)
+
+pub returns-in-None-clause-counted : goal.returns-in-None-clause-counted
+returns-in-None-clause-counted g c = no_counts c.args.words.now (g.S.Shelf.state c.args.shelf.now).files _ _
+
+pub returns-in-Some-Expand-clause-counted : goal.returns-in-Some-Expand-clause-counted
+returns-in-Some-Expand-clause-counted g c =
+    let at = c.in-Some-Expand in
+    carries_none c.args.words.now (g.S.Shelf.state c.args.shelf.now).files at.schema.now c.args.steps.now c.expand_schema.result
+    (rw (← c.as_slice.ensures) (asks c.as_slice.result.now c.command_of.result (borrowed.Expand at.schema) c.command_of.ensures (at.is ∙ ap Some at.field-0-is)))
+
+pub returns-in-Some-Validate-clause-counted : goal.returns-in-Some-Validate-clause-counted
+returns-in-Some-Validate-clause-counted g c =
+    let at = c.in-Some-Validate in
+    carries_counts c.args.words.now (g.S.Shelf.state c.args.shelf.now).files (validate at.asked.phase.now at.asked.schema.now at.asked.document.now) (status_of_end c.validate.result)
+    c.args.steps.now c.validate.new.steps
+    (rw (← c.as_slice.ensures) (asks c.as_slice.result.now c.command_of.result (borrowed.Validate at.asked) c.command_of.ensures (at.is ∙ ap Some at.field-0-is)))
+    c.validate.ensures.counted
+
+pub returns-in-Some-Follow-clause-counted : goal.returns-in-Some-Follow-clause-counted
+returns-in-Some-Follow-clause-counted g c =
+    let at = c.in-Some-Follow in
+    carries_counts c.args.words.now (g.S.Shelf.state c.args.shelf.now).files
+    (follow at.asked.validation.phase.now at.asked.validation.schema.now at.asked.validation.document.now at.asked.script.now) (status_of_end c.follow.result)
+    c.args.steps.now c.follow.new.steps
+    (rw (← c.as_slice.ensures) (asks c.as_slice.result.now c.command_of.result (borrowed.Follow at.asked) c.command_of.ensures (at.is ∙ ap Some at.field-0-is)))
+    c.follow.ensures.counted

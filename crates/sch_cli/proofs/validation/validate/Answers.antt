@@ -1,9 +1,12 @@
 -- The parts end as the whole.
 use Rattle.std.proofs.Common.{◌∙◌, Err, ap}
 use Rattle.std.proofs.lemmas.Result.{err_from_is_err_and}
+use Rattle.edit_session.specs.State.{state_text}
 use Rattle.sch_cli.specs.Commands.{validate}
+use Rattle.sch_cli.specs.Steps.{ValidationCosts}
 use Rattle.sch_cli.proofs.EndLemmas.{not_untouched, opening_ends, state_ends}
 use Rattle.sch_cli.proofs.OpenLemmas.{reads_err, reads_written}
+use Rattle.sch_cli.proofs.StepLemmas.{still_counts, validation_counts}
 use Rattle.sch_cli.proofs.validation.validate.Goals as goal
 
 pub returns-in_err-session-clause-whole : goal.returns-in_err-session-clause-whole
@@ -33,3 +36,14 @@ returns-clause-untouched g c = λ untouched. absurd (not_untouched c.write_state
 
 pub returns-clause-unevaluated : goal.returns-clause-unevaluated
 returns-clause-unevaluated g c = λ untouched. absurd (not_untouched c.write_state.result c.write_state.ensures.wrote.writing untouched)
+
+pub returns-in_err-session-clause-counted : goal.returns-in_err-session-clause-counted
+returns-in_err-session-clause-counted g c = λ files held.
+    let error = err_from_is_err_and c.from_residual.result c.from_residual.ensures.1 in
+    still_counts (ValidationCosts files c.args.asked.phase.now c.args.asked.schema.now c.args.asked.document.now) c.args.steps.now c.from_residual.result c.in_err-session.field-0.0 (error.1 ∙ ap Err error.2)
+
+pub returns-clause-counted : goal.returns-clause-counted
+returns-clause-counted g c = λ files held.
+    let session = c.in_ok-session.session in
+    validation_counts files c.args.asked.phase.now c.args.asked.schema.now c.args.asked.document.now session (state_text session.plan session.tree.nodes) _ _ c.args.steps.now c.write_state.new.steps
+    c.write_state.result (c.in_ok-session.ensures.told files held) c.in_ok-session.ensures.unevaluated c.write_state.ensures.rose c.write_state.ensures.wrote

@@ -10,3 +10,6 @@ returns-in_err-last-clause-wrote g c =
 
 pub returns-clause-wrote : goal.returns-clause-wrote
 returns-clause-wrote g c = report_written _ _ c.args.session.now.plan c.args.session.now.tree.nodes c.in_ok-last.last c.in_ok-last.ensures.wrote
+
+pub returns-clause-rose : goal.returns-clause-rose
+returns-clause-rose g c = record { at_most = c.in_ok-last.ensures.raised.at_most; exactly = c.in_ok-last.ensures.exactly }

@@ -1,5 +1,6 @@
 -- The commands so far were done.
 use Rattle.std.proofs.Common.{◌≡◌, ◌≤◌, length}
+use Rattle.sch_cli.specs.inner.Counts.{IsCosted}
 use Rattle.sch_cli.specs.inner.Followers.{IsReady}
 use Rattle.sch_cli.proofs.FollowLemmas.{HasCome}
 use Rattle.sch_cli.proofs.following.Follower.follow_rest.Given as goal
@@ -9,6 +10,7 @@ invariant-loop-command g l = record {
   ready : IsReady l.self;
   come : HasCome l.initial.self l.self (g.O.Sink.log l.initial.out) (g.O.Sink.log l.out);
   faults : (g.O.Sink.log l.out).faults ≡ (g.O.Sink.log l.initial.out).faults;
+  costed : IsCosted l.initial.self l.self l.initial.steps l.steps;
   steps : l.initial.steps ≤ l.steps;
 }
 

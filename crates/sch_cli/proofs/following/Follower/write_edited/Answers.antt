@@ -1,10 +1,11 @@
 -- The line is not written whole, or the state behind it.
-use Rattle.std.proofs.Common.{◌∙◌, Err, Result, ap, refl}
+use Rattle.std.proofs.Common.{◌∙◌, Err, Result, ap, refl, subst}
 use Rattle.std.proofs.lemmas.Result.{err_from_is_err_and}
 use Rattle.edit_session.specs.State.{state_text}
 use Rattle.sch_cli.specs.declared.stop.Stop.{Stop}
 use Rattle.sch_cli.specs.declared.stop.Stop.TheVariants.{WriteFault}
 use Rattle.sch_cli.specs.Following.{edit_line}
+use Rattle.sch_cli.specs.inner.Counts.{RoseFor, next_cost}
 use Rattle.sch_cli.proofs.EndLemmas.{failed_written, text_err, text_stopped, text_then, whole_written}
 use Rattle.sch_cli.proofs.following.Follower.write_edited.Goals as goal
 
@@ -25,3 +26,6 @@ returns-in_err-last-clause-wrote g c =
     (text_then {A = Unit {0}} {B = Unit {0}} (g.O.Sink.log c.args.out.now) (g.O.Sink.log c.write_edit_line.new.out) (g.O.Sink.log c.write_state.new.out) text more tt stopped
     (whole_written {A = Unit {0}} {T = Unit {0}} _ _ text tt tt c.in_ok-write_edit_line.ensures)
     (text_err {A = _} {B = Unit {0}} _ _ more c.in_err-last.field-0.0 stopped refl c.in_err-last.ensures.wrote))
+
+pub returns-clause-rose : goal.returns-clause-rose
+returns-clause-rose g c = subst (RoseFor (next_cost c.args.self.now.session) c.args.steps.now c.write_state.new.steps) c.in_ok-last.ensures.shown c.in_ok-last.ensures.rose

@@ -1,0 +1,319 @@
+-- What a run counts.
+use Rattle.std.proofs.Common.{◌∙◌, ◌≡◌, ℕ, ◌+◌, ◌≤◌, inl, inr, Bool, true, false, List, IfOk, IfSome, OnOk, Option, None, Some, Result, Ok, Err, refl, ap, sym, subst, arith, true≢false}
+use Rattle.sch_io.specs.Files.{Files}
+use Rattle.sch_io.specs.SinkLog.{SinkLog}
+use Rattle.sch_io.specs.Wrote.{Appends}
+use Rattle.doc_tree.specs.Table.{Contents, Table}
+use Rattle.doc_tree.specs.declared.refusal.EditRefusal.{EditRefusal}
+use Rattle.edit_script.specs.Faults.{IfFault}
+use Rattle.edit_script.specs.Script.{Script, nothing, onto, script_of, stops}
+use Rattle.edit_script.specs.declared.command.Command.{Command as Edit}
+use Rattle.edit_script.specs.declared.fault.ScriptError.{ScriptError}
+use Rattle.edit_script.specs.declared.fault.ScriptError.TheVariants as script
+use Rattle.edit_commands.specs.Commands.{IsEdited, command_refusal}
+use Rattle.sch_compiled.specs.declared.plan.Plan.{Plan}
+use Rattle.edit_costs.specs.Costs.{cost_of}
+use Rattle.edit_costs.specs.Dirty.{units_to_run}
+use Rattle.edit_session.specs.Pairs.{pair_cap_for}
+use Rattle.edit_session.specs.Standing.{Past, Standing, done_more, evaluated_over, since_of}
+use Rattle.edit_session.specs.State.{shows}
+use Rattle.edit_session.specs.declared.state.Shown.{Shown}
+use Rattle.edit_session.specs.declared.state.Shown.TheVariants.{Clean, Findings, Fault}
+use Rattle.sch_cli.specs.declared.following.Follower.{Follower}
+use Rattle.sch_cli.specs.declared.status.Status.{Status}
+use Rattle.sch_cli.specs.declared.status.Status.TheVariants as status
+use Rattle.sch_cli.specs.declared.stop.Stop.{Stop}
+use Rattle.sch_cli.specs.declared.stop.Stop.TheVariants.{Usage, SchemaRefused, DocumentRefused, ScriptRefused, Missing, ReadFault, WriteFault, Memory}
+use Rattle.sch_cli.specs.Commands.{Command, command_of, expand}
+use Rattle.sch_cli.specs.CommandOutput.{Treed}
+use Rattle.sch_cli.specs.Following.{then_shown}
+use Rattle.sch_cli.specs.Runs.{AppendsFront, Fronted}
+use Rattle.sch_cli.specs.Stages.{Scripting}
+use Rattle.sch_cli.specs.Steps.{Costs, CountsBy, CountsOver, EditsCost, FollowingCosts, ValidationCosts, at_a_fault, at_the_end, edit_cost, first_cost, of_edited, of_refused}
+use Rattle.sch_cli.specs.inner.Counts.{CostOn, CountsAlong, CountsOn, IsCosted, RoseFor, StatesCost, next_cost}
+use Rattle.sch_cli.specs.inner.Followers.{Beginning, Goes, in_front_of}
+use Rattle.sch_cli.specs.inner.Stops.{ByCause, WroteText, of_script, status_of_end}
+use Rattle.sch_cli.proofs.FollowLemmas.{next_command, refusal_under}
+
+-- Faults among what is shown
+
+abbrev faulty : Shown → Bool
+faulty Fault = true
+faulty Clean = false
+faulty Findings = false
+
+no_fault : (s : Shown) → faulty s ≡ false → s ≡ Fault → ⊥
+no_fault s differs is = true≢false (sym (ap faulty is) ∙ differs)
+
+not_before : (s next : Shown) → (then_shown s next ≡ Fault → ⊥) → s ≡ Fault → ⊥
+not_before Fault next whole is = whole refl
+not_before Clean next whole is = no_fault Clean refl is
+not_before Findings next whole is = no_fault Findings refl is
+
+not_next : (s next : Shown) → (then_shown s next ≡ Fault → ⊥) → next ≡ Fault → ⊥
+not_next Fault next whole is = whole refl
+not_next Clean next whole is = whole is
+not_next Findings next whole is = whole is
+
+-- Amounts
+
+rose_is : (a b before after : ℕ) (seen : Shown) → a ≡ b → RoseFor a before after seen → RoseFor b before after seen
+rose_is a b before after seen is = subst (λ (n : ℕ). RoseFor n before after seen) is
+
+cost_is : (plan : Plan) (T : Table) (script : Script) (a b : ℕ) → a ≡ b → EditsCost plan T script a → EditsCost plan T script b
+cost_is plan T script a b is = subst (EditsCost plan T script) is
+
+-- one state more
+rose_then : (first more start before after : ℕ) (seen next later : Shown) → later ≡ then_shown seen next → RoseFor more before after next → RoseFor first start before seen →
+    RoseFor (first + more) start after later
+rose_then first more start before after seen next later is rose was = record {
+  at_most =
+      let a : before ≤ start + first = was.at_most in
+      let b : after ≤ before + more = rose.at_most in
+      omega (arith, a, b);
+  exactly = λ whole.
+      let a : before ≡ start + first = was.exactly (not_before seen next (λ e. whole (is ∙ e))) in
+      let b : after ≡ before + more = rose.exactly (not_next seen next (λ e. whole (is ∙ e))) in
+      omega (arith, a, b);
+}
+
+-- what it costs does not depend on how a place is told
+costs_same : (plan other : Plan) (T U : Table) (script rest : Script) (cost : ℕ) → plan ≡ other → T ≡ U → script ≡ rest → EditsCost plan T script cost → EditsCost other U rest cost
+costs_same plan other T U script rest cost plans trees scripts costs =
+    subst (λ (s : Script). EditsCost other U s cost) scripts
+    (subst (λ (X : Table). EditsCost other X script cost) trees
+    (subst (λ (p : Plan). EditsCost p T script cost) plans costs))
+
+-- Commands
+
+-- the report behind an accepted command costs the visits of what is new or touched
+next_is_edit : (plan : Plan) (T : Table) (command : Edit) (session : Standing) (before : Option Past) → before ≡ evaluated_over T → session.past ≡ done_more before T command → session.plan ≡ plan →
+    next_cost session ≡ edit_cost plan T command session.tree.nodes
+next_is_edit plan T command session before fresh past plans =
+    let is : session.past ≡ done_more (evaluated_over T) T command = past ∙ ap (λ (p : Option Past). done_more p T command) fresh in
+    ap (λ (p : Option Past). cost_of session.plan session.tree.nodes (units_to_run session.plan (since_of p) session.tree.nodes)) is
+    ∙ ap (λ (p : Plan). edit_cost p T command session.tree.nodes) plans
+
+pub costed_edited : (at later : Follower) (command : Edit) (session : Standing) (before after : ℕ) → at.session.tree.pair_cap ≡ pair_cap_for at.session.plan →
+    at.session.past ≡ evaluated_over at.session.tree.nodes → command_refusal at.session.tree command ≡ None → IsEdited at.session.tree.nodes command session.tree.nodes →
+    session.plan ≡ at.session.plan → session.past ≡ done_more at.session.past at.session.tree.nodes command →
+    later.session.plan ≡ session.plan → later.session.tree ≡ session.tree → later.script ≡ at.script → later.seen ≡ then_shown at.seen (shows session.plan session.tree.nodes) →
+    RoseFor (next_cost session) before after (shows session.plan session.tree.nodes) → IsCosted (in_front_of command at) later before after
+costed_edited at later command session before after cap fresh none makes plan past plans trees scripts seen rose = record {
+  cost = edit_cost at.session.plan at.session.tree.nodes command session.tree.nodes;
+  led = λ rest costs. of_edited at.session.tree.nodes session.tree.nodes command at.script rest (refusal_under at.session.plan at.session.tree command cap ∙ none) makes
+      (costs_same later.session.plan at.session.plan later.session.tree.nodes session.tree.nodes later.script at.script rest (plans ∙ plan) (ap (λ (tree : Contents). tree.nodes) trees) scripts costs);
+  rose = λ first start was. rose_then first (edit_cost at.session.plan at.session.tree.nodes command session.tree.nodes) start before after at.seen (shows session.plan session.tree.nodes) later.seen seen
+      (rose_is (next_cost session) (edit_cost at.session.plan at.session.tree.nodes command session.tree.nodes) before after (shows session.plan session.tree.nodes)
+      (next_is_edit at.session.plan at.session.tree.nodes command session at.session.past fresh past plan) rose) was;
+}
+
+-- where it is written whole
+pub costed_whole : (at later : Follower) (command : Edit) (session : Standing) (before after : ℕ) (result : Result (Unit {0}) Stop) → at.session.tree.pair_cap ≡ pair_cap_for at.session.plan →
+    at.session.past ≡ evaluated_over at.session.tree.nodes → command_refusal at.session.tree command ≡ None → IsEdited at.session.tree.nodes command session.tree.nodes →
+    session.plan ≡ at.session.plan → session.past ≡ done_more at.session.past at.session.tree.nodes command →
+    later.session.plan ≡ session.plan → later.session.tree ≡ session.tree → later.script ≡ at.script → OnOk result (later.seen ≡ then_shown at.seen (shows session.plan session.tree.nodes)) →
+    OnOk result (RoseFor (next_cost session) before after (shows session.plan session.tree.nodes)) → OnOk result (IsCosted (in_front_of command at) later before after)
+costed_whole at later command session before after (Ok done) cap fresh none makes plan past plans trees scripts seen rose =
+    costed_edited at later command session before after cap fresh none makes plan past plans trees scripts seen rose
+costed_whole at later command session before after (Err stop) cap fresh none makes plan past plans trees scripts seen rose = tt
+
+-- a refused command costs none
+pub costed_refused : (at later : Follower) (command : Edit) (reason : EditRefusal) (count : ℕ) → at.session.tree.pair_cap ≡ pair_cap_for at.session.plan →
+    command_refusal at.session.tree command ≡ Some reason → later.session.plan ≡ at.session.plan → later.session.tree.nodes ≡ at.session.tree.nodes → later.script ≡ at.script → later.seen ≡ at.seen →
+    IsCosted (in_front_of command at) later count count
+costed_refused at later command reason count cap some plans trees scripts seen = record {
+  cost = 0;
+  led = λ rest costs.
+      let same : rest ≡ 0 + rest = omega arith in
+      cost_is at.session.plan at.session.tree.nodes (onto command at.script) rest (0 + rest) same
+      (of_refused at.session.tree.nodes command reason at.script rest (refusal_under at.session.plan at.session.tree command cap ∙ some)
+      (costs_same later.session.plan at.session.plan later.session.tree.nodes at.session.tree.nodes later.script at.script rest plans trees scripts costs));
+  rose = λ first start was.
+      let same : first ≡ first + 0 = omega arith in
+      rose_is first (first + 0) start count later.seen same (subst (RoseFor first start count) (sym seen) was);
+}
+
+-- The commands one after another
+
+pub not_costed : (at : Follower) (count : ℕ) → IsCosted at at count count
+not_costed at count = record {
+  cost = 0;
+  led = λ rest costs.
+      let same : rest ≡ 0 + rest = omega arith in
+      cost_is at.session.plan at.session.tree.nodes at.script rest (0 + rest) same costs;
+  rose = λ first start was.
+      let same : first ≡ first + 0 = omega arith in
+      rose_is first (first + 0) start count at.seen same was;
+}
+
+pub costed_on : (a b c : Follower) (before mid after : ℕ) → IsCosted a b before mid → IsCosted b c mid after → IsCosted a c before after
+costed_on a b c before mid after first next = record {
+  cost = first.cost + next.cost;
+  led = λ rest costs.
+      let same : first.cost + (next.cost + rest) ≡ (first.cost + next.cost) + rest = omega arith in
+      cost_is a.session.plan a.session.tree.nodes a.script (first.cost + (next.cost + rest)) ((first.cost + next.cost) + rest) same (first.led (next.cost + rest) (next.led rest costs));
+  rose = λ amount start was.
+      let same : (amount + first.cost) + next.cost ≡ amount + (first.cost + next.cost) = omega arith in
+      rose_is ((amount + first.cost) + next.cost) (amount + (first.cost + next.cost)) start after c.seen same (next.rose (amount + first.cost) start (first.rose amount start was));
+}
+
+-- the place in front of the next command is the one that was come to
+pub costed_to_next : (earlier later : Follower) (rest : Script) (next : Option Edit) (command : Edit) (before after : ℕ) → next ≡ Some command → IfSome next (λ c. later.script ≡ onto c rest) →
+    IsCosted earlier later before after → IsCosted earlier (in_front_of command (record later { script = rest })) before after
+costed_to_next earlier later rest next command before after is says costed = record {
+  cost = costed.cost;
+  led = λ more costs. costed.led more (costs_same later.session.plan later.session.plan later.session.tree.nodes later.session.tree.nodes (onto command rest) later.script more refl refl
+      (sym (next_command next command later.script rest is says)) costs);
+  rose = costed.rose;
+}
+
+-- what a script costs whose end was come to
+all_cost : (earlier later : Follower) (before after first : ℕ) (costed : IsCosted earlier later before after) → EditsCost later.session.plan later.session.tree.nodes later.script 0 → CostOn earlier first (first + costed.cost)
+all_cost earlier later before after first costed none =
+    let same : costed.cost + 0 ≡ costed.cost = omega arith in
+    (costed.cost, cost_is earlier.session.plan earlier.session.tree.nodes earlier.script (costed.cost + 0) costed.cost same (costed.led 0 none), refl)
+
+pub rest_counts : (earlier later : Follower) (before after : ℕ) → IsCosted earlier later before after → later.script ≡ nothing → CountsOn earlier before after (Ok later.seen)
+rest_counts earlier later before after costed none = λ first start was.
+    let costs = all_cost earlier later before after first costed (subst (λ (s : Script). EditsCost later.session.plan later.session.tree.nodes s 0) (sym none) (at_the_end later.session.tree.nodes)) in
+    (first + costed.cost, costs, costed.rose first start was)
+
+-- the script has a fault, or memory runs out
+pub rest_stops_counting : (earlier later : Follower) (before after : ℕ) → IsCosted earlier later before after → (error : ScriptError) (stop : Stop) (result : Result Shown Stop) → result ≡ Err stop → stop ≡ of_script error →
+    IfFault (λ found. later.script ≡ stops found) error → CountsOn earlier before after result
+rest_stops_counting earlier later before after costed error stop result is says found = subst (CountsOn earlier before after) (sym (is ∙ ap Err says)) (by error found)
+  where
+    by : (error : ScriptError) → IfFault (λ found. later.script ≡ stops found) error → CountsOn earlier before after (Err (of_script error))
+    by (script.Fault fault) found = λ first start was.
+        let costs = all_cost earlier later before after first costed
+        (subst (λ (s : Script). EditsCost later.session.plan later.session.tree.nodes s 0) (sym found) (at_a_fault later.session.tree.nodes fault)) in
+        let rose = costed.rose first start was in
+        (first + costed.cost, costs, rose.at_most)
+    by script.Memory found = λ first start was. tt
+
+-- where the writing stops, nothing is said
+unsaid : (R : List ℕ → Type 0) (W M : Type 0) (costs : ℕ → Type 0) (before after : ℕ) (stop : Stop) → ByCause (λ _. ⊥) R W M stop → CountsAlong costs before after (Err stop)
+unsaid R W M costs before after Usage says = tt
+unsaid R W M costs before after (SchemaRefused refusal) says = tt
+unsaid R W M costs before after (DocumentRefused refusal) says = tt
+unsaid R W M costs before after (ScriptRefused refusal) says = absurd says
+unsaid R W M costs before after (Missing name) says = tt
+unsaid R W M costs before after (ReadFault name) says = tt
+unsaid R W M costs before after WriteFault says = tt
+unsaid R W M costs before after Memory says = tt
+
+pub command_stops_counting : {A : Type 0} (earlier before later : Follower) (mid new : SinkLog) (old after : ℕ) (stop : Stop) (result : Result Shown Stop) → result ≡ Err stop →
+    Goes {A = A} before later mid new (Err stop) → CountsOn earlier old after result
+command_stops_counting earlier before later mid new old after stop result is goes = subst (CountsOn earlier old after) (sym is)
+    (λ first start was. unsaid (λ _. ⊥) (Fronted (Beginning before) (Appends mid.written new.written)) (Fronted (Beginning before) (Appends mid.written new.written)) (CostOn earlier first) start after stop goes.told)
+
+-- The whole
+
+along_as : (A B : ℕ → Type 0) (before after : ℕ) (result : Result Shown Stop) → ((cost : ℕ) → A cost → B cost) → CountsAlong A before after result → CountsAlong B before after result
+along_as A B before after (Ok seen) gives counts = (counts.0, gives counts.0 counts.1, counts.2)
+along_as A B before after (Err Usage) gives counts = tt
+along_as A B before after (Err (SchemaRefused refusal)) gives counts = tt
+along_as A B before after (Err (DocumentRefused refusal)) gives counts = tt
+along_as A B before after (Err (ScriptRefused refusal)) gives counts = (counts.0, gives counts.0 counts.1, counts.2)
+along_as A B before after (Err (Missing name)) gives counts = tt
+along_as A B before after (Err (ReadFault name)) gives counts = tt
+along_as A B before after (Err WriteFault) gives counts = tt
+along_as A B before after (Err Memory) gives counts = tt
+
+-- by the status of the run
+along_by : (costs : ℕ → Type 0) (before after : ℕ) (result : Result Shown Stop) → CountsAlong costs before after result → CountsBy costs (status_of_end result) before after
+along_by costs before after (Ok Clean) counts = (counts.0, counts.1, counts.2.exactly (no_fault Clean refl))
+along_by costs before after (Ok Findings) counts = (counts.0, counts.1, counts.2.exactly (no_fault Findings refl))
+along_by costs before after (Ok Fault) counts = (counts.0, counts.1, counts.2.at_most)
+along_by costs before after (Err Usage) counts = tt
+along_by costs before after (Err (SchemaRefused refusal)) counts = tt
+along_by costs before after (Err (DocumentRefused refusal)) counts = tt
+along_by costs before after (Err (ScriptRefused refusal)) counts = inr counts
+along_by costs before after (Err (Missing name)) counts = tt
+along_by costs before after (Err (ReadFault name)) counts = tt
+along_by costs before after (Err WriteFault) counts = tt
+along_by costs before after (Err Memory) counts = tt
+
+-- a run that was stopped before its first state
+still : (costs : ℕ → Type 0) (count : ℕ) (stop : Stop) → CountsBy costs (status_of_end (Err stop)) count count
+still costs count Usage = tt
+still costs count (SchemaRefused refusal) = tt
+still costs count (DocumentRefused refusal) = tt
+still costs count (ScriptRefused refusal) = inl refl
+still costs count (Missing name) = tt
+still costs count (ReadFault name) = tt
+still costs count WriteFault = tt
+still costs count Memory = tt
+
+pub still_counts : (costs : ℕ → Type 0) (count : ℕ) (result : Result Shown Stop) (stop : Stop) → result ≡ Err stop → CountsBy costs (status_of_end result) count count
+still_counts costs count result stop is = subst (λ (r : Result Shown Stop). CountsBy costs (status_of_end r) count count) (sym is) (still costs count stop)
+
+-- nothing was evaluated before the first report
+first_is : (session : Standing) → session.past ≡ None → next_cost session ≡ first_cost session.plan session.tree.nodes
+first_is session none = ap (λ (p : Option Past). cost_of session.plan session.tree.nodes (units_to_run session.plan (since_of p) session.tree.nodes)) none
+
+pub validation_counts : (files : Files) (phase schema document : List ℕ) (session : Standing) (text : List ℕ) (old new : SinkLog) (before after : ℕ) (result : Result Shown Stop) →
+    Treed files phase schema document session.plan session.tree.nodes → session.past ≡ None → IfOk result (RoseFor (next_cost session) before after) → WroteText old new text result →
+    CountsBy (ValidationCosts files phase schema document) (status_of_end result) before after
+validation_counts files phase schema document session text old new before after result treed none rose wrote = along_by (ValidationCosts files phase schema document) before after result (by result rose wrote)
+  where
+    by : (result : Result Shown Stop) → IfOk result (RoseFor (next_cost session) before after) → WroteText old new text result → CountsAlong (ValidationCosts files phase schema document) before after result
+    by (Ok seen) rose wrote = (next_cost session, record { plan = session.plan; tree = session.tree.nodes; treed = treed; costs = first_is session none }, rose)
+    by (Err stop) rose wrote = unsaid (λ _. ⊥) (AppendsFront old.written new.written text) (AppendsFront old.written new.written text) (ValidationCosts files phase schema document) before after stop wrote.told
+
+-- the first state of a script that is not written whole
+pub first_unsaid : (plan : Plan) (T : Table) (bytes text : List ℕ) (old new : SinkLog) (before after : ℕ) (stop : Stop) (result : Result Shown Stop) → result ≡ Err stop →
+    WroteText {A = Shown} old new text (Err stop) → CountsAlong (StatesCost plan T bytes) before after result
+first_unsaid plan T bytes text old new before after stop result is wrote = subst (CountsAlong (StatesCost plan T bytes) before after) (sym is) (unsaid (λ _. ⊥) (AppendsFront old.written new.written text) (AppendsFront old.written new.written text) (StatesCost plan T bytes) before after stop wrote.told)
+
+-- the states, the first of which was written
+pub states_count : (session : Standing) (bytes : List ℕ) (first : Follower) (before mid after : ℕ) (result : Result Shown Stop) → session.past ≡ None →
+    first.session.plan ≡ session.plan → first.session.tree ≡ session.tree → first.script ≡ script_of bytes →
+    RoseFor (next_cost session) before mid first.seen → CountsOn first mid after result → CountsAlong (StatesCost session.plan session.tree.nodes bytes) before after result
+states_count session bytes first before mid after result none plans trees scripts rose counts =
+    along_as (CostOn first (next_cost session)) (StatesCost session.plan session.tree.nodes bytes) before after result
+    (λ cost costs. (
+      costs.0,
+      costs_same first.session.plan session.plan first.session.tree.nodes session.tree.nodes first.script (script_of bytes) costs.0 plans (ap (λ (tree : Contents). tree.nodes) trees) scripts costs.1,
+      costs.2 ∙ ap (λ (n : ℕ). n + costs.0) (first_is session none),
+    ))
+    (counts (next_cost session) before rose)
+
+pub following_counts : (files : Files) (phase schema document script : List ℕ) (plan : Plan) (T : Table) (bytes : List ℕ) (before after : ℕ) (result : Result Shown Stop) →
+    Treed files phase schema document plan T → Scripting files script (Ok bytes) → CountsAlong (StatesCost plan T bytes) before after result →
+    CountsBy (FollowingCosts files phase schema document script) (status_of_end result) before after
+following_counts files phase schema document script plan T bytes before after result treed read counts =
+    along_by (FollowingCosts files phase schema document script) before after result
+    (along_as (StatesCost plan T bytes) (FollowingCosts files phase schema document script) before after result
+    (λ cost costs. record { plan = plan; tree = T; treed = treed; bytes = bytes; read = read; later = costs.0; edits = costs.1; costs = costs.2 }) counts)
+
+-- The words
+
+-- an expansion makes no visits
+none_counted : (count : ℕ) (result : Result Shown Stop) → CountsBy (λ cost. cost ≡ 0) (status_of_end result) count count
+none_counted count (Ok Clean) = (0, refl, omega arith)
+none_counted count (Ok Findings) = (0, refl, omega arith)
+none_counted count (Ok Fault) = (0, refl, omega arith)
+none_counted count (Err stop) = still (λ cost. cost ≡ 0) count stop
+
+-- words that are not accepted count nothing
+pub no_counts : (words : List (List ℕ)) (files : Option Files) (before after : ℕ) → CountsOver files words status.Usage before after
+no_counts words None before after = tt
+no_counts words (Some files) before after = tt
+
+-- what the command counts is what the run counts
+pub carries_counts : (words : List (List ℕ)) (files : Option Files) (command : Command) (ends : Status) (before after : ℕ) → command_of words ≡ Some command →
+    ((held : Files) → files ≡ Some held → CountsBy (Costs (Some command) held) ends before after) → CountsOver files words ends before after
+carries_counts words None command ends before after is counts = tt
+carries_counts words (Some files) command ends before after is counts =
+    subst (λ (asked : Option Command). CountsBy (Costs asked files) ends before after) (sym is) (counts files refl)
+
+pub carries_none : (words : List (List ℕ)) (files : Option Files) (schema : List ℕ) (count : ℕ) (result : Result Shown Stop) → command_of words ≡ Some (expand schema) →
+    CountsOver files words (status_of_end result) count count
+carries_none words files schema count result is = carries_counts words files (expand schema) (status_of_end result) count count is (λ held same. none_counted count result)
+
+-- the status of the run
+pub run_counts : (words : List (List ℕ)) (files : Option Files) (ends : Status) (result : Result Shown Stop) (before after : ℕ) → ends ≡ status_of_end result →
+    CountsOver files words (status_of_end result) before after → CountsOver files words ends before after
+run_counts words files ends result before after is = subst (λ (s : Status). CountsOver files words s before after) (sym is)

@@ -1,0 +1,48 @@
+-- What parts of a run count.
+use Rattle.std.specs.Prelude.{◌≡◌, ℕ, ◌+◌, ◌≤◌, List, Result, Ok, Err}
+use Rattle.doc_tree.specs.Table.{Table}
+use Rattle.edit_script.specs.Script.{script_of}
+use Rattle.sch_compiled.specs.declared.plan.Plan.{Plan}
+use Rattle.edit_costs.specs.Costs.{cost_of}
+use Rattle.edit_costs.specs.Dirty.{units_to_run}
+use Rattle.edit_session.specs.Standing.{Standing, since_of}
+use Rattle.edit_session.specs.declared.state.Shown.{Shown}
+use Rattle.edit_session.specs.declared.state.Shown.TheVariants.{Fault}
+use Rattle.sch_cli.specs.declared.following.Follower.{Follower}
+use Rattle.sch_cli.specs.declared.stop.Stop.{Stop}
+use Rattle.sch_cli.specs.declared.stop.Stop.TheVariants.{ScriptRefused}
+use Rattle.sch_cli.specs.Steps.{CountsAtMost, EditsCost, first_cost}
+
+-- the visits of a session's next report
+abbrev pub next_cost : Standing → ℕ
+next_cost session = cost_of session.plan session.tree.nodes (units_to_run session.plan (since_of session.past) session.tree.nodes)
+
+-- a count rose by an amount at most, and by exactly this where no fault is shown
+pub record RoseFor (amount before after : ℕ) (shown : Shown) : Type 0 where
+  pub at_most : after ≤ before + amount
+  pub exactly : (shown ≡ Fault → ⊥) → after ≡ before + amount
+
+-- what the result of a part of a run says of the count, by the visits of the states: a fault of the script comes behind its states
+abbrev pub CountsAlong : (ℕ → Type 0) → ℕ → ℕ → Result Shown Stop → Type 0
+CountsAlong costs before after (Ok shown) = (cost : ℕ) × costs cost × RoseFor cost before after shown
+CountsAlong costs before after (Err (ScriptRefused refusal)) = CountsAtMost costs before after
+CountsAlong costs before after (Err stop) = Unit {0}
+
+-- the visits of the states of a script that is followed
+abbrev pub StatesCost : Plan → Table → List ℕ → ℕ → Type 0
+StatesCost plan T script cost = (later : ℕ) × EditsCost plan T (script_of script) later × (cost ≡ first_cost plan T + later)
+
+-- the way from one place to another costs visits, and what was counted before rose by these
+pub record IsCosted (earlier later : Follower) (before after : ℕ) : Type 0 where
+  pub cost : ℕ
+  pub led : (rest : ℕ) → EditsCost later.session.plan later.session.tree.nodes later.script rest →
+      EditsCost earlier.session.plan earlier.session.tree.nodes earlier.script (cost + rest)
+  pub rose : (first start : ℕ) → RoseFor first start before earlier.seen → RoseFor (first + cost) start after later.seen
+
+-- the visits of what is to come at a place, with those before it
+abbrev pub CostOn : Follower → ℕ → ℕ → Type 0
+CostOn at first cost = (later : ℕ) × EditsCost at.session.plan at.session.tree.nodes at.script later × (cost ≡ first + later)
+
+-- what is to come at a place is counted with what was counted before
+abbrev pub CountsOn : Follower → ℕ → ℕ → Result Shown Stop → Type 0
+CountsOn at before after result = (first start : ℕ) → RoseFor first start before at.seen → CountsAlong (CostOn at first) start after result
