@@ -10,3 +10,4 @@ pub mod Runs
 pub mod Status
 pub mod inner
 pub mod Steps
+pub mod Headline

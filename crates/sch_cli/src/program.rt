@@ -4,7 +4,8 @@ ghost use Rattle.std.specs.Prelude.{◌≡◌, ◌≤◌, ℕ, List, ◌↔◌, 
 ghost use Rattle.sch_io.specs.Wrote.{Appends, Wrote};
 ghost use Rattle.sch_cli.specs.declared.status.Status.TheVariants as statuses;
 ghost use Rattle.sch_cli.specs.Commands.{command_of};
-ghost use Rattle.sch_cli.specs.Runs.{Ends, Tells, IsLineOf, IsLast, OpensFiles, OpensOver, counted_if, is_status, may_evaluate, may_write};
+ghost use Rattle.sch_cli.specs.Headline.{Headline};
+ghost use Rattle.sch_cli.specs.Runs.{Tells, IsLineOf, IsLast, OpensFiles, OpensOver, counted_if, is_status, may_evaluate, may_write};
 ghost use Rattle.sch_cli.specs.Steps.{CountsOver};
 ghost use Rattle.sch_cli.specs.inner.Stops.{ConcludesOver, EndsAs, Names, ends_with, may_have_written, status_of_end, line_of_end};
 
@@ -32,9 +33,8 @@ pub fn run<S: Shelf, O: Sink, E: Sink, L: Ledger>(
     err: &mut E,
     steps: &mut Steps<L>,
 ) -> Status
-    // over a shelf that tells its files, the run ends as the files and words say
-    ensures whole { Ends (S.state shelf.old).files words.now (Appends (O.log out.old).written (O.log out.new).written)
-        (Tells (E.log err.old) (E.log err.new)) result }
+    ensures headline { Headline (S.state shelf.old).files words.now (Appends (O.log out.old).written (O.log out.new).written)
+        (Tells (E.log err.old) (E.log err.new)) result steps.old steps.new }
     ensures line { (line : List ℕ) × IsLineOf (S.state shelf.old).opened (S.state shelf.new).opened result line
         × Tells (E.log err.old) (E.log err.new) line }
     ensures usage { (result ≡ statuses.Usage) ↔ (command_of words.now ≡ None) }
@@ -51,9 +51,6 @@ pub fn run<S: Shelf, O: Sink, E: Sink, L: Ledger>(
     // a run that stops before it writes leaves the output as it was, and one that does not evaluate the count of steps
     ensures untouched { may_write result ≡ false → O.log out.new ≡ O.log out.old }
     ensures unevaluated { may_evaluate (command_of words.now) result ≡ false → steps.new ≡ steps.old }
-    // the count of steps rises by the visits of all units for the first state, and for an accepted edit by those of the units that are
-    // new or whose reads it touched; where an evaluation faults it may rise by less
-    ensures counted { CountsOver (S.state shelf.old).files words.now result steps.old steps.new }
     ensures steps { steps.old ≤ steps.new }
 {
     conclude(carry_out(alloc, words, shelf, out, steps), err)

@@ -48,17 +48,12 @@ impl Answers for Files {
                 }
             }
             "nested" => self.put("d.pyx", nested(self.alloc, input.parse()?)?.as_slice())?,
-            "no room" => return self.ended(input, 0, 0),
             "run" => return self.ended(input, 0, ROOM),
-            _ => {
-                if let Some(room) = kind.strip_prefix("room ") {
-                    return self.ended(input, 0, room.parse()?);
-                }
-                match kind.strip_prefix("file ") {
-                    Some(name) => self.put(name, input.as_bytes())?,
-                    None => return self.ended(input, kind.parse()?, ROOM),
-                }
-            }
+            _ => match kind.split_once(' ') {
+                Some(("file", name)) => self.put(name, input.as_bytes())?,
+                Some(("room", room)) => return self.ended(input, 0, room.parse()?),
+                _ => return self.ended(input, kind.parse()?, ROOM),
+            },
         }
         Ok(String::new(self.alloc))
     }
