@@ -5,3 +5,4 @@ pub mod Segments
 pub mod AxisLemmas
 pub mod SiblingLemmas
 pub mod StepLemmas
+pub mod LiveNodes

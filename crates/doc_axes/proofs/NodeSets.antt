@@ -96,3 +96,12 @@ module _ (T : Table) (ord : Ordered T) where
 
   pub none_in_order : in_order T [] ≡ []
   none_in_order = filter-none (λ m. false) (order T) (λ m g. refl)
+
+  -- a node-set, and a node that its last stands before
+  pub set_more : (xs front : List ℕ) (x y : ℕ) → xs ≡ front ++ x ∷ [] → IsNodeSet T xs → is_live T y ≡ true → is_before T x y ≡ true → IsNodeSet T (xs ++ y ∷ [])
+  set_more xs front x y e set live h =
+      let ends : IsNodeSet T (front ++ x ∷ []) = subst (IsNodeSet T) e set in
+      let both : union T (front ++ x ∷ []) (y ∷ []) ≡ (front ++ x ∷ []) ++ y ∷ [] = union_behind front x y [] ends (sym (one_live y live)) h in
+      let k : Sub ((front ++ x ∷ []) ++ y ∷ []) (order T) =
+      subst (λ l. Sub l (order T)) both (sub-filter (λ m. mem m (front ++ x ∷ []) || mem m (y ∷ [])) (order T)) in
+      subst (λ l. IsNodeSet T (l ++ y ∷ [])) (sym e) (sub-set ((front ++ x ∷ []) ++ y ∷ []) k)

@@ -31,7 +31,12 @@ pub fn axis_nodes(alloc: Global, tree: &Tree, n: NodeId, axis: Axis) -> Result<N
 }
 
 /// Puts the nodes on the axis from a live node at the end of the list, the preceding ones in document order.
-fn push_axis(tree: &Tree, list: &mut NodeList, n: NodeId, axis: Axis) -> Result<(), AllocError>
+pub(crate) fn push_axis(
+    tree: &Tree,
+    list: &mut NodeList,
+    n: NodeId,
+    axis: Axis,
+) -> Result<(), AllocError>
     requires { is_live tree.now.nodes n ≡ true }
     ensures { OnOk result (list.new ≡ list.old ++ found_on tree.now.nodes axis n) }
 {
@@ -62,7 +67,7 @@ fn push_axis(tree: &Tree, list: &mut NodeList, n: NodeId, axis: Axis) -> Result<
 }
 
 /// The kids of the node's parent, none for an attribute and for the root.
-fn kids_beside(tree: &Tree, n: NodeId) -> &[NodeId]
+pub(crate) fn kids_beside(tree: &Tree, n: NodeId) -> &[NodeId]
     requires { is_live tree.now.nodes n ≡ true }
     ensures { result.now ≡ kids_beside tree.now.nodes n }
 {

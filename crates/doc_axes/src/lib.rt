@@ -4,6 +4,7 @@
 mod axes;
 mod laws;
 mod node_test;
+mod passing;
 mod sets;
 mod siblings;
 mod walks;
@@ -11,4 +12,5 @@ mod walks;
 pub use axes::axis_nodes;
 pub use laws::{axes_by_cells, axes_partition};
 pub use node_test::passes;
-pub use sets::{in_document_order, union_in_order};
+pub use passing::push_passing;
+pub use sets::{in_document_order, into_document_order, union_in_order};

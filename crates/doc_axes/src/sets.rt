@@ -1,6 +1,7 @@
 //! Node-sets in document order.
 
-ghost use Rattle.std.specs.Prelude.{◌≡◌, ◌++◌, ◌<◌, true, length, IfOk};
+ghost use Rattle.std.specs.Prelude.{◌≡◌, ◌∷◌, ◌++◌, ◌<◌, true, length, IfOk};
+ghost use Rattle.doc_tree.specs.Table.{is_live};
 ghost use Rattle.doc_axes.specs.Sets.{in_order, IsNodeSet, union};
 
 use doc_tree::{NodeId, NodeList, Tree};
@@ -9,8 +10,7 @@ use std::alloc::{AllocError, Global};
 
 /// The live ones of some nodes in any order, put in document order and each once.
 ///
-/// For k nodes it costs about k log k comparisons at most, and one or two for each node where they come in order or in
-/// reverse; a comparison costs the depth of the two nodes. At most k log k numbers are copied.
+/// Costs a comparison and a copy for each node where they come in order, and otherwise what `into_document_order` costs.
 pub fn in_document_order(
     alloc: Global,
     tree: &Tree,
@@ -18,6 +18,24 @@ pub fn in_document_order(
 ) -> Result<NodeList, AllocError>
     ensures { IfOk result (λ v. v ≡ in_order tree.now.nodes nodes.now) }
 {
+    ordered(alloc, tree, nodes.as_slice())
+}
+
+/// The live ones of some nodes in any order, put in document order and each once.
+///
+/// Where they come in order, the list itself is handed back: it costs a comparison for each node and takes no memory.
+/// Otherwise it costs about k log k comparisons at most for k nodes, and at most k log k numbers are copied; a comparison
+/// costs the depth of the two nodes.
+pub fn into_document_order(
+    alloc: Global,
+    tree: &Tree,
+    nodes: NodeList,
+) -> Result<NodeList, AllocError>
+    ensures { IfOk result (λ v. v ≡ in_order tree.now.nodes nodes) }
+{
+    if stand_in_order(tree, nodes.as_slice()) {
+        return Ok(nodes);
+    }
     ordered(alloc, tree, nodes.as_slice())
 }
 
@@ -36,10 +54,11 @@ pub fn union_in_order(
     let mut both = ItemList::new(alloc);
     both.push_all(a.as_slice())?;
     both.push_all(b.as_slice())?;
-    in_document_order(alloc, tree, &both)
+    into_document_order(alloc, tree, both)
 }
 
-/// The live ones of some nodes in document order, each once: the two halves are ordered apart, then joined.
+/// The live ones of some nodes in document order, each once: where they don't come in order, the two halves are ordered
+/// apart, then joined.
 #[tactic(auto, using(crate::proofs::NodeSets::in_order_set, crate::proofs::NodeSets::halves))]
 fn ordered(alloc: Global, tree: &Tree, nodes: &[NodeId]) -> Result<NodeList, AllocError>
     ensures { IfOk result (λ v. v ≡ in_order tree.now.nodes nodes.now) }
@@ -47,11 +66,43 @@ fn ordered(alloc: Global, tree: &Tree, nodes: &[NodeId]) -> Result<NodeList, All
     if nodes.len() < 2 {
         return few_ordered(alloc, tree, nodes);
     }
+    if stand_in_order(tree, nodes) {
+        return ItemList::copy_of(alloc, nodes);
+    }
     tree.laws();
     let (front, back) = nodes.split_at(nodes.len() / 2);
     let a = ordered(alloc, tree, front)?;
     let b = ordered(alloc, tree, back)?;
     joined(alloc, tree, a, b)
+}
+
+/// Whether the nodes are a node-set: they live, and each stands before the next.
+///
+/// Costs a comparison for each node.
+fn stand_in_order(tree: &Tree, nodes: &[NodeId]) -> bool
+    ensures { result ≡ true → IsNodeSet tree.now.nodes nodes.now }
+{
+    tree.laws();
+    match nodes.split_first() {
+        Some((first, rest)) => tree.contains(*first) && follow_in_order(tree, *first, rest),
+        None => true,
+    }
+}
+
+/// Whether a live node stands before the first of some nodes, each of these lives, and stands before the next.
+fn follow_in_order(tree: &Tree, first: NodeId, rest: &[NodeId]) -> bool
+    requires { is_live tree.now.nodes first ≡ true }
+    ensures { result ≡ true → IsNodeSet tree.now.nodes (first ∷ rest.now) }
+{
+    tree.laws();
+    let mut last = first;
+    for n in rest {
+        if !tree.contains(*n) || !tree.is_before(last, *n) {
+            return false;
+        }
+        last = *n;
+    }
+    true
 }
 
 /// `ordered` of at most one node.

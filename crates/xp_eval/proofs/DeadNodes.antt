@@ -1,7 +1,5 @@
--- Axes lead to live nodes, and from a number at which no node lives they lead nowhere.
-use Rattle.std.proofs.Common.{◌≡◌, ℕ, Bool, true, false, not, cond, ◌||◌, ◌&&◌, List, [], ◌∷◌, Option, None, Some, Result, Ok, Err, IfOk, eqb, eqb-true, true≢false, is_some, refl, sym, ◌∙◌, ap, ap₂}
-use Rattle.std.specs.Prelude.{filter}
-use Rattle.std.specs.declared.alloc.AllocError.{AllocError}
+-- From a number at which no node lives axes lead nowhere.
+use Rattle.std.proofs.Common.{◌≡◌, ℕ, Bool, true, false, not, cond, ◌||◌, ◌&&◌, List, [], ◌∷◌, Option, None, Some, eqb, eqb-true, true≢false, is_some, refl, sym, ◌∙◌, ap, ap₂}
 use Rattle.doc_tree.specs.declared.axes.Axis.{Axis}
 use Rattle.doc_tree.specs.declared.axes.Axis.TheVariants.{Ancestor, AncestorOrSelf, Attribute, Child, Descendant, DescendantOrSelf, Following, FollowingSibling, Parent, Preceding, PrecedingSibling, SelfNode}
 use Rattle.doc_tree.specs.Laws.{Ordered, HasWaysUp}
@@ -12,7 +10,7 @@ use Rattle.doc_tree.specs.Table.{Table, Facts, entry_at, is_live, parent_at, kid
 use Rattle.doc_tree.specs.Walks.{ancestors, order}
 use Rattle.doc_tree.proofs.ListLemmas.{In-mem, mem-tail}
 use Rattle.doc_axes.specs.Axes.{axis_nodes, axis_order, backwards, is_attribute, is_one, is_reverse, is_sibling, on_axis}
-use Rattle.doc_axes.proofs.SubLists.{filter-none, mem-same, occurs-backwards}
+use Rattle.doc_axes.proofs.SubLists.{filter-none}
 
 and_false : (b : Bool) → (b && false) ≡ false
 and_false true = refl
@@ -79,24 +77,3 @@ module _ (T : Table) (ord : Ordered T) (up : HasWaysUp T) (scopes : HasScopes T)
       let none : axis_order T axis n ≡ [] =
       filter-none (on_axis T axis n) (order T) (λ m h. off_axis axis m (ord.live_in_order m ∙ In-mem m (order T) h)) in
       ap (λ ms. cond (is_reverse axis) (backwards ms) ms) none ∙ either_way (is_reverse axis)
-
-module _ (T : Table) (ord : Ordered T) where
-  filtered_in : (p : ℕ → Bool) (m : ℕ) (xs : List ℕ) → mem m (filter p xs) ≡ true → mem m xs ≡ true
-  filtered_in p m [] h = h
-  filtered_in p m (x ∷ xs) h =
-      elim (p x) as (λ b. mem m (cond b (x ∷ filter p xs) (filter p xs)) ≡ true → (eqb m x || mem m xs) ≡ true) [
-        | true ↦ elim (eqb m x) as (λ e. (e || mem m (filter p xs)) ≡ true → (e || mem m xs) ≡ true) [ true ↦ λ k. refl | false ↦ λ k. filtered_in p m xs k ]
-        | false ↦ λ k. mem-tail m x xs (filtered_in p m xs k)
-      ] h
-
-  on_order : (axis : Axis) (n m : ℕ) (b : Bool) → mem m (cond b (backwards (axis_order T axis n)) (axis_order T axis n)) ≡ true → mem m (axis_order T axis n) ≡ true
-  on_order axis n m true h = mem-same m (axis_order T axis n) (backwards (axis_order T axis n)) (sym (occurs-backwards m (axis_order T axis n))) ∙ h
-  on_order axis n m false h = h
-
-  pub axis_live : (axis : Axis) (n m : ℕ) → mem m (axis_nodes T axis n) ≡ true → is_live T m ≡ true
-  axis_live axis n m h = ord.live_in_order m ∙ filtered_in (on_axis T axis n) m (order T) (on_order axis n m (is_reverse axis) h)
-
-  pub all_live : (axis : Axis) (n : ℕ) (r : Result (List ℕ) AllocError) → IfOk r (λ ns. ns ≡ axis_nodes T axis n) →
-      IfOk r (λ ns. (m : ℕ) → mem m ns ≡ true → is_live T m ≡ true)
-  all_live axis n (Ok ns) is = λ m h. axis_live axis n m (sym (ap (mem m) is) ∙ h)
-  all_live axis n (Err e) is = tt

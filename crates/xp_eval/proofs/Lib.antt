@@ -2,3 +2,4 @@ pub mod Views
 pub mod Loops
 pub mod Runs
 pub mod DeadNodes
+pub mod LoneLets

@@ -1,10 +1,10 @@
 -- What a loop over operands, steps or predicates has before it: the next one and the rest, or nothing.
-use Rattle.std.proofs.Common.{◌≡◌, ℕ, ◌+◌, ◌<◌, ◌≤◌, List, length, drop, get_or, true, false, if◌then◌else◌, sym, ◌∙◌, ap}
+use Rattle.std.proofs.Common.{◌≡◌, ℕ, ◌+◌, ◌<◌, ◌≤◌, List, [], length, drop, get_or, true, false, if◌then◌else◌, sym, ◌∙◌, ap}
 use Rattle.doc_tree.specs.Table.{Table}
 use Rattle.xp_typed_tree.specs.declared.expr.TypedExpr.{TypedExpr}
 use Rattle.xp_typed_tree.specs.declared.expr.Compared.{Compared, out-Compared}
 use Rattle.xp_typed_tree.specs.declared.expr.Combined.{Combined, out-Combined}
-use Rattle.xp_typed_tree.specs.declared.expr.TypedStep.{TypedStep}
+use Rattle.xp_typed_tree.specs.declared.expr.TypedStep.{TypedStep, out-TypedStep}
 use Rattle.xp_typed_tree.specs.TypedView.{typed_tree_of, typed_seen, compared_list_seen, combined_list_seen, typed_steps_seen}
 use Rattle.xp_typed_tree.proofs.TypedViewLemmas.{of-compared, of-combined, of-step}
 use Rattle.xp_outcome.specs.Evaluation.{done, given, bind}
@@ -20,6 +20,7 @@ use Rattle.xp_meaning.specs.declared.context.Context.{Context}
 use Rattle.xp_meaning.specs.Paths.{kept, filtered, step_from, path}
 use Rattle.xp_meaning.specs.Evaluation.{Lets, meaning, meanings, some_true, all_true, compared, combined, comparands_meant, combinands_meant, steps_meant}
 use Rattle.xp_eval.specs.Steps.{step_meant}
+use Rattle.xp_eval.specs.inner.Candidates.{plain_step_from}
 
 module _ (T : Table) (L : Lets) (xs : List TypedExpr) (i : ℕ) where
   module _ (c : Context) (x : TypedExpr) (below : i < length xs) (is : x ≡ get_or xs i x) where
@@ -81,3 +82,9 @@ module _ (T : Table) (L : Lets) (xs : List TypedStep) (i current : ℕ) (ns : Li
 
   pub path-end : length xs ≤ i → path T (steps_meant T L (typed_steps_seen (drop i xs))) current ns ≡ done ns
   path-end past = ap (λ ys. path T (steps_meant T L (typed_steps_seen ys)) current ns) (no_item xs i past)
+
+-- a step without predicates
+pub plain_meant : (T : Table) (L : Lets) (s : TypedStep) (current : ℕ) (ns : List ℕ) → (out-TypedStep s).predicates.items ≡ [] →
+    step_from T (step_meant T L s) current ns ≡ plain_step_from T s ns
+plain_meant T L s current ns none =
+    ap (λ ps. step_from T (record { axis = (out-TypedStep s).axis; test = (out-TypedStep s).test; predicates = meanings T L (typed_seen ps) }) current ns) none

@@ -1,14 +1,16 @@
 -- Runs of loops, one turn further.
 use Rattle.std.proofs.Common.{◌≡◌, ℕ, ◌+◌, Bool, true, false, List, [], ◌∷◌, ◌++◌, Result, Ok, Err, IfOk, if◌then◌else◌, sym, ap, ap₂, subst}
+use Rattle.std.specs.Result.{IsErrAnd}
 use Rattle.std.specs.declared.alloc.AllocError.{AllocError}
 use Rattle.xp_outcome.specs.Evaluation.{Evaluation, done, given, bind, gather}
 use Rattle.xp_outcome.specs.Recorded.{Recorded}
-use Rattle.xp_outcome.specs.Running.{Stop, faulted, Ran, Onto}
+use Rattle.xp_outcome.specs.Running.{Stop, faulted, no_memory, Ran, Onto}
 use Rattle.xp_outcome.proofs.Outcomes.{bind-right, gathering, gathering_start}
 use Rattle.xp_values.specs.declared.values.EvalFault.{EvalFault}
 use Rattle.xp_meaning.specs.Results.{shown_alloc}
 use Rattle.xp_meaning.proofs.Exits.{ran_done_at}
 use Rattle.xp_meaning.specs.Paths.{placed}
+use Rattle.xp_eval.specs.inner.Candidates.{shown_found}
 use Rattle.xp_outcome.proofs.Runs.{ran_alike, ran_done, ran_fault, ran_late, onto_start, onto_alike, onto_bind, onto_stop, gather_more, gather_stop, gather_end}
 
 module _ {F A B : Type 0} {m k : Evaluation F B} {held now : Recorded} {before after : ℕ} (a : Evaluation F A) (next : A → Evaluation F B) (is : k ≡ bind a next) where
@@ -64,6 +66,12 @@ gather_begins_alone {B = B} act piece acc i xs is {held} {before} =
 pub ran_alloc : {A : Type 0} (r : Result A AllocError) (w : A) (held : Recorded) (n : ℕ) → IfOk r (λ v. v ≡ w) → Ran {F = EvalFault} (done w) (shown_alloc r) held held n n
 ran_alloc (Ok v) w held n is = ran_done_at w held n is
 ran_alloc (Err e) w held n h = ran_late (done w) held n
+
+-- `?` hands on want of memory where nodes are put into a list
+pub exit_found : (P : AllocError → Type 0) (ns : List ℕ) {m : Evaluation EvalFault (List ℕ)} {held now : Recorded} {before after : ℕ} → (r : Result Unit AllocError) → IsErrAnd r P →
+    Ran m (Err no_memory) held now before after → Ran m (shown_found ns r) held now before after
+exit_found P ns (Ok v) h ran = absurd h
+exit_found P ns (Err d) h ran = ran
 
 -- an operation that has a fault, or an answer
 pub ran_given_fault : {A : Type 0} (meant : Result A EvalFault) (f : EvalFault) (held : Recorded) (n : ℕ) → meant ≡ Err f → Ran (given meant) (Err (faulted f)) held held n n

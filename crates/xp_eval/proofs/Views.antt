@@ -31,7 +31,7 @@ use Rattle.xp_meaning.specs.Evaluation.{Lets, meaning, meanings, some_true, all_
 use Rattle.xp_eval.specs.inner.Wants.{wanted_by}
 
 -- what follows a part of a value follows the value
-bind_mapped : {F A B C : Type 0} (m : Evaluation F A) (part : A → B) (next : B → Evaluation F C) →
+pub bind_mapped : {F A B C : Type 0} (m : Evaluation F A) (part : A → B) (next : B → Evaluation F C) →
     bind (bind m (λ v. done (part v))) next ≡ bind m (λ v. next (part v))
 bind_mapped m part next =
     bind_assoc m (λ v. done (part v)) next

@@ -1,72 +1,101 @@
 //! The candidates of steps: the nodes on an axis that pass a test (XPath 1.0, sections 2.2 and 2.3).
 
-ghost use Rattle.std.specs.Prelude.{◌≡◌, ℕ, true, filter, IfOk};
-ghost use Rattle.doc_tree.specs.Lists.{mem};
-ghost use Rattle.doc_tree.specs.Table.{is_live};
+ghost use Rattle.std.specs.Prelude.{◌≡◌, [], ◌++◌, true, length, IfOk, OnOk};
 ghost use Rattle.doc_axes.specs.Axes.{axis_nodes};
-ghost use Rattle.doc_axes.specs.NodeTests.{passes};
+ghost use Rattle.xp_typed_tree.specs.declared.expr.TypedStep.{out-TypedStep};
 ghost use Rattle.xp_outcome.specs.Running.{Ran};
 ghost use Rattle.xp_meaning.specs.Results.{shown_alloc};
-ghost use Rattle.xp_meaning.specs.Paths.{candidates};
+ghost use Rattle.xp_eval.specs.inner.Candidates.{found, candidates_of, plain_step_from, shown_found};
 
 use crate::evaluator::Evaluator;
-use doc_axes::{axis_nodes, passes};
-use doc_tree::{Axis, NodeId, NodeList, NodeTest, Tree};
+use doc_axes::{into_document_order, push_passing};
+use doc_tree::{NodeId, NodeList, Tree};
 use sch_base::ItemList;
 use std::alloc::{AllocError, Global};
 use std::sync::ledger::Ledger;
 use xp_calls::{Caller, read_axis};
 use xp_outcome::{Recorder, Steps};
+use xp_typed_tree::TypedStep;
 
 impl Evaluator<'_> {
-    /// The nodes on the axis from a node that pass the test, in the axis's own order. Records what the axis looks at, and
-    /// counts a step for the node and one for each node on its axis.
+    /// The nodes that a step without predicates selects from a set of nodes, in document order: the candidates at all of
+    /// them, put into one list.
+    pub(crate) fn plain_step<L: Ledger>(
+        &self,
+        step: &TypedStep,
+        nodes: &[NodeId],
+        reads: &mut Recorder,
+        steps: &mut Steps<L>,
+    ) -> Result<NodeList, AllocError>
+        ensures { Ran (plain_step_from self.now.caller.tree.now.nodes step.now nodes.now) (shown_alloc result) reads.old reads.new steps.old steps.new }
+    {
+        let mut selected = ItemList::new(self.caller.alloc);
+        for n in nodes {
+            self.push_candidates(step, *n, &mut selected, reads, steps)?;
+        }
+        into_document_order(self.caller.alloc, self.caller.tree, selected)
+    }
+
+    /// The nodes on the axis from a node that pass the test, in the axis's own order.
     pub(crate) fn candidates<L: Ledger>(
         &self,
-        axis: Axis,
-        test: &NodeTest,
+        step: &TypedStep,
         n: NodeId,
         reads: &mut Recorder,
         steps: &mut Steps<L>,
     ) -> Result<NodeList, AllocError>
-        ensures { Ran (candidates self.now.caller.tree.now.nodes axis test.now n) (shown_alloc result) reads.old reads.new steps.old steps.new }
+        ensures { Ran (candidates_of self.now.caller.tree.now.nodes step.now n) (shown_alloc result) reads.old reads.new steps.old steps.new }
+    {
+        let mut list = ItemList::new(self.caller.alloc);
+        self.push_candidates(step, n, &mut list, reads, steps)?;
+        Ok(list)
+    }
+
+    /// Puts the nodes on the axis from a node that pass the test at the end of the list, in the axis's own order. Records
+    /// what the axis looks at, and counts a step for the node and one for each node on its axis.
+    fn push_candidates<L: Ledger>(
+        &self,
+        step: &TypedStep,
+        n: NodeId,
+        list: &mut NodeList,
+        reads: &mut Recorder,
+        steps: &mut Steps<L>,
+    ) -> Result<(), AllocError>
+        ensures ran { Ran (candidates_of self.now.caller.tree.now.nodes step.now n) (shown_found (found self.now.caller.tree.now.nodes step.now n) result) reads.old reads.new steps.old steps.new }
+        ensures pushed { OnOk result (list.new ≡ list.old ++ found self.now.caller.tree.now.nodes step.now n) }
     {
         let Caller { alloc, tree } = self.caller;
-        read_axis(tree, axis, n, reads)?;
-        let nodes = nodes_on_axis(alloc, tree, axis, n)?;
+        read_axis(tree, step.axis, n, reads)?;
+        let count = push_found(alloc, tree, step, n, list)?;
         steps.tick();
-        steps.tick_times(nodes.len());
-        passing(alloc, tree, axis, test, nodes.as_slice())
+        steps.tick_times(count);
+        Ok(())
     }
 }
 
-/// The nodes on the axis; none from a number at which no node lives.
-fn nodes_on_axis(alloc: Global, tree: &Tree, axis: Axis, n: NodeId) -> Result<NodeList, AllocError>
-    ensures nodes { IfOk result (λ nodes. nodes ≡ axis_nodes tree.now.nodes axis n) }
-    ensures live { IfOk result (λ nodes. (m : ℕ) → mem m nodes ≡ true → is_live tree.now.nodes m ≡ true) }
+/// Puts the nodes on the axis from a node that pass the test at the end of the list, and tells how many nodes the axis
+/// has: none from a number at which no node lives.
+fn push_found(
+    alloc: Global,
+    tree: &Tree,
+    step: &TypedStep,
+    n: NodeId,
+    list: &mut NodeList,
+) -> Result<usize, AllocError>
+    ensures pushed { OnOk result (list.new ≡ list.old ++ found tree.now.nodes step.now n) }
+    ensures counted { IfOk result (λ count. count ≡ length (axis_nodes tree.now.nodes (out-TypedStep step.now).axis n)) }
 {
     tree.laws();
     if tree.contains(n) {
-        axis_nodes(alloc, tree, n, axis)
+        push_passing(alloc, tree, step.axis, &step.test, n, list)
     } else {
-        Ok(ItemList::new(alloc))
+        Ok(0)
     }
 }
 
-/// Those of some live nodes that pass the test.
-fn passing(
-    alloc: Global,
-    tree: &Tree,
-    axis: Axis,
-    test: &NodeTest,
-    nodes: &[NodeId],
-) -> Result<NodeList, AllocError>
-    requires { (m : ℕ) → mem m nodes.now ≡ true → is_live tree.now.nodes m ≡ true }
-    ensures { IfOk result (λ found. found ≡ filter (passes tree.now.nodes axis test.now) nodes.now) }
+/// Whether a step has no predicates.
+pub(crate) fn is_plain(step: &TypedStep) -> bool
+    ensures { result ≡ true → (out-TypedStep step.now).predicates.items ≡ [] }
 {
-    let mut found = ItemList::new(alloc);
-    for n in nodes {
-        found.push_if(*n, passes(tree, *n, axis, test))?;
-    }
-    Ok(found)
+    step.predicates.as_slice().is_empty()
 }

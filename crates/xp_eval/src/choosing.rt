@@ -1,18 +1,25 @@
 //! The choice of nodes by the values of predicates (XPath 1.0, section 2.4), and of sets of nodes.
 
-ghost use Rattle.std.specs.Prelude.{◌≡◌, length, flat_map, IfOk};
+ghost use Rattle.std.specs.Prelude.{◌≡◌, [], ◌∷◌, ◌++◌, true, Some, length, flat_map, IfOk, IfSome};
+ghost use Rattle.doc_tree.specs.Table.{Table};
 ghost use Rattle.doc_axes.specs.Sets.{in_order};
 ghost use Rattle.xp_meaning.specs.Conversions.{nodes_of};
-ghost use Rattle.xp_eval.specs.inner.Wants.{wanted_by};
+ghost use Rattle.xp_typed_tree.specs.TypedView.{typed_tree_of, typed_seen};
+ghost use Rattle.xp_outcome.specs.Evaluation.{visit, reading, variable};
+ghost use Rattle.xp_outcome.specs.Slots.{in_slot};
+ghost use Rattle.xp_meaning.specs.declared.context.Context.{Context};
+ghost use Rattle.xp_meaning.specs.declared.want.Want.TheVariants as wants;
 ghost use Rattle.xp_meaning.specs.Paths.{holds_at};
+ghost use Rattle.xp_meaning.specs.Evaluation.{Lets, meaning, meanings, values, slot_value};
+ghost use Rattle.xp_eval.specs.inner.Wants.{wanted_by, lone_let};
 
-use doc_axes::in_document_order;
+use doc_axes::into_document_order;
 use doc_tree::{NodeId, NodeList, Tree};
 use sch_base::ItemList;
 use std::alloc::{AllocError, Global};
 use xp_calls::{nodes_of, wanted};
 use xp_meaning::Want;
-use xp_typed_tree::Function;
+use xp_typed_tree::{Function, TypedExpr};
 use xp_values::{Num, Value, to_truth};
 
 /// Whether a predicate holds at a position: a number where it is the position, another value by its truth.
@@ -45,7 +52,19 @@ pub(crate) fn union_of(alloc: Global, tree: &Tree, values: &[Value]) -> Result<N
     for value in values {
         all.push_all(nodes_of(value))?;
     }
-    in_document_order(alloc, tree, &all)
+    into_document_order(alloc, tree, all)
+}
+
+/// The first list and then the second; the second itself where the first is empty.
+pub(crate) fn joined(list: NodeList, more: NodeList) -> Result<NodeList, AllocError>
+    ensures { IfOk result (λ all. all ≡ list ++ more) }
+{
+    if list.is_empty() {
+        return Ok(more);
+    }
+    let mut all = list;
+    all.push_all(more.as_slice())?;
+    Ok(all)
 }
 
 /// The nodes of a node-set, none of another value, as a list of its own.
@@ -65,5 +84,48 @@ pub(crate) fn wanted_by(function: Option<Function>, place: usize) -> Want
     match function {
         Some(function) => wanted(function, place),
         None => Want::AsItIs,
+    }
+}
+
+/// The slot of a variable that is the lone argument of a function which takes it as it is.
+pub(crate) fn lone_slot(function: Function, operands: &[TypedExpr]) -> Option<u32>
+    ensures { IfSome result (λ slot. (T : Table) (L : Lets) (c : Context) → values T (wanted_by (Some function)) (meanings T L (typed_seen operands.now)) c ≡ lone_let L slot) }
+{
+    match lone_operand(operands) {
+        Some(operand) => {
+            if is_as_it_is(wanted(function, 0)) {
+                slot_of(operand)
+            } else {
+                None
+            }
+        }
+        None => None,
+    }
+}
+
+/// The operand that is alone.
+fn lone_operand(operands: &[TypedExpr]) -> Option<&TypedExpr>
+    ensures { IfSome result (λ operand. operands.now ≡ operand.now ∷ []) }
+{
+    let Some((first, rest)) = operands.split_first() else {
+        return None;
+    };
+    if rest.is_empty() { Some(first) } else { None }
+}
+
+/// Whether an argument stays as it is.
+fn is_as_it_is(want: Want) -> bool
+    ensures { result ≡ true → want ≡ wants.AsItIs }
+{
+    matches!(want, Want::AsItIs)
+}
+
+/// The slot of a variable.
+fn slot_of(expr: &TypedExpr) -> Option<u32>
+    ensures { IfSome result (λ slot. (T : Table) (L : Lets) (c : Context) → meaning T L (typed_tree_of expr.now) c ≡ visit (reading (variable slot) (slot_value (in_slot L slot)))) }
+{
+    match expr {
+        TypedExpr::Variable { slot, .. } => Some(*slot),
+        _ => None,
     }
 }

@@ -16,8 +16,9 @@ ghost use Rattle.xp_meaning.specs.Evaluation.{meaning, meanings, some_true, all_
 ghost use Rattle.xp_eval.specs.Steps.{step_meant};
 ghost use Rattle.xp_eval.specs.inner.Wants.{wanted_by};
 
-use crate::choosing::{holds_at, nodes_in, size_of, union_of, wanted_by};
-use doc_axes::in_document_order;
+use crate::candidates::is_plain;
+use crate::choosing::{holds_at, joined, lone_slot, nodes_in, size_of, union_of, wanted_by};
+use doc_axes::into_document_order;
 use doc_tree::{NodeId, NodeList};
 use sch_base::{ItemList, Text};
 use std::alloc::{AllocError, Global};
@@ -237,9 +238,14 @@ impl Evaluator<'_> {
             (λ vs. applied self.now.caller.tree.now.nodes function at.now vs))
             (shown result) reads.old reads.new steps.old steps.new }
     {
-        let arguments = self.values(operands, Some(function), at, reads, steps)?;
-        self.caller
-            .apply(function, at, arguments.as_slice(), reads, steps)
+        match lone_slot(function, operands) {
+            Some(slot) => self.call_on_let(function, slot, at, reads, steps),
+            None => {
+                let arguments = self.values(operands, Some(function), at, reads, steps)?;
+                self.caller
+                    .apply(function, at, arguments.as_slice(), reads, steps)
+            }
+        }
     }
 
     /// The values of operands, each converted before the next one is evaluated.
@@ -313,12 +319,16 @@ impl Evaluator<'_> {
     ) -> Result<NodeList, EvalError>
         ensures { Ran (step_from self.now.caller.tree.now.nodes (step_meant self.now.caller.tree.now.nodes self.now.lets.now step.now) current nodes.now) (shown result) reads.old reads.new steps.old steps.new }
     {
+        if is_plain(step) {
+            let plain = self.plain_step(step, nodes, reads, steps)?;
+            return Ok(plain);
+        }
         let mut selected = ItemList::new(self.caller.alloc);
         for n in nodes {
             let found = self.step_at(step, current, *n, reads, steps)?;
-            selected.push_all(found.as_slice())?;
+            selected = joined(selected, found)?;
         }
-        let set = in_document_order(self.caller.alloc, self.caller.tree, &selected)?;
+        let set = into_document_order(self.caller.alloc, self.caller.tree, selected)?;
         Ok(set)
     }
 
@@ -334,7 +344,7 @@ impl Evaluator<'_> {
     ) -> Result<NodeList, EvalError>
         ensures { Ran (step_at self.now.caller.tree.now.nodes (step_meant self.now.caller.tree.now.nodes self.now.lets.now step.now) current n) (shown result) reads.old reads.new steps.old steps.new }
     {
-        let nodes = self.candidates(step.axis, &step.test, n, reads, steps)?;
+        let nodes = self.candidates(step, n, reads, steps)?;
         self.filter(&step.predicates, current, nodes, reads, steps)
     }
 

@@ -5,6 +5,7 @@ mod calling;
 mod candidates;
 mod choosing;
 mod evaluator;
+mod let_calls;
 mod variables;
 
 pub use calling::{eval, step_at};

@@ -5,8 +5,8 @@ ghost use Rattle.xp_outcome.specs.inner.Settling.{Settled, SettledSome, WithOneM
 
 use std::alloc::{AllocError, Global};
 
-/// The shortest list that is worth freeing of repeats.
-const FEW: usize = 32;
+/// The shortest list that is worth freeing of repeats. Most evaluations read less.
+const FEW: usize = 131_072;
 
 /// A list that is freed of repeats whenever it has doubled. Adding an item costs about the logarithm of the list's length
 /// on average.

@@ -11,6 +11,9 @@ use test_texts::{copy, first_word, number, parts, shown};
 use xp_outcome::{Recorder, Slots};
 use xp_values::{Num, Value, concat, same_value};
 
+/// More than this is not few.
+const FEW: usize = 100_000;
+
 fn main(rt: HostRuntime) -> Result<ExitCode, Fail> {
     let alloc = rt.alloc();
     let mut tables = Tables {
@@ -67,7 +70,7 @@ impl Tables {
             "settle" => self.reads.settle(),
             "clear" => self.reads.clear(),
             "few" => {
-                let few = self.reads.cells().len() < 100 && self.reads.lets().len() < 100;
+                let few = self.reads.cells().len() < FEW && self.reads.lets().len() < FEW;
                 return shown(self.alloc, &few);
             }
             _ => return parts(self.alloc, &(self.reads.cells(), self.reads.lets())),

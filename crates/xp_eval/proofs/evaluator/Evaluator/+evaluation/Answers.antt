@@ -13,7 +13,7 @@ use Rattle.xp_meaning.specs.Functions.{applied}
 use Rattle.xp_meaning.specs.Evaluation.{meaning, meanings}
 use Rattle.xp_eval.specs.Steps.{step_meant}
 use Rattle.xp_eval.specs.inner.Wants.{wanted_by}
-use Rattle.xp_eval.proofs.Loops.{some_true-next, some_true-end, all_true-next, all_true-end, filtered-next, filtered-end, compared-next, compared-end, combined-next, combined-end, path-next, path-end}
+use Rattle.xp_eval.proofs.Loops.{some_true-next, some_true-end, all_true-next, all_true-end, filtered-next, filtered-end, compared-next, compared-end, combined-next, combined-end, path-next, path-end, plain_meant}
 use Rattle.xp_eval.proofs.Runs.{onto_goes, onto_stops, chosen_yes, chosen_no, gather_goes, gather_stops, gather_ends, gather_begins, gather_begins_alone, ran_given_fault, ran_given_ok, placed_is}
 use Rattle.xp_eval.proofs.Views.{view-Or, view-And, view-Compare, view-Arith, view-Negate, view-Union, view-Path, view-Filter, view-Variable, view-Literal, view-Number, view-Call, view-Root, view-Here, view-From}
 use Rattle.xp_eval.proofs.evaluator.Evaluator.+evaluation.Goals as goal
@@ -110,13 +110,18 @@ pub union_value-returns : goal.union_value-returns
 union_value-returns g t c =
     ran_bind _ c.in_ok-sets.ensures (ran_done_at _ _ _ (ap NodeSet (c.in_ok-nodes.ensures ∙ ap (λ vs. in_order c.args.self.now.caller.tree.now.nodes (flat_map nodes_of vs)) c.as_slice.ensures)))
 
-pub call_value-returns-in_err-arguments : goal.call_value-returns-in_err-arguments
-call_value-returns-in_err-arguments g t c =
-    exit_same _ _ c.from_residual.ensures.1 (ran_stop _ _ c.in_err-arguments.ensures)
+pub call_value-returns-in-Some : goal.call_value-returns-in-Some
+call_value-returns-in-Some g t c =
+    let T = c.args.self.now.caller.tree.now.nodes in
+    ran_alike (ap (λ m. bind m (λ vs. applied T c.args.function c.args.at.now vs)) (c.in-Some.ensures T c.args.self.now.lets.now c.args.at.now)) c.call_on_let.ensures
 
-pub call_value-returns : goal.call_value-returns
-call_value-returns g t c =
-    ran_bind _ c.in_ok-arguments.ensures (ran_alike (ap (λ vs. applied c.args.self.now.caller.tree.now.nodes c.args.function c.args.at.now vs) (sym c.as_slice.ensures)) c.apply.ensures)
+pub call_value-returns-in_err-arguments-in-None : goal.call_value-returns-in_err-arguments-in-None
+call_value-returns-in_err-arguments-in-None g t c =
+    exit_same _ _ c.from_residual.ensures.1 (ran_stop _ _ c.in_err-arguments-in-None.ensures)
+
+pub call_value-returns-in_ok-arguments-in-None : goal.call_value-returns-in_ok-arguments-in-None
+call_value-returns-in_ok-arguments-in-None g t c =
+    ran_bind _ c.in_ok-arguments-in-None.ensures (ran_alike (ap (λ vs. applied c.args.self.now.caller.tree.now.nodes c.args.function c.args.at.now vs) (sym c.as_slice.ensures)) c.apply.ensures)
 
 pub values-loop-place-init : goal.values-loop-place-init
 values-loop-place-init g t c =
@@ -154,21 +159,29 @@ pub path_nodes-returns : goal.path_nodes-returns
 path_nodes-returns g t c =
     onto_done (onto_alike (path-end c.args.self.now.caller.tree.now.nodes c.args.self.now.lets.now c.args.path_steps.now c.loop-step.step-index c.args.current c.loop-step.nodes c.loop-step-test.false) c.loop-step.invariant)
 
+pub step_set-returns-in_err-plain : goal.step_set-returns-in_err-plain
+step_set-returns-in_err-plain g t c =
+    exit_memory _ c.from_residual.ensures.1 (ran_alike (plain_meant c.args.self.now.caller.tree.now.nodes c.args.self.now.lets.now c.args.step.now c.args.current c.args.nodes.now (c.is_plain.ensures c.if-is_plain.true)) c.in_err-plain.ensures)
+
+pub step_set-returns-then-is_plain : goal.step_set-returns-then-is_plain
+step_set-returns-then-is_plain g t c =
+    ran_alike (plain_meant c.args.self.now.caller.tree.now.nodes c.args.self.now.lets.now c.args.step.now c.args.current c.args.nodes.now (c.is_plain.ensures c.if-is_plain.true)) c.in_ok-plain.ensures
+
 pub step_set-loop-n-init : goal.step_set-loop-n-init
 step_set-loop-n-init g t c =
     gather_begins (λ (_ : ℕ) (n : ℕ). step_at c.args.self.now.caller.tree.now.nodes (step_meant c.args.self.now.caller.tree.now.nodes c.args.self.now.lets.now c.args.step.now) c.args.current n) (λ (_ : ℕ) (_ : ℕ) (ms : List ℕ). ms) (λ ms. done (in_order c.args.self.now.caller.tree.now.nodes ms)) _ 1 c.args.nodes.now c.new-selected.ensures
 
 pub step_set-returns-in_err-found : goal.step_set-returns-in_err-found
 step_set-returns-in_err-found g t c =
-    exit_same _ _ c.from_residual.ensures.1 (gather_stops (λ (_ : ℕ) (n : ℕ). step_at c.args.self.now.caller.tree.now.nodes (step_meant c.args.self.now.caller.tree.now.nodes c.args.self.now.lets.now c.args.step.now) c.args.current n) (λ (_ : ℕ) (_ : ℕ) (ms : List ℕ). ms) (λ ms. done (in_order c.args.self.now.caller.tree.now.nodes ms)) c.loop-n.selected (c.loop-n.n-index + 1) (drop c.loop-n.n-index c.args.nodes.now) c.n-item.result (drop (c.loop-n.n-index + 1) c.args.nodes.now) (next_item c.args.nodes.now c.loop-n.n-index c.n-item.result c.loop-n-test.true c.n-item.is) _ c.loop-n.invariant c.in_err-found.ensures)
+    exit_same _ _ c.from_residual-in_err-found.ensures.1 (gather_stops (λ (_ : ℕ) (n : ℕ). step_at c.args.self.now.caller.tree.now.nodes (step_meant c.args.self.now.caller.tree.now.nodes c.args.self.now.lets.now c.args.step.now) c.args.current n) (λ (_ : ℕ) (_ : ℕ) (ms : List ℕ). ms) (λ ms. done (in_order c.args.self.now.caller.tree.now.nodes ms)) c.loop-n.selected (c.loop-n.n-index + 1) (drop c.loop-n.n-index c.args.nodes.now) c.n-item.result (drop (c.loop-n.n-index + 1) c.args.nodes.now) (next_item c.args.nodes.now c.loop-n.n-index c.n-item.result c.loop-n-test.true c.n-item.is) _ c.loop-n.invariant c.in_err-found.ensures)
 
-pub step_set-returns-in_err-push_all : goal.step_set-returns-in_err-push_all
-step_set-returns-in_err-push_all g t c =
-    exit_memory _ c.from_residual-in_err-push_all.ensures.1 (onto_late (gather_goes (λ (_ : ℕ) (n : ℕ). step_at c.args.self.now.caller.tree.now.nodes (step_meant c.args.self.now.caller.tree.now.nodes c.args.self.now.lets.now c.args.step.now) c.args.current n) (λ (_ : ℕ) (_ : ℕ) (ms : List ℕ). ms) (λ ms. done (in_order c.args.self.now.caller.tree.now.nodes ms)) c.loop-n.selected (c.loop-n.n-index + 1) (drop c.loop-n.n-index c.args.nodes.now) c.n-item.result (drop (c.loop-n.n-index + 1) c.args.nodes.now) (next_item c.args.nodes.now c.loop-n.n-index c.n-item.result c.loop-n-test.true c.n-item.is) refl c.loop-n.invariant c.in_ok-found.ensures))
+pub step_set-returns-in_err-selected : goal.step_set-returns-in_err-selected
+step_set-returns-in_err-selected g t c =
+    exit_memory _ c.from_residual-in_err-selected.ensures.1 (onto_late (gather_goes (λ (_ : ℕ) (n : ℕ). step_at c.args.self.now.caller.tree.now.nodes (step_meant c.args.self.now.caller.tree.now.nodes c.args.self.now.lets.now c.args.step.now) c.args.current n) (λ (_ : ℕ) (_ : ℕ) (ms : List ℕ). ms) (λ ms. done (in_order c.args.self.now.caller.tree.now.nodes ms)) c.loop-n.selected (c.loop-n.n-index + 1) (drop c.loop-n.n-index c.args.nodes.now) c.n-item.result (drop (c.loop-n.n-index + 1) c.args.nodes.now) (next_item c.args.nodes.now c.loop-n.n-index c.n-item.result c.loop-n-test.true c.n-item.is) refl c.loop-n.invariant c.in_ok-found.ensures))
 
 pub step_set-loop-n-preserved : goal.step_set-loop-n-preserved
 step_set-loop-n-preserved g t c =
-    gather_goes (λ (_ : ℕ) (n : ℕ). step_at c.args.self.now.caller.tree.now.nodes (step_meant c.args.self.now.caller.tree.now.nodes c.args.self.now.lets.now c.args.step.now) c.args.current n) (λ (_ : ℕ) (_ : ℕ) (ms : List ℕ). ms) (λ ms. done (in_order c.args.self.now.caller.tree.now.nodes ms)) c.loop-n.selected (c.loop-n.n-index + 1) (drop c.loop-n.n-index c.args.nodes.now) c.n-item.result (drop (c.loop-n.n-index + 1) c.args.nodes.now) (next_item c.args.nodes.now c.loop-n.n-index c.n-item.result c.loop-n-test.true c.n-item.is) (c.in_ok-push_all.ensures.pushed ∙ ap (λ ms. c.loop-n.selected ++ ms) c.as_slice.ensures) c.loop-n.invariant c.in_ok-found.ensures
+    gather_goes (λ (_ : ℕ) (n : ℕ). step_at c.args.self.now.caller.tree.now.nodes (step_meant c.args.self.now.caller.tree.now.nodes c.args.self.now.lets.now c.args.step.now) c.args.current n) (λ (_ : ℕ) (_ : ℕ) (ms : List ℕ). ms) (λ ms. done (in_order c.args.self.now.caller.tree.now.nodes ms)) c.loop-n.selected (c.loop-n.n-index + 1) (drop c.loop-n.n-index c.args.nodes.now) c.n-item.result (drop (c.loop-n.n-index + 1) c.args.nodes.now) (next_item c.args.nodes.now c.loop-n.n-index c.n-item.result c.loop-n-test.true c.n-item.is) c.in_ok-selected.ensures c.loop-n.invariant c.in_ok-found.ensures
 
 pub step_set-returns-in_err-set : goal.step_set-returns-in_err-set
 step_set-returns-in_err-set g t c =

@@ -1,7 +1,7 @@
 use Rattle.std.proofs.Common.{◌≡◌, true, sym, subst}
 use Rattle.doc_tree.specs.Lists.{mem}
 use Rattle.doc_tree.proofs.ListLemmas.{mem-get}
-use Rattle.xp_eval.proofs.candidates.passing.Goals as goal
+use Rattle.doc_axes.proofs.passing.push_those.Goals as goal
 
 pub passes-requires : goal.passes-requires
 passes-requires c =

@@ -1,0 +1,101 @@
+//! The nodes on an axis that pass a node test (XPath 1.0, sections 2.2 and 2.3).
+
+ghost use Rattle.std.specs.Prelude.{◌≡◌, ◌++◌, ℕ, true, false, filter, length, IfOk, IfSome, OnOk};
+ghost use Rattle.doc_tree.specs.declared.axes.NodeTest.TheVariants as tests;
+ghost use Rattle.doc_tree.specs.Lists.{mem};
+ghost use Rattle.doc_tree.specs.Table.{Table, is_live};
+ghost use Rattle.doc_axes.specs.Axes.{axis_nodes};
+ghost use Rattle.doc_axes.specs.NodeTests.{passes};
+ghost use Rattle.doc_axes.specs.inner.Found.{found_on};
+
+use crate::axes::{axis_nodes, kids_beside, push_axis};
+use crate::laws::axes_by_cells;
+use crate::node_test::passes;
+use crate::siblings::kids_behind;
+use doc_tree::{Axis, NodeId, NodeList, NodeTest, Tree};
+use std::alloc::{AllocError, Global};
+
+/// Puts the nodes on the axis from a live node that pass the test at the end of the list, in the axis's own order, and
+/// tells how many nodes the axis has.
+///
+/// Costs as much as `axis_nodes` and a test for each node. Only the list takes memory where the nodes are kids, attributes
+/// or later siblings, and on most axes where all nodes pass.
+pub fn push_passing(
+    alloc: Global,
+    tree: &Tree,
+    axis: Axis,
+    test: &NodeTest,
+    n: NodeId,
+    list: &mut NodeList,
+) -> Result<usize, AllocError>
+    requires { is_live tree.now.nodes n ≡ true }
+    ensures pushed { OnOk result (list.new ≡ list.old ++ filter (passes tree.now.nodes axis test.now) (axis_nodes tree.now.nodes axis n)) }
+    ensures counted { IfOk result (λ count. count ≡ length (axis_nodes tree.now.nodes axis n)) }
+{
+    tree.laws();
+    if let Some(nodes) = lent_nodes(tree, n, axis) {
+        return push_those(tree, axis, test, nodes, list);
+    }
+    if is_any(test) && !is_turned(axis) {
+        return push_all_on(tree, axis, n, list);
+    }
+    let nodes = axis_nodes(alloc, tree, n, axis)?;
+    push_those(tree, axis, test, nodes.as_slice(), list)
+}
+
+/// The nodes on the axis from a live node, where the tree keeps them as a list.
+fn lent_nodes(tree: &Tree, n: NodeId, axis: Axis) -> Option<&[NodeId]>
+    requires { is_live tree.now.nodes n ≡ true }
+    ensures { IfSome result (λ nodes. nodes.now ≡ axis_nodes tree.now.nodes axis n) }
+{
+    axes_by_cells(tree);
+    match axis {
+        Axis::Attribute => Some(tree.attrs(n)),
+        Axis::Child => Some(tree.kids(n)),
+        Axis::FollowingSibling => Some(kids_behind(kids_beside(tree, n), n)),
+        _ => None,
+    }
+}
+
+/// Whether the test is the one that all nodes pass.
+fn is_any(test: &NodeTest) -> bool
+    ensures { result ≡ true → test.now ≡ tests.Any }
+{
+    matches!(test, NodeTest::Any)
+}
+
+/// Whether `push_axis` finds the nodes of the axis from its end.
+fn is_turned(axis: Axis) -> bool
+    ensures { result ≡ false → (T : Table) (n : ℕ) → found_on T axis n ≡ axis_nodes T axis n }
+{
+    matches!(axis, Axis::Preceding | Axis::PrecedingSibling)
+}
+
+/// Puts all nodes on an axis from a live node at the end of the list, and tells how many they are.
+fn push_all_on(tree: &Tree, axis: Axis, n: NodeId, list: &mut NodeList) -> Result<usize, AllocError>
+    requires { is_live tree.now.nodes n ≡ true }
+    ensures pushed { OnOk result (list.new ≡ list.old ++ found_on tree.now.nodes axis n) }
+    ensures counted { IfOk result (λ count. count ≡ length (found_on tree.now.nodes axis n)) }
+{
+    let before = list.len();
+    push_axis(tree, list, n, axis)?;
+    Ok(list.len() - before)
+}
+
+/// Puts those of some live nodes that pass the test at the end of the list, and tells how many nodes there are.
+fn push_those(
+    tree: &Tree,
+    axis: Axis,
+    test: &NodeTest,
+    nodes: &[NodeId],
+    list: &mut NodeList,
+) -> Result<usize, AllocError>
+    requires { (m : ℕ) → mem m nodes.now ≡ true → is_live tree.now.nodes m ≡ true }
+    ensures pushed { OnOk result (list.new ≡ list.old ++ filter (passes tree.now.nodes axis test.now) nodes.now) }
+    ensures counted { IfOk result (λ count. count ≡ length nodes.now) }
+{
+    for n in nodes {
+        list.push_if(*n, passes(tree, *n, axis, test))?;
+    }
+    Ok(nodes.len())
+}
