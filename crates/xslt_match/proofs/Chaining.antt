@@ -17,7 +17,7 @@ use Rattle.xp_outcome.specs.Recorded.{Recorded}
 use Rattle.xp_outcome.specs.Running.{Stop, Ran}
 use Rattle.xp_outcome.specs.Evaluation.{done, bind}
 use Rattle.xp_outcome.proofs.Outcomes.{bind-done, bind_assoc, bind_alike}
-use Rattle.xp_outcome.proofs.Runs.{next_item, no_item, ran_alike}
+use Rattle.xp_outcome.proofs.Runs.{next_item, no_item}
 use Rattle.xp_values.specs.declared.values.EvalFault.{EvalFault}
 use Rattle.xp_meaning.proofs.Exits.{ran_ticked}
 use Rattle.xp_meaning.specs.Evaluation.{Lets}
@@ -52,7 +52,7 @@ module _ (T : Table) (n : ℕ) where
 
   module _ (L : Lets) where
     -- what is left of the chains where no node stands at a step
-    chains_none : (s : TypedPatternStepTree) (ss : List TypedPatternStepTree) (ms alive : List ℕ) → standing T s ss ms n ≡ [] →
+    pub chains_none : (s : TypedPatternStepTree) (ss : List TypedPatternStepTree) (ms alive : List ℕ) → standing T s ss ms n ≡ [] →
         chains T L n (s ∷ ss) ms alive ≡ chains T L n ss [] []
     chains_none s ss ms alive is =
         ap (λ ks. bind (survivors T L s n ks) (λ left. chains T L n ss ks (filter (λ k. list_any (λ m. leads T s m k) alive) left))) is
@@ -64,7 +64,7 @@ module _ (T : Table) (n : ℕ) where
     chains_elsewhere (s ∷ r ∷ ss) ms alive h = chains_none s (r ∷ ss) ms alive (standing_before s r ss ms h) ∙ chains_elsewhere (r ∷ ss) [] [] h
 
     -- nor is anything tested where no node stands before a step
-    chains_nowhere : (ss : List TypedPatternStepTree) → chains T L n ss [] [] ≡ done false
+    pub chains_nowhere : (ss : List TypedPatternStepTree) → chains T L n ss [] [] ≡ done false
     chains_nowhere [] = refl
     chains_nowhere (s ∷ ss) =
         chains_none s ss [] [] (ap (filter (λ k. reaches T ss (k ∷ []) n)) (filter-none (λ k. list_any (λ m. leads T s m k) []) (order T) (λ k _. refl)))

@@ -1,5 +1,5 @@
 -- What is kept, by key.
-use Rattle.std.proofs.Common.{◌≡◌, ℕ, zero, suc, ◌+◌, ◌-◌, ◌<◌, ◌≤◌, length-drop, arith, Bool, true, false, cond, ◌&&◌, List, [], ◌∷◌, length, drop, map, refl, sym, ◌∙◌, ap, subst, eqb, eqb-true, true≢false, Option, Some, None}
+use Rattle.std.proofs.Common.{◌≡◌, ℕ, zero, suc, ◌+◌, ◌-◌, ◌<◌, ◌≤◌, length-drop, arith, Bool, true, false, cond, ◌&&◌, List, [], ◌∷◌, length, drop, map, refl, sym, ◌∙◌, ap, subst, eqb, eqb-true, true≢false, Some}
 use Rattle.std.specs.Prelude.{slice_get, option_and_then, option_map, IfSome}
 use Rattle.std.specs.List.{AllByRecursion as Each}
 use Rattle.std.specs.Map.{lookup}
@@ -8,7 +8,7 @@ use Rattle.indexmap.specs.IndexMap.{insert_entry}
 use Rattle.doc_tree.specs.Table.{Table}
 use Rattle.xp_typed_tree.specs.declared.pattern.TypedPath.{TypedPath}
 use Rattle.xp_typed_tree.specs.declared.pattern.TypedPatternStep.{TypedPatternStep}
-use Rattle.xp_typed_tree.specs.TypedTree.{TypedPathTree, TypedPatternStepTree}
+use Rattle.xp_typed_tree.specs.TypedTree.{TypedPathTree}
 use Rattle.xp_typed_tree.specs.TypedView.{pattern_step_seen, path_seen}
 use Rattle.xp_meaning.specs.Evaluation.{Lets}
 use Rattle.xslt_match.specs.declared.kept.StepKey.{StepKey}

@@ -2,6 +2,7 @@ pub mod Filters
 pub mod StepsAlong
 pub mod Asking
 pub mod Chaining
+pub mod OneChain
 pub mod JoinedReads
 pub mod Repeating
 pub mod Keeping

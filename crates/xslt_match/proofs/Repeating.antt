@@ -1,5 +1,5 @@
 -- Runs that are repeated from what was kept of them: begun with other reads and at another count.
-use Rattle.std.proofs.Common.{◌≡◌, ℕ, ◌+◌, ◌<◌, ◌≤◌, List, [], ◌∷◌, refl, sym, ◌∙◌, ap, subst, append-nil, zero-add, Bool, Result, Ok, Err, Some, None, Option, arith}
+use Rattle.std.proofs.Common.{◌≡◌, ℕ, ◌+◌, ◌<◌, ◌≤◌, List, [], refl, sym, ◌∙◌, ap, subst, append-nil, zero-add, Bool, Result, Ok, Err, Some, None, Option, arith}
 use Rattle.std.specs.Prelude.{min, IfSome}
 use Rattle.std.specs.Result.{IsErr}
 use Rattle.std.specs.declared.alloc.AllocError.{AllocError}

@@ -324,7 +324,7 @@ module _ (T : Table) (form : WellFormed T) (ord : Ordered T) (up : HasWaysUp T) 
       ∙ (filter-same p r (starts T false n) (λ m h. step_back s ss n m nodes holders typed.0 en eh)
       ∙ filter-narrow r (on_axis T axes.AncestorOrSelf n) (order T) (λ m h. or_comm (mem m (ancestors T n)) (eqb m n) ∙ reach_above (s ∷ ss) m n typed h))
 
-  holder_above : (s : TypedPatternStepTree) (k p : ℕ) → holder T s k ≡ Some p → mem p (above T k) ≡ true
+  pub holder_above : (s : TypedPatternStepTree) (k p : ℕ) → holder T s k ≡ Some p → mem p (above T k) ≡ true
   holder_above s k p h = by (fits T s k) (parent_of T k) refl h
     where
       by : (f : Bool) (o : Option ℕ) → parent_of T k ≡ o → cond f o None ≡ Some p → mem p (above T k) ≡ true

@@ -8,7 +8,6 @@ use Rattle.xp_outcome.specs.Recorded.{nothing_read}
 use Rattle.xp_outcome.specs.Running.{Stop, faulted, Ran}
 use Rattle.xp_values.specs.declared.values.EvalFault.{EvalFault}
 use Rattle.xp_meaning.specs.Evaluation.{Lets}
-use Rattle.xslt_match.specs.declared.kept.Selected.{Selected}
 use Rattle.xslt_match.specs.declared.kept.StepKey.{StepKey}
 use Rattle.xslt_match.specs.declared.kept.KeptStep.{KeptStep}
 use Rattle.xslt_match.specs.declared.kept.KeptSteps.{KeptSteps}

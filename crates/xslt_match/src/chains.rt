@@ -13,6 +13,7 @@ ghost use Rattle.xslt_match.specs.Matching.{path_matches, starts};
 use crate::kept::KeptSteps;
 use crate::leading::{led_to, starts, way_to};
 use crate::matching::Matcher;
+use crate::one_chain::{all_from_parents, has_chain, is_start};
 use crate::testing::{PlacedStep, is_among};
 use doc_axes::passes;
 use doc_tree::{NodeId, Tree};
@@ -48,11 +49,63 @@ impl Matcher<'_> {
             (shown result) reads.old reads.new steps.old steps.new }
         ensures kept { IsKeptFor self.now.evaluator.caller.tree.now.nodes self.now.evaluator.lets.now self.now.pattern.now kept.new }
     {
-        let Caller { alloc, tree } = self.evaluator.caller;
-        let path = at.path;
-        if ends_elsewhere(tree, &path.steps, self.node) {
+        if ends_elsewhere(self.evaluator.caller.tree, &at.path.steps, self.node) {
             return Ok(false);
         }
+        self.chain_matches(at, kept, reads, steps)
+    }
+
+    /// `path_matches` where the last node test lets the node pass: the chain is followed alone where there is one at most.
+    ///
+    /// It stands apart, so that the paths that are refused at once pay for nothing of it.
+    #[inline(never)]
+    fn chain_matches<L: Ledger>(
+        &self,
+        at: &PlacedPath<'_>,
+        kept: &mut KeptSteps,
+        reads: &mut Recorder,
+        steps: &mut Steps<L>,
+    ) -> Result<bool, EvalError>
+        requires lives { is_live self.now.evaluator.caller.tree.now.nodes self.now.node ≡ true }
+        requires placed { slice_get self.now.pattern.now at.now.number ≡ Some (path_seen at.now.path.now) }
+        requires typed { PatternStepsTyped (path_seen at.now.path.now).steps }
+        requires kept { IsKeptFor self.now.evaluator.caller.tree.now.nodes self.now.evaluator.lets.now self.now.pattern.now kept.old }
+        ensures ran { Ran (path_matches self.now.evaluator.caller.tree.now.nodes self.now.evaluator.lets.now self.now.node (path_seen at.now.path.now))
+            (shown result) reads.old reads.new steps.old steps.new }
+        ensures kept { IsKeptFor self.now.evaluator.caller.tree.now.nodes self.now.evaluator.lets.now self.now.pattern.now kept.new }
+    {
+        let path = at.path;
+        let tree = self.evaluator.caller.tree;
+        tree.laws();
+        match path.steps.split_first() {
+            None => Ok(is_start(tree, path.from_root, self.node)),
+            Some((first, later)) if all_from_parents(later) => {
+                if has_chain(tree, path.from_root, first, later, self.node) {
+                    return self.tests(at, kept, reads, steps);
+                }
+                Ok(false)
+            }
+            Some(_) => self.chains_on_way(at, kept, reads, steps),
+        }
+    }
+
+    /// `path_matches` by the way from the root to the node, on which all nodes of chains stand.
+    fn chains_on_way<L: Ledger>(
+        &self,
+        at: &PlacedPath<'_>,
+        kept: &mut KeptSteps,
+        reads: &mut Recorder,
+        steps: &mut Steps<L>,
+    ) -> Result<bool, EvalError>
+        requires lives { is_live self.now.evaluator.caller.tree.now.nodes self.now.node ≡ true }
+        requires placed { slice_get self.now.pattern.now at.now.number ≡ Some (path_seen at.now.path.now) }
+        requires typed { PatternStepsTyped (path_seen at.now.path.now).steps }
+        requires kept { IsKeptFor self.now.evaluator.caller.tree.now.nodes self.now.evaluator.lets.now self.now.pattern.now kept.old }
+        ensures ran { Ran (path_matches self.now.evaluator.caller.tree.now.nodes self.now.evaluator.lets.now self.now.node (path_seen at.now.path.now))
+            (shown result) reads.old reads.new steps.old steps.new }
+        ensures kept { IsKeptFor self.now.evaluator.caller.tree.now.nodes self.now.evaluator.lets.now self.now.pattern.now kept.new }
+    {
+        let Caller { alloc, tree } = self.evaluator.caller;
         let way = way_to(alloc, tree, self.node)?;
         self.chains(at, way.as_slice(), kept, reads, steps)
     }

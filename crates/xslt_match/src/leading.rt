@@ -87,7 +87,7 @@ pub(crate) fn led_to(
 }
 
 /// Whether a step leads to the node from some of the nodes.
-fn is_led_to(tree: &Tree, step: &TypedPatternStep, nodes: &[NodeId], k: NodeId) -> bool
+pub(crate) fn is_led_to(tree: &Tree, step: &TypedPatternStep, nodes: &[NodeId], k: NodeId) -> bool
     requires { is_pattern_axis (pattern_step_seen step.now).axis ≡ true }
     ensures { result ≡ list_any (λ m. leads tree.now.nodes (pattern_step_seen step.now) m k) nodes.now }
 {
@@ -99,7 +99,7 @@ fn is_led_to(tree: &Tree, step: &TypedPatternStep, nodes: &[NodeId], k: NodeId) 
 }
 
 /// The node at which a node is a candidate of the step.
-fn holder(tree: &Tree, step: &TypedPatternStep, k: NodeId) -> Option<NodeId>
+pub(crate) fn holder(tree: &Tree, step: &TypedPatternStep, k: NodeId) -> Option<NodeId>
     ensures { result ≡ holder tree.now.nodes (pattern_step_seen step.now) k }
 {
     tree.laws();

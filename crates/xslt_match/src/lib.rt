@@ -7,6 +7,7 @@ mod kept;
 mod leading;
 mod matching;
 mod nodes;
+mod one_chain;
 mod positional;
 mod testing;
 

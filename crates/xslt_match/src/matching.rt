@@ -25,8 +25,9 @@ use xp_values::EvalError;
 /// predicate, else those of the step at the node's parent.
 ///
 /// Beside what it held, the recorder holds what the tests read; see `Ran` for what stands where memory is wanting. A
-/// path whose last node test refuses the node costs one look and no memory; another costs, beside the tests, for each
-/// two of its steps at most the square of the depth.
+/// path whose last node test refuses the node costs one look and no memory. One in which no step but the first stands after
+/// `//` costs, beside the tests, the square of the number of its steps and no memory, and where it begins by `//` the depth
+/// besides. Another costs, beside the tests, for each two of its steps at most the square of the depth.
 pub fn matches<L: Ledger>(
     alloc: Global,
     tree: &Tree,

@@ -62,7 +62,7 @@ impl Matcher<'_> {
 
     /// Whether a node survives a step's test: by its place among the step's nodes at its parent where a predicate is
     /// positional, else by the predicates at the node alone.
-    fn survives<L: Ledger>(
+    pub(crate) fn survives<L: Ledger>(
         &self,
         at: &PlacedStep<'_>,
         k: NodeId,

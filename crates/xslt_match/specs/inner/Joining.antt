@@ -1,6 +1,6 @@
 -- What was read, together.
 use Rattle.std.specs.Prelude.{ℕ, List, [], ◌∷◌}
-use Rattle.std.specs.FinSet.{union, insert}
+use Rattle.std.specs.FinSet.{union}
 use Rattle.doc_tree.specs.cell.Cell.{Cell}
 use Rattle.xp_outcome.specs.Evaluation.{cell, variable}
 use Rattle.xp_outcome.specs.Recorded.{Recorded, note}

@@ -1,5 +1,5 @@
 -- What a step selects at a node, on the way to what is kept.
-use Rattle.std.specs.Prelude.{◌≡◌, ℕ, Bool, true, false, Result, Ok, Err, Option, Some, List}
+use Rattle.std.specs.Prelude.{◌≡◌, ℕ, Bool, true, false, Result, Ok, Err, Some, List}
 use Rattle.std.specs.declared.alloc.AllocError.{AllocError}
 use Rattle.doc_tree.specs.Lists.{mem}
 use Rattle.xp_typed_tree.specs.TypedTree.{TypedPathTree}

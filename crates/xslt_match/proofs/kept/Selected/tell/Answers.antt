@@ -1,4 +1,4 @@
-use Rattle.std.proofs.Common.{ap, sym, subst, Ok, Err}
+use Rattle.std.proofs.Common.{sym, subst, Ok, Err}
 use Rattle.doc_tree.specs.Lists.{mem}
 use Rattle.xp_outcome.specs.Recorded.{nothing_read}
 use Rattle.xp_outcome.specs.Running.{faulted, no_memory, Ran}

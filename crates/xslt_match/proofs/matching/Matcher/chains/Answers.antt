@@ -1,4 +1,4 @@
-use Rattle.std.proofs.Common.{◌≡◌, ◌-◌, ◌≤◌, length, ap, sym, subst, ◌∙◌, map, eqb-true, arith}
+use Rattle.std.proofs.Common.{◌-◌, length, ap, sym, subst, ◌∙◌, map, eqb-true}
 use Rattle.std.specs.Prelude.{slice_get}
 use Rattle.std.proofs.lemmas.List.{nil_from_length}
 use Rattle.doc_tree.specs.Lists.{mem}
@@ -9,7 +9,7 @@ use Rattle.xp_eval.proofs.Runs.{onto_goes, onto_stops}
 use Rattle.xp_typed_tree.specs.WellTyped.{PatternStepsTyped}
 use Rattle.xslt_match.specs.Matching.{chains}
 use Rattle.xslt_match.proofs.Chaining.{chains-begin, chains-next, chains-empty, alive-next, typed-next}
-use Rattle.xslt_match.proofs.Keeping.{all_left, headed_left, left_next, left_within, numbered}
+use Rattle.xslt_match.proofs.Keeping.{all_left, headed_left, left_next, numbered}
 use Rattle.xslt_match.proofs.matching.Matcher.chains.Goals as goal
 
 pub loop-step-init : goal.loop-step-init

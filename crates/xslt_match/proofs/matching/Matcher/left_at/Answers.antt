@@ -1,8 +1,7 @@
-use Rattle.std.proofs.Common.{ℕ, refl, sym, zero-add}
-use Rattle.xp_outcome.specs.Running.{no_memory}
+use Rattle.std.proofs.Common.{sym, zero-add}
 use Rattle.xp_meaning.specs.Results.{shown}
 use Rattle.xp_meaning.proofs.Exits.{exit_memory}
-use Rattle.xslt_match.specs.Kept.{IsOutcomeAt, told}
+use Rattle.xslt_match.specs.Kept.{told}
 use Rattle.xslt_match.proofs.Repeating.{outcome_kept, outcome_there, ran_counted, ran_later, ran_unread, ran_wanting, visits_known}
 use Rattle.xslt_match.proofs.matching.Matcher.left_at.Goals as goal
 

@@ -1,6 +1,5 @@
 use Rattle.std.proofs.Common.{ap, sym, ◌∙◌, map}
-use Rattle.xp_outcome.proofs.Runs.{ran_alike, ran_done, ran_late}
-use Rattle.xp_meaning.proofs.Exits.{exit_memory}
+use Rattle.xp_outcome.proofs.Runs.{ran_alike, ran_done}
 use Rattle.xp_typed_tree.specs.TypedView.{pattern_step_seen}
 use Rattle.xslt_match.specs.inner.Ends.{ends_elsewhere}
 use Rattle.xslt_match.proofs.Chaining.{chains_elsewhere}
@@ -11,9 +10,3 @@ returns-then-ends_elsewhere-clause-ran g c =
     ran_alike (chains_elsewhere c.args.self.now.evaluator.caller.tree.now.nodes c.args.self.now.node c.args.self.now.evaluator.lets.now _ _ _
     (sym (c.ends_elsewhere.ensures ∙ ap (λ ss. ends_elsewhere c.args.self.now.evaluator.caller.tree.now.nodes (map pattern_step_seen ss) c.args.self.now.node) c.deref.ensures.value) ∙ c.if-ends_elsewhere.true))
     (ran_done _ _ _)
-
-pub returns-in_err-way-clause-ran : goal.returns-in_err-way-clause-ran
-returns-in_err-way-clause-ran g c = exit_memory _ c.from_residual.ensures.1 (ran_late _ _ _)
-
-pub chains-requires-clause-way : goal.chains-requires-clause-way
-chains-requires-clause-way g c = c.as_slice.ensures ∙ c.in_ok-way.ensures
