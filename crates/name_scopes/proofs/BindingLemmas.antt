@@ -206,3 +206,8 @@ drop-next n xs = by n xs ∙ ap (λ k. drop k xs) (let e : suc n ≡ n + 1 = ome
     by zero xs = refl
     by (suc n) [] = refl
     by (suc n) (x ∷ xs) = by n xs
+
+-- where nothing is declared
+pub nothing-declared : (words : List (List ℕ)) (bindings : List Binding) (prefix : List ℕ) → length bindings ≡ 0 → first_declared (map (bound words) (newest_first bindings)) prefix ≡ None
+nothing-declared words [] prefix none = refl
+nothing-declared words (binding ∷ bindings) prefix none = absurd (omega (arith, none))

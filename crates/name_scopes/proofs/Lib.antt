@@ -10,6 +10,7 @@ pub mod BeginLemmas
 pub mod StepLemmas
 pub mod LeafLemmas
 pub mod LoadStart
+pub mod LoadSteps
 pub mod TextBound
 pub mod WholeLemmas
 pub mod Items

@@ -1,10 +1,11 @@
 -- A loader in front of all events.
-use Rattle.std.proofs.Common.{◌≡◌, ℕ, suc, zero, List, [], refl, sym, subst, Global, arith}
+use Rattle.std.proofs.Common.{◌≡◌, ℕ, suc, zero, List, [], refl, sym, subst, arith}
 use Rattle.pyx_core.specs.Nesting.{start}
 use Rattle.doc_tree.specs.Table.{Contents, AllLive, root_alone}
 use Rattle.doc_tree.specs.Scope.{Decl}
 use Rattle.name_scopes.specs.Fragments.{PieceInScope}
 use Rattle.name_scopes.specs.DocFaults.{begin}
+use Rattle.name_scopes.specs.declared.build.Loader.{Loader}
 use Rattle.name_scopes.specs.inner.Build.{Builds, Loads}
 
 root-scoped : (around : List Decl) → PieceInScope around root_alone.nodes
@@ -34,8 +35,8 @@ root-builds around = record {
     all_live zero h = refl
     all_live (suc n) h = absurd (omega arith)
 
-pub loads-none : (alloc : Global) (tree : Contents) (place : ℕ) (scope : List Decl) → tree ≡ root_alone → place ≡ 0 → scope ≡ [] → Loads [] start begin (record { alloc = alloc; tree = tree; place = place; scope = scope })
-loads-none alloc tree place scope is_tree is_place is_scope = record {
-  builds = subst (λ (t : Contents). Builds [] [] start begin t.nodes place) (sym is_tree) (subst (Builds [] [] start begin root_alone.nodes) (sym is_place) (root-builds []));
+pub loads-none : (loader : Loader) → loader.tree ≡ root_alone → loader.place ≡ 0 → loader.scope ≡ [] → Loads [] start begin loader
+loads-none loader is_tree is_place is_scope = record {
+  builds = subst (λ (t : Contents). Builds [] [] start begin t.nodes loader.place) (sym is_tree) (subst (Builds [] [] start begin root_alone.nodes) (sym is_place) (root-builds []));
   scope_is = is_scope;
 }

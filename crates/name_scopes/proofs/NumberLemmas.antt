@@ -1,12 +1,16 @@
 -- Numbers of nodes: live ones, new ones, and their places in lists.
-use Rattle.std.proofs.Common.{◌≡◌, ◌≢◌, ℕ, zero, suc, slice_get, ◌≤◌, true, false, eqb, List, [], ◌∷◌, ◌++◌, length, Option, None, Some, is_some, ◌⊎◌, inl, inr, refl, sym, ap, ◌∙◌, true≢false, arith, eq-eqb, eqb-true}
+use Rattle.std.proofs.Common.{◌≡◌, ◌≢◌, ℕ, zero, suc, slice_get, ◌≤◌, ◌<◌, true, false, eqb, List, [], ◌∷◌, ◌++◌, length, Option, None, Some, is_some, ◌⊎◌, inl, inr, refl, sym, ap, ◌∙◌, true≢false, arith, eq-eqb, eqb-true}
 use Rattle.std.proofs.lemmas.Bool.{or_cases}
 use Rattle.std.proofs.Math.Bool.{or-true}
 use Rattle.std.proofs.lemmas.List.{get_or_past}
+use Rattle.std.proofs.lemmas.Option.{slice_get-get_or}
+use Rattle.std.proofs.lemmas.Slice.Eq.{bytes_eq-Decides}
+use Rattle.std.specs.Str.{bytes_eq}
+use Rattle.doc_tree.specs.Numbering.{Numbered}
 use Rattle.doc_tree.specs.kind.Kind.{Kind}
 use Rattle.doc_tree.specs.Kinds.{holds_kids}
 use Rattle.doc_tree.specs.Lists.{mem, last_or}
-use Rattle.doc_tree.specs.Table.{Table, Facts, Name, Content, entry_at, content_at, content_of, kind_at, kind_of, is_live, numbered}
+use Rattle.doc_tree.specs.Table.{Table, Facts, Name, Content, entry_at, content_at, content_of, kind_at, kind_of, is_live, no_name, numbered}
 
 no-node : (T : Table) (n : ℕ) → length T ≤ n → is_live T n ≡ false
 no-node T n h = ap (λ (node : Option Facts). is_some node) (get_or_past T n None h)
@@ -73,3 +77,20 @@ holder-live T n h = by (entry_at T n) h
     by : (o : Option Facts) → holds_kids (kind_at (content_at o)) ≡ true → is_some o ≡ true
     by None e = absurd (true≢false (sym e))
     by (Some node) e = refl
+
+-- a name in three parts
+abbrev named : List ℕ → List ℕ → List ℕ → Name
+named prefix local uri = record { prefix = prefix; local = local; uri = uri }
+
+-- a name that has its number keeps it
+pub numbered_again : (names : List Name) (id : ℕ) (prefix local uri : List ℕ) → id < length names →
+    true ≡ bytes_eq (numbered names id).prefix prefix → true ≡ bytes_eq (numbered names id).local local → true ≡ bytes_eq (numbered names id).uri uri →
+    Numbered names names (record { prefix = prefix; local = local; uri = uri }) id
+numbered_again names id prefix local uri below same_prefix same_local same_uri =
+    let had : Name = numbered names id in
+    let is_prefix : had.prefix ≡ prefix = (bytes_eq-Decides had.prefix prefix).0 (sym same_prefix) in
+    let is_local : had.local ≡ local = (bytes_eq-Decides had.local local).0 (sym same_local) in
+    let is_uri : had.uri ≡ uri = (bytes_eq-Decides had.uri uri).0 (sym same_uri) in
+    let is : had ≡ named prefix local uri =
+    ap (λ p. named p had.local had.uri) is_prefix ∙ (ap (λ l. named prefix l had.uri) is_local ∙ ap (λ u. named prefix local u) is_uri) in
+    record { given = slice_get-get_or names id no_name below ∙ ap Some is; added = inl refl }

@@ -1,18 +1,19 @@
 -- All events of a document, one by one, and what the whole says.
-use Rattle.std.proofs.Common.{◌≡◌, ℕ, ◌+◌, ◌<◌, ◌≤◌, ◌&&◌, ◌==◌, List, [], ◌∷◌, ◌++◌, length, map, get_or, take, drop, sum_by, Option, None, Some, refl, sym, ap, ap₂, ◌∙◌, subst, arith, append-nil}
+use Rattle.std.proofs.Common.{◌≡◌, ℕ, ◌+◌, ◌≤◌, ◌&&◌, ◌==◌, List, [], ◌∷◌, ◌++◌, map, sum_by, Option, None, Some, refl, sym, ap, ap₂, ◌∙◌, subst, arith, append-nil}
 use Rattle.std.specs.Prelude.{option_map, Ok, Err, if◌then◌else◌}
 use Rattle.std.specs.Option.{option_or}
 use Rattle.std.specs.List.{flat_map}
-use Rattle.std.proofs.lemmas.List.{drop_more, take_more, take_all, drop_all, map-append}
+use Rattle.std.proofs.lemmas.List.{append_assoc, append_cancel_left, map-append}
 use Rattle.std.proofs.lemmas.List.Sums.{sum_by-append, sum_by-cons}
 use Rattle.pyx_core.specs.declared.event.Event.{Event}
 use Rattle.pyx_core.specs.declared.event.Located.{Located}
 use Rattle.pyx_core.specs.declared.fault.PyxFault.{PyxFault}
 use Rattle.pyx_core.specs.declared.mode.Mode.TheVariants.{Document}
 use Rattle.pyx_core.specs.Nesting.{Place, Nest, after, bare, place_after, start, EventsNest, IsEnd}
+use Rattle.pyx_core.specs.Reader.{ReaderState, Reads}
 use Rattle.pyx_core.specs.Reading.{events_of, events_unless, events_before_fault, fault_of}
 use Rattle.doc_tree.specs.limits.TheConstants.{MAX_LIVE_TEXT_BYTES}
-use Rattle.doc_tree.specs.Table.{Table, Contents, content_of}
+use Rattle.doc_tree.specs.Table.{Table, content_of}
 use Rattle.doc_tree.specs.Lines.{Line, closing, closes, last_lines, lines, lines_at}
 use Rattle.doc_tree.specs.Laws.{HasWaysUp, WellFormed}
 use Rattle.doc_tree.specs.Scope.{Decl, scope_at}
@@ -24,20 +25,11 @@ use Rattle.name_scopes.specs.Scoping.{ContentInScope}
 use Rattle.name_scopes.specs.ScopedTree.{Scoped, said_by, unscoped}
 use Rattle.name_scopes.specs.DocFaults.{Standing, Refuses, begin, doc_fault, event_fault, fault_at, first_fault, line_fault, moved}
 use Rattle.name_scopes.specs.inner.Build.{AreOpen, Builds, Comes, IsReady, Loads, event_text}
-use Rattle.name_scopes.specs.inner.Load.{IsBuilt, TakesFound}
-
--- the events so far were taken, and the others may come
-pub record Going (events front back : List Located) (loader : Loader) : Type 0 where
-  pub place : Place
-  pub standing : Standing
-  pub loads : Loads (bare front) place standing loader
-  pub so_far : first_fault begin events ≡ first_fault standing back
-  pub nest : Nest Document place (bare back)
-  pub place_is : place_after Document place (bare back) ≡ place_after Document start (bare events)
-  pub all : sum_by event_text (bare front) + sum_by event_text (bare back) ≤ MAX_LIVE_TEXT_BYTES
+use Rattle.name_scopes.specs.inner.Load.{AreDue, Enter, Going, TakesFound}
 
 pub going-first : (events : List Located) (loader : Loader) → Nest Document start (bare events) → sum_by event_text (bare events) ≤ MAX_LIVE_TEXT_BYTES → Loads [] start begin loader → Going events [] events loader
 going-first events loader nest little loads = record {
+  parts = refl;
   place = start;
   standing = begin;
   loads = loads;
@@ -67,6 +59,7 @@ module _ (events : List Located) (front rest : List Located) (found : Located) (
   pub going-on : (next : Loader) → event_fault going.standing found.event ≡ None → Loads (bare front ++ found.event ∷ []) (after Document going.place found.event) (moved going.standing found.event) next →
       Going events (front ++ found ∷ []) rest next
   going-on next none loads = record {
+    parts = going.parts ∙ sym (append_assoc front (found ∷ []) rest);
     place = after Document going.place found.event;
     standing = moved going.standing found.event;
     loads = subst (λ (l : List Event). Loads l (after Document going.place found.event) (moved going.standing found.event) next) (sym bare-more) loads;
@@ -77,24 +70,91 @@ module _ (events : List Located) (front rest : List Located) (found : Located) (
   }
 
   -- a refused event ends it all
-  pub going-refused : (next : Loader) (error : LoadError) → TakesFound (bare front) going.place going.standing found next (Err error) → IsBuilt events (Err error)
-  going-refused next (Fault fault) faulty = first-is (Some fault) faulty
-  going-refused next Memory free = tt
+  pub going-refused : (next : Loader) (error : LoadError) → TakesFound (bare front) going.place going.standing found next (Err error) → (taken later : List Located) → Enter events taken later next (Err error)
+  going-refused next (Fault fault) faulty taken later = first-is (Some fault) faulty
+  going-refused next Memory free taken later = tt
 
--- along the list of events
+-- some of the events that waited were taken
+pub record Taking (old : ReaderState) (before : Loader) (reader : ReaderState) (loader : Loader) : Type 0 where
+  pub front : List Located
+  pub parts : old.waiting ≡ front ++ reader.waiting
+  pub reads : (fed : List ℕ) (taken : List Located) → Reads old Document fed taken → Reads reader Document fed (taken ++ front)
+  pub goes : (events taken later : List Located) → Going events taken (old.waiting ++ later) before → Going events (taken ++ front) (reader.waiting ++ later) loader
 
-pub front-at : (events : List Located) (i : ℕ) (found : Located) → i < length events → found ≡ get_or events i found → drop i events ≡ found ∷ drop (i + 1) events
-front-at events i found below is = drop_more events i found below ∙ ap (λ (x : Located). x ∷ drop (i + 1) events) (sym is)
+pub taking-first : (reader : ReaderState) (loader : Loader) → Taking reader loader reader loader
+taking-first reader loader = record {
+  front = [];
+  parts = refl;
+  reads = λ fed taken reads. subst (Reads reader Document fed) (sym (append-nil taken)) reads;
+  goes = λ events taken later going. subst (λ (l : List Located). Going events l (reader.waiting ++ later) loader) (sym (append-nil taken)) going;
+}
 
-pub back-at : (events : List Located) (i : ℕ) (found : Located) → i < length events → found ≡ get_or events i found → take (i + 1) events ≡ take i events ++ found ∷ []
-back-at events i found below is = take_more events i found below ∙ ap (λ (x : Located). take i events ++ x ∷ []) (sym is)
+module _ (old : ReaderState) (before : Loader) (reader next : ReaderState) (loader : Loader) (found : Located) (taking : Taking old before reader loader) (is : reader.waiting ≡ found ∷ next.waiting) where
+  -- the next one is faced
+  pub taking-faces : (events taken later : List Located) → Going events taken (old.waiting ++ later) before → Going events (taken ++ taking.front) (found ∷ (next.waiting ++ later)) loader
+  taking-faces events taken later going =
+      subst (λ (l : List Located). Going events (taken ++ taking.front) (l ++ later) loader) is (taking.goes events taken later going)
 
-pub going-all : (events : List Located) (i : ℕ) (loader : Loader) → length events ≤ i → Going events (take i events) (drop i events) loader → IsBuilt events (Ok loader.tree)
-going-all events i loader past going =
-    let front : take i events ≡ events = take_all i events past in
-    let back : drop i events ≡ [] = drop_all i events past in
-    let last : Going events events [] loader = subst (λ (b : List Located). Going events events b loader) back (subst (λ (f : List Located). Going events f (drop i events) loader) front going) in
-    (last.so_far, (last.standing, (loader.place, subst (λ (p : Place). Builds [] (bare events) p last.standing loader.tree.nodes loader.place) last.place_is last.loads.builds)))
+  pub taking-ready : AreDue old.waiting before → IsReady loader found.event
+  taking-ready due = going-ready due.events (due.taken ++ taking.front) (next.waiting ++ due.later) found loader (taking-faces due.events due.taken due.later due.going)
+
+  pub taking-on : (grown : Loader) →
+      ((taken : List Event) (place : Place) (standing : Standing) → Loads taken place standing loader → Comes taken place found.event → TakesFound taken place standing found grown (Ok tt)) →
+      ((fed : List ℕ) (taken : List Located) → Reads reader Document fed taken → Reads next Document fed (taken ++ found ∷ [])) →
+      Taking old before next grown
+  taking-on grown took reads = record {
+    front = taking.front ++ found ∷ [];
+    parts = taking.parts ∙ (ap (λ (l : List Located). taking.front ++ l) is ∙ sym (append_assoc taking.front (found ∷ []) next.waiting));
+    reads = λ fed taken had. subst (Reads next Document fed) (append_assoc taken taking.front (found ∷ [])) (reads fed (taken ++ taking.front) (taking.reads fed taken had));
+    goes = on;
+  }
+    where
+      on : (events taken later : List Located) → Going events taken (old.waiting ++ later) before → Going events (taken ++ (taking.front ++ found ∷ [])) (next.waiting ++ later) grown
+      on events taken later going =
+          let here = taking-faces events taken later going in
+          let done = took (bare (taken ++ taking.front)) here.place here.standing here.loads (going-comes events (taken ++ taking.front) (next.waiting ++ later) found loader here) in
+          subst (λ (l : List Located). Going events l (next.waiting ++ later) grown) (append_assoc taken taking.front (found ∷ []))
+          (going-on events (taken ++ taking.front) (next.waiting ++ later) found loader here grown done.0 done.1)
+
+  pub taking-refused : (grown : Loader) (error : LoadError) →
+      ((taken : List Event) (place : Place) (standing : Standing) → Loads taken place standing loader → Comes taken place found.event → TakesFound taken place standing found grown (Err error)) →
+      (events taken later front : List Located) → Going events taken (old.waiting ++ later) before → Enter events front later grown (Err error)
+  taking-refused grown error took events taken later front going =
+      let here = taking-faces events taken later going in
+      going-refused events (taken ++ taking.front) (next.waiting ++ later) found loader here grown error
+      (took (bare (taken ++ taking.front)) here.place here.standing here.loads (going-comes events (taken ++ taking.front) (next.waiting ++ later) found loader here)) front later
+
+-- all that waited were taken
+pub taking-front : (old : ReaderState) (before : Loader) (reader : ReaderState) (loader : Loader) → (taking : Taking old before reader loader) → reader.waiting ≡ [] → taking.front ≡ old.waiting
+taking-front old before reader loader taking none = sym (taking.parts ∙ (ap (λ (l : List Located). taking.front ++ l) none ∙ append-nil taking.front))
+
+pub taking-all : (old : ReaderState) (before : Loader) (reader : ReaderState) (loader : Loader) → Taking old before reader loader → reader.waiting ≡ [] →
+    (events taken later : List Located) → Going events taken (old.waiting ++ later) before → Going events (taken ++ old.waiting) later loader
+taking-all old before reader loader taking none events taken later going =
+    subst (λ (l : List Located). Going events (taken ++ l) later loader) (taking-front old before reader loader taking none)
+    (subst (λ (l : List Located). Going events (taken ++ taking.front) (l ++ later) loader) none (taking.goes events taken later going))
+
+pub taking-reads : (old : ReaderState) (before : Loader) (reader : ReaderState) (loader : Loader) → Taking old before reader loader → reader.waiting ≡ [] →
+    (fed : List ℕ) (taken : List Located) → Reads old Document fed taken → Reads reader Document fed (taken ++ old.waiting)
+taking-reads old before reader loader taking none fed taken had =
+    subst (λ (l : List Located). Reads reader Document fed (taken ++ l)) (taking-front old before reader loader taking none) (taking.reads fed taken had)
+
+-- no event is left
+pub going-none : (events front later : List Located) (loader : Loader) → Going events front later loader → events ≡ front → later ≡ []
+going-none events front later loader going is = append_cancel_left front later [] (sym going.parts ∙ (is ∙ sym (append-nil front)))
+
+pub going-good : (events later : List Located) (front : List Located) (loader : Loader) → Going events front later loader → events ≡ front → first_fault begin events ≡ None
+going-good events later front loader going is = going.so_far ∙ ap (first_fault going.standing) (going-none events front later loader going is)
+
+pub going-all : (events front later : List Located) (loader : Loader) → Going events front later loader → events ≡ front →
+    (standing : Standing) × Builds [] (bare events) (place_after Document start (bare events)) standing loader.tree.nodes loader.place
+going-all events front later loader going is =
+    let none = going-none events front later loader going is in
+    let place : going.place ≡ place_after Document start (bare events) = sym (ap (λ (l : List Located). place_after Document going.place (bare l)) none) ∙ going.place_is in (
+      going.standing,
+      subst (λ (p : Place). Builds [] (bare events) p going.standing loader.tree.nodes loader.place) place
+          (subst (λ (l : List Located). Builds [] (bare l) going.place going.standing loader.tree.nodes loader.place) (sym is) going.loads.builds),
+    )
 
 -- the whole document
 
@@ -106,9 +166,9 @@ front-nests bytes laws = by (fault_of Document bytes) refl
     by (Some fault) e = laws.so_far Document bytes
 
 -- the answer to a fault of an event, and to one of a line
-pub refused-by : (bytes : List ℕ) (error : LoadError) → IsBuilt (events_before_fault Document bytes) (Err error) → Refuses (doc_fault bytes) error
-refused-by bytes (Fault fault) is = ap (λ (o : Option DocFault). option_or o (option_map line_fault (fault_of Document bytes))) is
-refused-by bytes Memory is = tt
+pub refused-by : (bytes : List ℕ) (taken later : List Located) (loader : Loader) (error : LoadError) → Enter (events_before_fault Document bytes) taken later loader (Err error) → Refuses (doc_fault bytes) error
+refused-by bytes taken later loader (Fault fault) is = ap (λ (o : Option DocFault). option_or o (option_map line_fault (fault_of Document bytes))) is
+refused-by bytes taken later loader Memory is = tt
 
 pub doc-fault-is : (bytes : List ℕ) (o : Option PyxFault) → first_fault begin (events_before_fault Document bytes) ≡ None → fault_of Document bytes ≡ o → doc_fault bytes ≡ option_map line_fault o
 doc-fault-is bytes o none is = ap₂ (λ (a : Option DocFault) (b : Option PyxFault). option_or a (option_map line_fault b)) none is
@@ -134,8 +194,10 @@ whole events place standing T n end ways formed builds = record {
   document = ap₂ (λ (a b : ℕ). (a == 1) && (b == 0)) (builds.tells.top.elements ∙ ap (λ b. if b then 1 else 0) end.begun) builds.tells.top.no_text;
 }
 
-pub loaded : (bytes : List ℕ) (tree : Contents) → EventsNest → fault_of Document bytes ≡ None → HasWaysUp tree.nodes → WellFormed tree.nodes → IsBuilt (events_before_fault Document bytes) (Ok tree) → Scoped (bare (events_of Document bytes)) tree.nodes
-loaded bytes tree laws none ways formed built =
-    let is : events_before_fault Document bytes ≡ events_of Document bytes = ap (events_unless Document bytes) none in
-    let here = subst (λ (events : List Located). IsBuilt events (Ok tree)) is built in
-    whole (bare (events_of Document bytes)) (place_after Document start (bare (events_of Document bytes))) here.1.0 tree.nodes here.1.1.0 (laws.in_all Document bytes none).1 ways formed here.1.1.1
+pub loaded : (bytes : List ℕ) (front later : List Located) (loader : Loader) → EventsNest → fault_of Document bytes ≡ None → HasWaysUp loader.tree.nodes → WellFormed loader.tree.nodes →
+    Going (events_before_fault Document bytes) front later loader → front ≡ events_of Document bytes → Scoped (bare (events_of Document bytes)) loader.tree.nodes
+loaded bytes front later loader laws none ways formed going is =
+    let all : events_before_fault Document bytes ≡ events_of Document bytes = ap (events_unless Document bytes) none in
+    let here = subst (λ (events : List Located). (standing : Standing) × Builds [] (bare events) (place_after Document start (bare events)) standing loader.tree.nodes loader.place) all
+    (going-all (events_before_fault Document bytes) front later loader going (all ∙ sym is)) in
+    whole (bare (events_of Document bytes)) (place_after Document start (bare (events_of Document bytes))) here.0 loader.tree.nodes loader.place (laws.in_all Document bytes none).1 ways formed here.1

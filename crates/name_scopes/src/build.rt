@@ -21,6 +21,7 @@ ghost use Rattle.name_scopes.specs.inner.Build.{AttributesAll, Begins, Comes, De
 use crate::declarations::{declared_prefix, is_plain};
 use crate::fault::{DocKind, EventError};
 use crate::qnames::split;
+use crate::recent_names::RecentNames;
 use crate::scope::Scope;
 use crate::tag::{attribute_namespace, check_tag};
 use doc_tree::{
@@ -36,6 +37,7 @@ pub(crate) struct Loader {
     pub(crate) tree: Tree,
     pub(crate) place: NodeId,
     pub(crate) scope: Scope,
+    pub(crate) recent: RecentNames,
 }
 
 impl Loader {
@@ -51,6 +53,7 @@ impl Loader {
             tree,
             place,
             scope: Scope::new(alloc),
+            recent: RecentNames::new(place),
         })
     }
 
@@ -111,7 +114,14 @@ impl Loader {
         if let Some(kind) = self.check(name, attrs)? {
             return Err(EventError::Kind(kind));
         }
-        match begin(&mut self.tree, self.place, &self.scope, name, attrs) {
+        match begin(
+            &mut self.tree,
+            &mut self.recent,
+            self.place,
+            &self.scope,
+            name,
+            attrs,
+        ) {
             Ok(element) => {
                 self.place = element;
                 Ok(())
@@ -193,6 +203,7 @@ pub(crate) fn append_leaf(
 /// Puts the element of a start tag under a node, with what it declares and its attributes.
 pub(crate) fn begin(
     tree: &mut Tree,
+    recent: &mut RecentNames,
     parent: NodeId,
     scope: &Scope,
     name: &str,
@@ -209,15 +220,16 @@ pub(crate) fn begin(
     ensures deep { IfErr result (IsTooDeep tree.old.nodes parent) }
 {
     tree.laws();
-    let element = append_element(tree, parent, scope, name)?;
+    let element = append_element(tree, recent, parent, scope, name)?;
     append_decls(tree, element, attrs)?;
-    append_attributes(tree, element, scope, attrs)?;
+    append_attributes(tree, recent, element, scope, attrs)?;
     Ok(element)
 }
 
 /// Puts an element under a node.
 fn append_element(
     tree: &mut Tree,
+    recent: &mut RecentNames,
     parent: NodeId,
     scope: &Scope,
     name: &str,
@@ -235,9 +247,12 @@ fn append_element(
         Some(uri) => uri,
         None => unreachable!(),
     };
-    let id = tree.name_id(parts.prefix, parts.local, uri)?;
+    let id = recent.number(tree, parts, uri)?;
     match tree.append_node(parent, NewNode::Element(id)) {
-        Ok(n) => Ok(n),
+        Ok(n) => {
+            recent.note(parts.local, n);
+            Ok(n)
+        }
         Err(AppendError::TooDeep) => Err(EventError::Kind(DocKind::TooDeep)),
         Err(AppendError::Memory) => Err(EventError::Memory),
         Err(AppendError::TooManyNodes) => unreachable!(),
@@ -266,6 +281,7 @@ fn append_decls(tree: &mut Tree, element: NodeId, attrs: &[Attr]) -> Result<(), 
 /// Puts the attributes that declare nothing to an element that holds nothing yet.
 fn append_attributes(
     tree: &mut Tree,
+    recent: &mut RecentNames,
     element: NodeId,
     scope: &Scope,
     attrs: &[Attr],
@@ -284,7 +300,7 @@ fn append_attributes(
     for attr in attrs {
         if is_plain(attr) {
             tree.laws();
-            append_attribute(tree, element, scope, attr)?;
+            append_attribute(tree, recent, element, scope, attr)?;
         }
     }
     Ok(())
@@ -293,6 +309,7 @@ fn append_attributes(
 /// Puts an attribute to an element.
 fn append_attribute(
     tree: &mut Tree,
+    recent: &mut RecentNames,
     element: NodeId,
     scope: &Scope,
     attr: &Attr,
@@ -309,9 +326,12 @@ fn append_attribute(
         Some(uri) => uri,
         None => unreachable!(),
     };
-    let id = tree.name_id(parts.prefix, parts.local, uri)?;
+    let id = recent.number(tree, parts, uri)?;
     match tree.append_node(element, NewNode::Attribute(id, attr.value.as_str())) {
-        Ok(n) => Ok(n),
+        Ok(n) => {
+            recent.note(parts.local, n);
+            Ok(n)
+        }
         Err(AppendError::Memory) => Err(AllocError),
         Err(AppendError::TooManyNodes) => unreachable!(),
         Err(AppendError::TooDeep) => unreachable!(),

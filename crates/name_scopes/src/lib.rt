@@ -10,6 +10,7 @@ mod open_tags;
 mod own_names;
 mod piece;
 mod qnames;
+mod recent_names;
 mod refusal;
 mod refuse;
 mod round_trip;

@@ -1,25 +1,27 @@
 //! From the bytes of a document to its tree.
 
-ghost use Rattle.std.specs.Prelude.{◌≡◌, ◌≤◌, List, None, length, sum_by, IfOk, OnOk, IfErr};
+ghost use Rattle.std.specs.Prelude.{◌≡◌, ◌≢◌, ◌≤◌, ◌<◌, ◌++◌, [], List, ℕ, None, length, IfOk, OnOk, IfErr};
 ghost use Rattle.pyx_core.specs.declared.event.Event.{Event};
+ghost use Rattle.pyx_core.specs.declared.event.Located.{Located};
 ghost use Rattle.pyx_core.specs.declared.mode.Mode.TheVariants.{Document};
-ghost use Rattle.pyx_core.specs.Nesting.{Nest, Place, bare, start};
+ghost use Rattle.pyx_core.specs.Nesting.{Place, bare};
+ghost use Rattle.pyx_core.specs.Reader.{Reads};
 ghost use Rattle.pyx_core.specs.Reading.{events_of};
 ghost use Rattle.name_scopes.specs.ScopedTree.{Scoped};
 ghost use Rattle.name_scopes.specs.DocFaults.{Refuses, Standing, doc_fault};
-ghost use Rattle.name_scopes.specs.inner.Build.{Comes, IsReady, Loads, event_text};
-ghost use Rattle.name_scopes.specs.inner.Load.{IsBuilt, TakesFound};
+ghost use Rattle.name_scopes.specs.inner.Build.{Comes, IsReady, Loads};
+ghost use Rattle.name_scopes.specs.inner.Load.{AreDue, Enter, Going, TakesFound, line_error};
 
 use crate::build::Loader;
 use crate::fault::{DocFault, DocKind, EventError, LoadError};
 use doc_tree::{MAX_LIVE_TEXT_BYTES, Tree};
-use pyx_core::{Located, Mode, events_nest, read_front};
+use pyx_core::{FeedError, Located, Mode, Reader, completed_events_stay, events_nest, faults_stay};
 use std::alloc::Global;
 
 /// Loads a document of at most `MAX_LIVE_TEXT_BYTES` bytes: the tree of its events, with each name in the namespace that the
 /// nearest declaration of its prefix gives (Namespaces in XML 1.0, section 6), or its first fault.
 ///
-/// Costs time linear in the bytes.
+/// Costs time linear in the bytes. Beside the tree it keeps the events of some thousand lines at most.
 pub fn load_tree(alloc: Global, bytes: &[u8]) -> Result<Tree, LoadError>
     requires { length bytes.now ≤ MAX_LIVE_TEXT_BYTES }
     ensures good { OnOk result (doc_fault bytes.now ≡ None) }
@@ -27,34 +29,82 @@ pub fn load_tree(alloc: Global, bytes: &[u8]) -> Result<Tree, LoadError>
     ensures refused { IfErr result (Refuses (doc_fault bytes.now)) }
 {
     events_nest();
-    let front = read_front(alloc, Mode::Document, bytes)?;
-    let tree = build(alloc, front.events.as_slice())?;
-    match front.fault {
-        Some(fault) => Err(LoadError::Fault(DocFault {
-            line: fault.line,
-            kind: DocKind::Pyx(fault.kind),
-        })),
-        None => {
-            tree.laws();
-            Ok(tree)
+    faults_stay();
+    completed_events_stay();
+    let mut loader = Loader::new(alloc)?;
+    let mut reader = Reader::new(alloc, Mode::Document);
+    let mut rest = bytes;
+    while !rest.is_empty() {
+        let (piece, later) = split_piece(rest);
+        let fed = reader.feed(piece);
+        match take_waiting(&mut loader, &mut reader) {
+            Ok(()) => (),
+            Err(error) => return Err(error),
         }
+        match fed {
+            Ok(()) => (),
+            Err(error) => return Err(line_error(error)),
+        }
+        rest = later;
+    }
+    let ended = reader.finish();
+    match take_waiting(&mut loader, &mut reader) {
+        Ok(()) => (),
+        Err(error) => return Err(error),
+    }
+    match ended {
+        Ok(()) => {
+            loader.tree.laws();
+            Ok(loader.tree)
+        }
+        Err(error) => Err(line_error(error)),
     }
 }
 
-/// The tree of events, or the first fault of one.
-fn build(alloc: Global, events: &[Located]) -> Result<Tree, LoadError>
-    requires nest { Nest Document start (bare events.now) }
-    requires little { sum_by event_text (bare events.now) ≤ MAX_LIVE_TEXT_BYTES }
-    ensures { IsBuilt events.now result }
+/// The next piece of a document and what follows it: some thousand lines, which no piece cuts. The events that a piece
+/// completes enter the tree before the next one is read.
+fn split_piece(bytes: &[u8]) -> (&[u8], &[u8])
+    requires { bytes.now ≢ [] }
+    ensures parts { bytes.now ≡ result.0.now ++ result.1.now }
+    ensures shorter { length result.1.now < length bytes.now }
 {
-    let mut loader = Loader::new(alloc)?;
-    for found in events {
-        match take(&mut loader, found) {
+    let least = bytes.len().min(65_536);
+    let end = match bytes[least..].iter().position(|b| *b == b'\n') {
+        Some(more) => least + more + 1,
+        None => bytes.len(),
+    };
+    (&bytes[..end], &bytes[end..])
+}
+
+/// Why a document isn't loaded whose text a reader refuses.
+fn line_error(error: FeedError) -> LoadError
+    ensures { result ≡ line_error error }
+{
+    match error {
+        FeedError::Fault(fault) => LoadError::Fault(DocFault {
+            line: fault.line,
+            kind: DocKind::Pyx(fault.kind),
+        }),
+        FeedError::Memory => LoadError::Memory,
+    }
+}
+
+/// Takes the events that wait, up to the first fault of one.
+fn take_waiting(loader: &mut Loader, reader: &mut Reader) -> Result<(), LoadError>
+    requires { AreDue reader.old.waiting loader.old }
+    ensures entered { (events taken later : List Located) → Going events taken (reader.old.waiting ++ later) loader.old →
+        Enter events (taken ++ reader.old.waiting) later loader.new result }
+    ensures read { OnOk result ((fed : List ℕ) (taken : List Located) → Reads reader.old Document fed taken →
+        Reads reader.new Document fed (taken ++ reader.old.waiting)) }
+    ensures none { OnOk result (reader.new.waiting ≡ []) }
+{
+    while let Some(found) = reader.next_event() {
+        match take(loader, &found) {
             Ok(()) => (),
             Err(error) => return Err(error),
         }
     }
-    Ok(loader.tree)
+    Ok(())
 }
 
 /// Takes an event, whose fault stands in its line.

@@ -55,7 +55,7 @@ fn own_tag_fault(attrs: &[Attr]) -> Option<DocKind>
 }
 
 /// Whether two attributes have one QName.
-fn pair_qnames(attrs: &[Attr]) -> bool
+pub(crate) fn pair_qnames(attrs: &[Attr]) -> bool
     ensures { result ≡ has_pair same_qname attrs.now }
 {
     let mut place = 0usize;

@@ -12,6 +12,7 @@ ghost use Rattle.name_scopes.specs.inner.Piece.{PieceComes, PieceIsReady, PieceL
 
 use crate::build::{Loader, append_leaf, begin, declare};
 use crate::fault::EventError;
+use crate::recent_names::RecentNames;
 use crate::scope::Scope;
 use doc_tree::Tree;
 use pyx_core::{Attr, Event};
@@ -29,6 +30,7 @@ impl Loader {
             tree,
             place,
             scope: around,
+            recent: RecentNames::new(place),
         })
     }
 
@@ -59,7 +61,14 @@ impl Loader {
     {
         self.tree.laws();
         declare(&mut self.scope, attrs)?;
-        match begin(&mut self.tree, self.place, &self.scope, name, attrs) {
+        match begin(
+            &mut self.tree,
+            &mut self.recent,
+            self.place,
+            &self.scope,
+            name,
+            attrs,
+        ) {
             Ok(element) => {
                 self.place = element;
                 Ok(())

@@ -110,6 +110,9 @@ impl Scope {
     fn nearest(&self, prefix: &str) -> Option<&str>
         ensures { option_copied result ≡ first_declared self.now prefix.now }
     {
+        if self.bindings.is_empty() {
+            return None;
+        }
         self.prefixes.laws();
         match self.prefixes.find(prefix) {
             Some(number) => match place_at(&self.latest, number) {

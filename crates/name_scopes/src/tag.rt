@@ -1,6 +1,6 @@
 //! The rules of names that a start tag can break (Namespaces in XML 1.0).
 
-ghost use Rattle.std.specs.Prelude.{◌≡◌, ◌==◌, false, ◌&&◌, is_none, IfOk};
+ghost use Rattle.std.specs.Prelude.{◌≡◌, ◌==◌, [], false, ◌&&◌, ◌||◌, is_none, unwrap_or, IfOk};
 ghost use Rattle.std.specs.Option.{option_copied, option_to_list};
 ghost use Rattle.std.specs.List.{list_any};
 ghost use Rattle.std.specs.Str.{bytes_eq};
@@ -13,11 +13,15 @@ ghost use Rattle.name_scopes.specs.DocFaults.{tag_fault, lacks_prefix, has_pair,
 
 use crate::declarations::{declared_prefix, is_plain};
 use crate::fault::DocKind;
+use crate::own_names::pair_qnames;
 use crate::qnames::split;
 use crate::scope::Scope;
 use doc_tree::{NameId, NameTable, WordTable, is_xml, is_xmlns, xml_namespace};
 use pyx_core::Attr;
 use std::alloc::{AllocError, Global};
+
+/// So many attributes are compared each with each, which takes no memory.
+const FEW: usize = 8;
 
 /// Tests the names of a start tag, whose own declarations are in scope.
 ///
@@ -33,7 +37,7 @@ pub(crate) fn check_tag(
     if is_unknown(scope, name) || lack_prefix(scope, attrs) {
         return Ok(Some(DocKind::NoPrefix));
     }
-    if repeat_qname(alloc, attrs)? || repeat_expanded(alloc, scope, attrs)? {
+    if repeat_name(alloc, scope, attrs)? {
         return Ok(Some(DocKind::SameAttribute));
     }
     if declare_badly(attrs) {
@@ -79,6 +83,66 @@ fn lacks_prefix(scope: &Scope, attr: &Attr) -> bool
     ensures { result ≡ lacks_prefix scope.now attr.now }
 {
     attribute_namespace(scope, split(attr.name.as_str()).prefix).is_none()
+}
+
+/// Whether two attributes have one QName or, declarations left out, one expanded name.
+///
+/// Costs time linear in their names and namespaces, and for a few attributes no memory.
+fn repeat_name(alloc: Global, scope: &Scope, attrs: &[Attr]) -> Result<bool, AllocError>
+    requires { list_any (lacks_prefix scope.now) (plain_attrs attrs.now) ≡ false }
+    ensures { IfOk result (λ repeats. repeats ≡ (has_pair same_qname attrs.now || has_pair (same_expanded scope.now) (plain_attrs attrs.now))) }
+{
+    if attrs.len() <= FEW {
+        return Ok(pair_qnames(attrs) || pair_expanded(scope, attrs));
+    }
+    Ok(repeat_qname(alloc, attrs)? || repeat_expanded(alloc, scope, attrs)?)
+}
+
+/// Whether two attributes, declarations left out, have one expanded name.
+///
+/// Costs a comparison for each two attributes.
+fn pair_expanded(scope: &Scope, attrs: &[Attr]) -> bool
+    ensures { result ≡ has_pair (same_expanded scope.now) (plain_attrs attrs.now) }
+{
+    let mut place = 0usize;
+    while place < attrs.len() {
+        if is_plain(&attrs[place]) && share_expanded(scope, &attrs[place], &attrs[place + 1..]) {
+            return true;
+        }
+        place += 1;
+    }
+    false
+}
+
+/// Whether one of the others, declarations left out, has the expanded name of an attribute.
+fn share_expanded(scope: &Scope, attr: &Attr, others: &[Attr]) -> bool
+    ensures { result ≡ list_any (same_expanded scope.now attr.now) (plain_attrs others.now) }
+{
+    for other in others {
+        if is_plain(other) && same_expanded(scope, attr, other) {
+            return true;
+        }
+    }
+    false
+}
+
+/// Whether two attributes have one expanded name.
+fn same_expanded(scope: &Scope, a: &Attr, b: &Attr) -> bool
+    ensures { result ≡ same_expanded scope.now a.now b.now }
+{
+    let first = split(a.name.as_str());
+    let second = split(b.name.as_str());
+    first.local == second.local && known_uri(scope, first.prefix) == known_uri(scope, second.prefix)
+}
+
+/// The namespace of an attribute's prefix, empty where it isn't in scope.
+fn known_uri<'a>(scope: &'a Scope, prefix: &str) -> &'a str
+    ensures { result.now ≡ unwrap_or (attribute_namespace scope.now prefix.now) [] }
+{
+    match attribute_namespace(scope, prefix) {
+        Some(uri) => uri,
+        None => "",
+    }
 }
 
 /// Whether two attributes have one QName.

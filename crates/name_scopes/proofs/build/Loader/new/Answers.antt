@@ -3,4 +3,4 @@ use Rattle.name_scopes.proofs.LoadStart.{loads-none}
 use Rattle.name_scopes.proofs.build.Loader.new.Goals as goal
 
 pub returns : goal.returns
-returns c = loads-none c.args.alloc c.in_ok-tree.tree c.root-place.result c.new-2.result c.in_ok-tree.ensures c.root-place.ensures c.new-2.ensures
+returns c = loads-none _ c.in_ok-tree.ensures c.root-place.ensures c.new-2.ensures

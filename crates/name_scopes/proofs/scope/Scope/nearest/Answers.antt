@@ -1,8 +1,9 @@
 -- A prefix that is a word has the namespace at the place kept for it; another is not declared.
-use Rattle.std.proofs.Common.{None, Some, sym, ap, ◌∙◌}
+use Rattle.std.proofs.Common.{None, Some, sym, ap, ◌∙◌, arith}
+use Rattle.std.proofs.lemmas.Bool.Decides.{nat_tests}
 use Rattle.doc_tree.specs.Scope.{first_declared}
 use Rattle.name_scopes.specs.inner.Scope.{newest_first}
-use Rattle.name_scopes.proofs.BindingLemmas.{never-declared, kept-declared}
+use Rattle.name_scopes.proofs.BindingLemmas.{never-declared, kept-declared, nothing-declared}
 use Rattle.name_scopes.proofs.scope.Scope.nearest.Goals as goal
 
 pub returns-in-Some-place_at : goal.returns-in-Some-place_at
@@ -21,4 +22,9 @@ returns-in-None-place_at c =
 pub returns-in-None : goal.returns-in-None
 returns-in-None c =
     sym (never-declared c.self.inside.prefixes c.args.prefix.now (newest_first c.self.inside.bindings.items) c.in-None.ensures.absent c.self.invariant.shadow)
+    ∙ ap (λ l. first_declared l c.args.prefix.now) c.self.view_is
+
+pub returns-then-is_empty : goal.returns-then-is_empty
+returns-then-is_empty c =
+    sym (nothing-declared c.self.inside.prefixes c.self.inside.bindings.items c.args.prefix.now (grind (arith, nat_tests)))
     ∙ ap (λ l. first_declared l c.args.prefix.now) c.self.view_is
