@@ -1,5 +1,5 @@
 -- Kinds and ways up, as locations read them.
-use Rattle.std.proofs.Common.{◌≡◌, ◌≢◌, ℕ, ◌<◌, ◌≤◌, Bool, true, false, ◌||◌, List, [], ◌∷◌, ◌++◌, Option, None, Some, slice_index_or, Result, OnOk, refl, ap, sym, subst, ◌∙◌, arith, append_assoc, ⊎_elim}
+use Rattle.std.proofs.Common.{◌≡◌, ◌≢◌, ℕ, ◌+◌, ◌<◌, ◌≤◌, ◌==◌, Bool, true, false, ◌||◌, List, [], ◌∷◌, ◌++◌, Option, None, Some, length, drop, slice_index_or, if◌then◌else◌, Result, OnOk, refl, ap, sym, subst, ◌∙◌, arith, append_assoc, ⊎_elim}
 use Rattle.std.proofs.lemmas.Bool.{false_from_ne_true}
 use Rattle.doc_tree.specs.Lists.{mem}
 use Rattle.doc_tree.specs.kind.Kind.{Kind}
@@ -8,23 +8,29 @@ use Rattle.doc_tree.specs.Kinds.{can_be_kid}
 use Rattle.doc_tree.specs.Table.{Table, kind_of, parent_of, kids_of, attrs_of, is_live}
 use Rattle.doc_tree.specs.Walks.{above, ancestors}
 use Rattle.doc_tree.specs.Laws.{WellFormed, HasWaysUp}
-use Rattle.doc_locations.proofs.PlaceLemmas.{mem-append, mem-last}
+use Rattle.doc_locations.proofs.PlaceLemmas.{mem-append}
 use Rattle.doc_locations.specs.Locations.{has_kind, place_among, place_of, kids_of_parent, kid_step, expanded_step, named_step, step_by, step_of, steps_of}
-use Rattle.doc_locations.specs.inner.Places.{HoldsKids, HoldsPlaces, AreBelow}
+use Rattle.doc_locations.specs.inner.Places.{ArePlaced, HasPlace, HoldsSome}
 
 -- in either list
 mem-either : (n : ℕ) (xs ys : List ℕ) → mem n (xs ++ ys) ≡ true → mem n xs ≡ false → mem n ys ≡ true
 mem-either n xs ys is none = let split : mem n (xs ++ ys) ≡ mem n xs || mem n ys = mem-append n xs ys in cc
 
--- a node of a kind that kids may have stands among its parent's kids, and so its place is in the table
-pub place_is : (T : Table) (places : List ℕ) → WellFormed T → HasWaysUp T → HoldsPlaces T places → (n : ℕ) (kind : Kind) → is_live T n ≡ true → kind_of T n ≡ Some kind → can_be_kid (Some kind) ≡ true → slice_index_or places n 0 ≡ place_of T kind n
-place_is T places formed ways holds n kind live is kid =
+-- a node of a kind that kids may have has a parent, and stands among its kids
+pub listed_kid : (T : Table) → WellFormed T → HasWaysUp T → (n : ℕ) (kind : Kind) → is_live T n ≡ true → kind_of T n ≡ Some kind → can_be_kid (Some kind) ≡ true →
+    (parent : ℕ) × (parent_of T n ≡ Some parent) × (mem n (kids_of T parent) ≡ true)
+listed_kid T formed ways n kind live is kid =
     let no_root : n ≢ 0 = λ (e : n ≡ 0). (let root : Some kind ≡ Some Root = sym is ∙ (ap (kind_of T) e ∙ formed.root_kind) in let bad : can_be_kid (Some kind) ≡ false = ap can_be_kid root in absurd (cc)) in
     let up = ways.has_parent n live no_root in
     let there : mem n (kids_of T up.0) ≡ true = mem-either n (attrs_of T up.0) (kids_of T up.0) (formed.is_listed n up.0 up.1) (false_from_ne_true (mem n (attrs_of T up.0)) (λ (e : mem n (attrs_of T up.0) ≡ true).
     let attribute : Some kind ≡ Some Attribute = sym is ∙ formed.attribute_kind up.0 n e in let bad : can_be_kid (Some kind) ≡ false = ap can_be_kid attribute in absurd (cc))) in
-    holds.kids up.0 (ways.parent_live n up.0 up.1) n kind there is
-    ∙ ap (λ (parent : Option ℕ). place_among (has_kind T kind) n (kids_of_parent T parent)) (sym up.1)
+    (up.0, up.1, there)
+
+-- a place that was counted is the node's
+pub counted_place : (T : Table) (places : List ℕ) → WellFormed T → HasWaysUp T → HoldsSome T places → (n : ℕ) → is_live T n ≡ true → 0 < slice_index_or places n 0 → HasPlace T n (slice_index_or places n 0)
+counted_place T places formed ways some n live there kind is kid =
+    let up = listed_kid T formed ways n kind live is kid in
+    some up.0 n kind up.2 is there ∙ ap (λ (parent : Option ℕ). place_among (has_kind T kind) n (kids_of_parent T parent)) (sym up.1)
 
 -- what was put behind a text is the step of a kid, where the place is that among the siblings of its kind
 pub kid_step_is : {E : Type 0} (result : Result (Unit {0}) E) (T : Table) (n place : ℕ) (kind : Kind) (test old new : List ℕ) → kind_of T n ≡ Some kind → step_by T n (Some kind) ≡ kid_step test (place_of T kind n) →
@@ -49,25 +55,3 @@ no_steps-above T ways n none = ap (steps_of T) (ways.no_ancestors n none)
 pub named_step-in : (local uri : List ℕ) → uri ≢ [] → named_step local uri ≡ expanded_step local uri
 named_step-in local [] some = absurd (some refl)
 named_step-in local (b ∷ uri) some = refl
-
--- one node more is below a number that is greater
-pub below-next : (front : List ℕ) (x numbers more : ℕ) → AreBelow front numbers → numbers ≤ more → x < more → AreBelow (front ++ x ∷ []) more
-below-next front x numbers more below fewer less n there = ⊎_elim (λ (e : mem n front ≡ true). omega (arith, below n e)) (λ (e : n ≡ x). omega arith) (mem-last n x front there)
-
--- the kids of one node more have their places, where those that are no kids of it keep theirs
-pub filled-next : (T : Table) → WellFormed T → (front before after : List ℕ) (x : ℕ) →
-    ((n : ℕ) → mem n front ≡ true → HoldsKids T before n) → HoldsKids T after x →
-    ((n : ℕ) → mem n (kids_of T x) ≡ false → slice_index_or after n 0 ≡ slice_index_or before n 0) →
-    (n : ℕ) → mem n (front ++ x ∷ []) ≡ true → HoldsKids T after n
-filled-next T formed front before after x held placed others n there kid kind below is =
-    by_kid (mem kid (kids_of T x)) refl
-  where
-    by_kid : (b : Bool) → mem kid (kids_of T x) ≡ b → slice_index_or after kid 0 ≡ place_among (has_kind T kind) kid (kids_of T n)
-    by_kid true e =
-        let same : Some n ≡ Some x = sym (formed.kid_parent n kid below) ∙ formed.kid_parent x kid e in
-        let n_is : n ≡ x = cc in
-        placed kid kind e is ∙ ap (λ (m : ℕ). place_among (has_kind T kind) kid (kids_of T m)) (sym n_is)
-    by_kid false e = ⊎_elim
-        (λ (in_front : mem n front ≡ true). others kid e ∙ held n in_front kid kind below is)
-        (λ (n_is : n ≡ x). let bad : mem kid (kids_of T x) ≡ true = rw (← n_is) below in absurd (cc))
-        (mem-last n x front there)

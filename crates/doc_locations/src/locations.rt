@@ -4,9 +4,9 @@ ghost use Rattle.std.specs.Prelude.{◌≡◌, ◌++◌, true, IfOk, OnOk, strin
 ghost use Rattle.doc_tree.specs.Table.{is_live, name_of};
 ghost use Rattle.doc_tree.specs.Walks.{above, order};
 ghost use Rattle.doc_locations.specs.Locations.{location_of, steps_of, step_of, kid_step, attribute_step, named_step, quotes_of};
-ghost use Rattle.doc_locations.specs.inner.Places.{HoldsPlaces};
+ghost use Rattle.doc_locations.specs.inner.Places.{HoldsSome};
 
-use crate::places::places_of;
+use crate::places::{place_of, places_on_ways};
 use doc_tree::{Kind, NodeId, Tree};
 use sch_base::Text;
 use std::alloc::{AllocError, Global};
@@ -15,21 +15,19 @@ use std::marker::Model;
 
 /// The expression that finds the node from the root (ISO/IEC 19757-3, annex on SVRL).
 ///
-/// The time grows with the number of nodes; a `Locator` is for more than one.
+/// The time grows with the depth of the node and the number of siblings on the way up; a `Locator` is for more than one.
 pub fn location(alloc: Global, tree: &Tree, n: NodeId) -> Result<Text, AllocError>
     requires live { is_live tree.now.nodes n ≡ true }
     ensures { IfOk result (λ location. location ≡ location_of tree.now.nodes n) }
 {
-    let nodes = tree.nodes_in_order(alloc)?;
-    let locator = Locator::new(alloc, tree, nodes.as_slice())?;
-    locator.location(alloc, n)
+    location_by(alloc, tree, &[], n)
 }
 
-/// What finds the nodes of a tree one by one: the places of all kids are counted once. Contracts see the nodes' table.
+/// What finds the nodes of a tree one by one: the places of kids are counted once. Contracts see the nodes' table.
 #[derive(Drop)]
 pub struct Locator<'a> {
     tree: &'a Tree,
-    /// The place of each kid among its siblings of its kind, by node number.
+    /// The places of nodes among their siblings of their kind, by node number; 0 for those that were not counted.
     places: Vec<usize>,
 }
 
@@ -38,11 +36,11 @@ impl<'a> Model for Locator<'a> {
 
     ghost Value = { Table };
 
-    ghost use Rattle.doc_locations.specs.inner.Places.{HoldsPlaces};
+    ghost use Rattle.doc_locations.specs.inner.Places.{HoldsSome};
 
     ghost view = { λ l. l.tree.now.nodes };
 
-    ghost invariant = { λ l. HoldsPlaces l.tree.now.nodes l.places.items };
+    ghost invariant = { λ l. HoldsSome l.tree.now.nodes l.places.items };
 }
 
 impl<'a> Locator<'a> {
@@ -51,11 +49,24 @@ impl<'a> Locator<'a> {
         requires { nodes.now ≡ order tree.now.nodes }
         ensures { IfOk result (λ locator. locator ≡ tree.now.nodes) }
     {
-        let places = places_of(alloc, tree, nodes)?;
+        Locator::of_nodes(alloc, tree, nodes)
+    }
+
+    /// A locator of the nodes of the tree, for use with some of them. The time grows with their number and that of the
+    /// siblings on the ways up from them.
+    pub fn of_nodes(
+        alloc: Global,
+        tree: &'a Tree,
+        nodes: &[NodeId],
+    ) -> Result<Locator<'a>, AllocError>
+        ensures { IfOk result (λ locator. locator ≡ tree.now.nodes) }
+    {
+        let places = places_on_ways(alloc, tree, nodes)?;
         Ok(Locator { tree, places })
     }
 
-    /// The expression that finds the node from the root. The time grows with the node's depth.
+    /// The expression that finds the node from the root. The time grows with the depth of one of the nodes that were given,
+    /// and for another one besides with the number of siblings on the way up.
     pub fn location(&self, alloc: Global, n: NodeId) -> Result<Text, AllocError>
         requires live { is_live self.now n ≡ true }
         ensures { IfOk result (λ location. location ≡ location_of self.now n) }
@@ -64,10 +75,10 @@ impl<'a> Locator<'a> {
     }
 }
 
-/// The same, with the places of all kids at hand.
+/// The same, with places that were counted at hand.
 fn location_by(alloc: Global, tree: &Tree, places: &[usize], n: NodeId) -> Result<Text, AllocError>
     requires live { is_live tree.now.nodes n ≡ true }
-    requires places { HoldsPlaces tree.now.nodes places.now }
+    requires places { HoldsSome tree.now.nodes places.now }
     ensures { IfOk result (λ location. location ≡ location_of tree.now.nodes n) }
 {
     if n == tree.root() {
@@ -81,7 +92,7 @@ fn location_by(alloc: Global, tree: &Tree, places: &[usize], n: NodeId) -> Resul
 /// Puts the steps from the root to the node at the end of the text.
 fn push_steps(text: &mut String, tree: &Tree, places: &[usize], n: NodeId) -> Result<(), AllocError>
     requires live { is_live tree.now.nodes n ≡ true }
-    requires places { HoldsPlaces tree.now.nodes places.now }
+    requires places { HoldsSome tree.now.nodes places.now }
     ensures { OnOk result (string_bytes text.new ≡ string_bytes text.old ++ steps_of tree.now.nodes (above tree.now.nodes n)) }
 {
     tree.laws();
@@ -94,18 +105,17 @@ fn push_steps(text: &mut String, tree: &Tree, places: &[usize], n: NodeId) -> Re
 /// Puts the step from the node's parent to the node at the end of the text.
 fn push_step(text: &mut String, tree: &Tree, places: &[usize], n: NodeId) -> Result<(), AllocError>
     requires live { is_live tree.now.nodes n ≡ true }
-    requires places { HoldsPlaces tree.now.nodes places.now }
+    requires places { HoldsSome tree.now.nodes places.now }
     ensures { OnOk result (string_bytes text.new ≡ string_bytes text.old ++ step_of tree.now.nodes n) }
 {
     tree.laws();
-    let place = places[n.index()];
     match tree.kind(n) {
         Kind::Root => Ok(()),
-        Kind::Element => push_kid_step(text, "*", place),
+        Kind::Element => push_kid_step(text, "*", place_of(places, tree, n)),
         Kind::Attribute => push_attribute_step(text, tree, n),
-        Kind::Text => push_kid_step(text, "text()", place),
-        Kind::Comment => push_kid_step(text, "comment()", place),
-        Kind::Pi => push_kid_step(text, "processing-instruction()", place),
+        Kind::Text => push_kid_step(text, "text()", place_of(places, tree, n)),
+        Kind::Comment => push_kid_step(text, "comment()", place_of(places, tree, n)),
+        Kind::Pi => push_kid_step(text, "processing-instruction()", place_of(places, tree, n)),
     }
 }
 

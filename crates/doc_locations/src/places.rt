@@ -1,77 +1,134 @@
-//! The places of all kids among the siblings of their kind, counted once for a tree.
+//! The places of nodes among the siblings of their kind, counted where they are asked for.
 
 ghost use Rattle.std.specs.Prelude.{◌≡◌, ℕ, ◌+◌, ◌<◌, true, false, Some, IfOk, length, slice_index_or, if◌then◌else◌};
 ghost use Rattle.doc_tree.specs.Kinds.{is_kind};
 ghost use Rattle.doc_tree.specs.Lists.{mem, Distinct};
 ghost use Rattle.doc_tree.specs.Table.{is_live};
-ghost use Rattle.doc_tree.specs.Walks.{order};
 ghost use Rattle.doc_tree.specs.kind.Kind.{Kind};
-ghost use Rattle.doc_locations.specs.inner.Places.{count_for, HoldsKids, HoldsPlaces, AreBelow, AreLive, ArePlaced};
+ghost use Rattle.doc_locations.specs.Locations.{has_kind, place_among};
+ghost use Rattle.doc_locations.specs.inner.Places.{count_for, HasPlace, HoldsSome, AreBelow, AreLive, ArePlaced};
 
-use doc_tree::{Kind, NodeId, Tree};
+use doc_tree::{Kind, MAX_NODE_NUMBERS, NodeId, Tree};
 use std::alloc::{AllocError, Global};
 
 /// How many kinds of nodes there are.
 const KINDS: usize = 6;
 
-/// The place of each kid among its siblings of its kind, counted from 1, by node number.
+/// The places of nodes and their siblings, by node number: those of the given nodes and of all above them. A place is
+/// that among the siblings of a kind, counted from 1; 0 stands for those that were not counted.
 ///
-/// The time grows with the number of nodes.
-pub(crate) fn places_of(
+/// The kids of each parent on the ways up are looked at once.
+pub(crate) fn places_on_ways(
     alloc: Global,
     tree: &Tree,
     nodes: &[NodeId],
 ) -> Result<Vec<usize>, AllocError>
-    requires { nodes.now ≡ order tree.now.nodes }
-    ensures { IfOk result (λ places. HoldsPlaces tree.now.nodes places.items) }
+    ensures { IfOk result (λ places. HoldsSome tree.now.nodes places.items) }
 {
-    let mut places = vec![in alloc; 0; numbers_in(tree, nodes)]?;
-    fill_all(places.as_mut_slice(), tree, nodes);
+    let mut places = vec![in alloc; 0; numbers_made(tree)]?;
+    count_ways(places.as_mut_slice(), tree, nodes);
     Ok(places)
 }
 
-/// A number above those of all nodes of the tree.
-fn numbers_in(tree: &Tree, nodes: &[NodeId]) -> usize
-    requires { nodes.now ≡ order tree.now.nodes }
-    ensures { (n : ℕ) → is_live tree.now.nodes n ≡ true → n < result }
+/// How many nodes the tree has numbered.
+fn numbers_made(tree: &Tree) -> usize
+    ensures { result ≡ length tree.now.nodes }
 {
     tree.laws();
-    numbers_of(nodes)
+    (MAX_NODE_NUMBERS - tree.numbers_left()) as usize
 }
 
-/// Writes the places of all kids of the tree.
-fn fill_all(places: &mut [usize], tree: &Tree, nodes: &[NodeId])
-    requires order { nodes.now ≡ order tree.now.nodes }
-    requires room { (n : ℕ) → is_live tree.now.nodes n ≡ true → n < length places.old }
-    ensures { HoldsPlaces tree.now.nodes places.new }
+/// Counts the places on the ways up from the nodes.
+fn count_ways(places: &mut [usize], tree: &Tree, nodes: &[NodeId])
+    requires room { length places.old ≡ length tree.now.nodes }
+    requires some { HoldsSome tree.now.nodes places.old }
+    ensures { HoldsSome tree.now.nodes places.new }
 {
-    tree.laws();
-    fill_places(places, tree, nodes);
-}
-
-/// Writes the places of all kids of the nodes.
-fn fill_places(places: &mut [usize], tree: &Tree, nodes: &[NodeId])
-    requires order { nodes.now ≡ order tree.now.nodes }
-    requires room { AreBelow nodes.now (length places.old) }
-    ensures { (n : ℕ) → mem n nodes.now ≡ true → HoldsKids tree.now.nodes places.new n }
-{
-    tree.laws();
     for n in nodes {
-        count_kids(places, tree, tree.kids(*n));
+        count_way(places, tree, *n);
     }
 }
 
-/// A number above those of all the nodes.
-fn numbers_of(nodes: &[NodeId]) -> usize
-    ensures { AreBelow nodes.now result }
+/// Counts the places on the way up from a node, as far as they are not counted.
+fn count_way(places: &mut [usize], tree: &Tree, n: NodeId)
+    requires room { length places.old ≡ length tree.now.nodes }
+    requires some { HoldsSome tree.now.nodes places.old }
+    ensures { HoldsSome tree.now.nodes places.new }
 {
-    let mut numbers = 0;
-    for n in nodes {
-        if n.index() >= numbers {
-            numbers = n.index() + 1;
+    tree.laws();
+    if place_in(places, n) > 0 {
+        return;
+    }
+    if let Some(parent) = tree.parent(n) {
+        if !matches!(tree.kind_of(n), Some(Kind::Attribute)) {
+            count_kids_of(places, tree, parent);
+        }
+        count_way(places, tree, parent);
+    }
+}
+
+/// Counts the places of a node's kids.
+fn count_kids_of(places: &mut [usize], tree: &Tree, n: NodeId)
+    requires room { length places.old ≡ length tree.now.nodes }
+    requires some { HoldsSome tree.now.nodes places.old }
+    ensures { HoldsSome tree.now.nodes places.new }
+{
+    tree.laws();
+    count_kids(places, tree, tree.kids(n));
+}
+
+/// The place of a node, where it is counted, or else 0.
+fn place_in(places: &[usize], n: NodeId) -> usize
+    ensures { result ≡ slice_index_or places.now n 0 }
+{
+    match places.get(n.index()) {
+        Some(place) => *place,
+        None => 0,
+    }
+}
+
+/// The place of a node among its siblings of its kind: the one that is counted, or else it is counted now.
+pub(crate) fn place_of(places: &[usize], tree: &Tree, n: NodeId) -> usize
+    requires live { is_live tree.now.nodes n ≡ true }
+    requires some { HoldsSome tree.now.nodes places.now }
+    ensures { HasPlace tree.now.nodes n result }
+{
+    tree.laws();
+    let place = place_in(places, n);
+    if place > 0 {
+        return place;
+    }
+    match tree.parent(n) {
+        Some(parent) => place_among(tree, tree.kids(parent), n, tree.kind(n)),
+        None => 0,
+    }
+}
+
+/// How many of the kids are of the kind, up to a node, which is counted too.
+fn place_among(tree: &Tree, kids: &[NodeId], n: NodeId, kind: Kind) -> usize
+    requires { AreLive tree.now.nodes kids.now }
+    ensures { result ≡ place_among (has_kind tree.now.nodes kind) n kids.now }
+{
+    let mut place = 0;
+    for kid in kids {
+        if is_of_kind(tree, *kid, kind) {
+            place += 1;
+        }
+        if *kid == n {
+            return place;
         }
     }
-    numbers
+    place
+}
+
+/// Whether a node is of the kind.
+fn is_of_kind(tree: &Tree, n: NodeId, kind: Kind) -> bool
+    ensures { result ≡ has_kind tree.now.nodes kind n }
+{
+    match tree.kind_of(n) {
+        Some(found) => found == kind,
+        None => false,
+    }
 }
 
 /// Writes the place of each of the kids at its number.

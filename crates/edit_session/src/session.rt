@@ -109,7 +109,8 @@ impl Session {
     /// Does a command of an edit script on the document, and marks the units that it touches as stale.
     ///
     /// A refused command changes nothing, and one that finds no memory leaves the nodes as they were; marking takes none. Costs what
-    /// the edit of the tree costs, and a look at each cell that a unit has read.
+    /// the edit of the tree costs, and a look at what those units read that read a touched cell; at what all read, before the first
+    /// refresh after an edit.
     pub fn apply(&mut self, command: &Command) -> Result<(), ApplyError>
         requires formed { WellFormedCommand command.now }
         ensures within { OnOk result (command_refusal self.old.tree command.now ≡ None) }
@@ -136,8 +137,8 @@ impl Session {
 
     /// Evaluates the stale units, and those that read a let whose outcome has changed; all units, where they were not evaluated yet.
     ///
-    /// Costs the visits of these units, and a look at all of them; the memory grows with the active patterns times the nodes. After
-    /// want of memory all is evaluated anew the next time.
+    /// Costs the visits of these units, and a look at the nodes beside the stale ones; at all where a let has another outcome. The
+    /// memory grows with the active patterns times the nodes. After want of memory all is evaluated anew the next time.
     pub fn refresh<L: Ledger>(&mut self, steps: &mut Steps<L>) -> Result<(), AllocError>
         ensures fresh { OnOk result (self.new ≡ record self.old { past = evaluated_over self.old.tree.nodes }) }
         ensures forgotten { OnErr result (self.new ≡ record self.old { past = None }) }

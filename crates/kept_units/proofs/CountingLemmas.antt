@@ -87,52 +87,52 @@ nothing_kept plan (Some since) unit = by (is_stale plan (Some since) unit)
 
 -- how many lets in force are stale
 lets_counted : (plan : Plan) (T : Table) (since : Option Since) (kept : KeptUnits) → Keeps plan T since kept →
-    count_by (λ slot. is_none (reads_at kept.let_reads.items slot)) (range_with_len 0 (length plan.lets)) ≡ count_by (is_stale plan since) (let_units plan)
+    count_by (λ slot. is_none (reads_at kept.let_reads.entries.items slot)) (range_with_len 0 (length plan.lets)) ≡ count_by (is_stale plan since) (let_units plan)
 lets_counted plan T since kept keeps =
-    sum_alike (λ slot. cond (is_none (reads_at kept.let_reads.items slot)) 1 0) (λ slot. cond (is_stale plan since (in_force slot)) 1 0) 0 (length plan.lets)
+    sum_alike (λ slot. cond (is_none (reads_at kept.let_reads.entries.items slot)) 1 0) (λ slot. cond (is_stale plan since (in_force slot)) 1 0) 0 (length plan.lets)
     (λ slot above below. ap (λ (b : Bool). cond b 1 0)
     (ap is_none (keeps.let_reads slot (omega (arith, below))) ∙ nothing_kept plan since (in_force slot)))
     ∙ sym (sum_map (λ unit. cond (is_stale plan since unit) 1 0) in_force (range_with_len 0 (length plan.lets)))
 
 -- how many live nodes are stale under a pattern
 nodes_counted : (plan : Plan) (T : Table) (since : Option Since) (kept : KeptUnits) (p : ℕ) → Keeps plan T since kept → p < length plan.patterns →
-    count_by (is_stale_node T kept.reads.items (length plan.patterns) p) (range_with_len 0 (length T)) ≡ count_by (is_stale plan since) (node_units T p)
+    count_by (is_stale_node T kept.reads.entries.items (length plan.patterns) p) (range_with_len 0 (length T)) ≡ count_by (is_stale plan since) (node_units T p)
 nodes_counted plan T since kept p keeps active =
-    sum_alike (λ n. cond (is_stale_node T kept.reads.items (length plan.patterns) p n) 1 0) (λ n. cond (is_live T n && is_stale plan since (under p n)) 1 0) 0 (length T)
+    sum_alike (λ n. cond (is_stale_node T kept.reads.entries.items (length plan.patterns) p n) 1 0) (λ n. cond (is_live T n && is_stale plan since (under p n)) 1 0) 0 (length T)
     (λ n above below. ap (λ (b : Bool). cond b 1 0) (by n (is_live T n) refl))
     ∙ sym (count_filter (λ n. is_stale plan since (under p n)) (is_live T) (range_with_len 0 (length T)))
     ∙ sym (sum_map (λ unit. cond (is_stale plan since unit) 1 0) (under p) (live_numbers T))
   where
-    by : (n : ℕ) (b : Bool) → is_live T n ≡ b → (b && is_none (reads_at kept.reads.items (place_of plan p n))) ≡ (b && is_stale plan since (under p n))
+    by : (n : ℕ) (b : Bool) → is_live T n ≡ b → (b && is_none (reads_at kept.reads.entries.items (place_of plan p n))) ≡ (b && is_stale plan since (under p n))
     by n true lives = ap is_none (keeps.reads p n active lives) ∙ nothing_kept plan since (under p n)
     by n false dead = refl
 
 -- the count of all of them
 all_counted : (plan : Plan) (T : Table) (since : Option Since) (kept : KeptUnits) → Keeps plan T since kept →
-    count_by (λ slot. is_none (reads_at kept.let_reads.items slot)) (range_with_len 0 (length plan.lets))
-    + sum_by (λ p. count_by (is_stale_node T kept.reads.items (length plan.patterns) p) (range_with_len 0 (length T))) (range_with_len 0 (length plan.patterns))
+    count_by (λ slot. is_none (reads_at kept.let_reads.entries.items slot)) (range_with_len 0 (length plan.lets))
+    + sum_by (λ p. count_by (is_stale_node T kept.reads.entries.items (length plan.patterns) p) (range_with_len 0 (length T))) (range_with_len 0 (length plan.patterns))
     ≡ length (stale_units plan since T)
 all_counted plan T since kept keeps =
-    ap (λ (s : ℕ). s + sum_by (λ p. count_by (is_stale_node T kept.reads.items (length plan.patterns) p) (range_with_len 0 (length T))) (range_with_len 0 (length plan.patterns)))
+    ap (λ (s : ℕ). s + sum_by (λ p. count_by (is_stale_node T kept.reads.entries.items (length plan.patterns) p) (range_with_len 0 (length T))) (range_with_len 0 (length plan.patterns)))
     (lets_counted plan T since kept keeps)
     ∙ ap (λ (s : ℕ). count_by (is_stale plan since) (let_units plan) + s) (under_all ∙ sym (sum_flat_map (λ unit. cond (is_stale plan since unit) 1 0) (node_units T) (pattern_numbers plan)))
     ∙ sym (sum_by-append (λ unit. cond (is_stale plan since unit) 1 0) (let_units plan) (flat_map (node_units T) (pattern_numbers plan)))
     ∙ sym (length-filter (is_stale plan since) (units_of plan T))
   where
-    under_all : sum_by (λ p. count_by (is_stale_node T kept.reads.items (length plan.patterns) p) (range_with_len 0 (length T))) (range_with_len 0 (length plan.patterns))
+    under_all : sum_by (λ p. count_by (is_stale_node T kept.reads.entries.items (length plan.patterns) p) (range_with_len 0 (length T))) (range_with_len 0 (length plan.patterns))
         ≡ sum_by (λ p. count_by (is_stale plan since) (node_units T p)) (pattern_numbers plan)
-    under_all = sum_alike (λ p. count_by (is_stale_node T kept.reads.items (length plan.patterns) p) (range_with_len 0 (length T)))
+    under_all = sum_alike (λ p. count_by (is_stale_node T kept.reads.entries.items (length plan.patterns) p) (range_with_len 0 (length T)))
         (λ p. count_by (is_stale plan since) (node_units T p)) 0 (length plan.patterns)
         (λ p above below. nodes_counted plan T since kept p keeps (omega (arith, below)))
 
 -- past the last pattern all are counted
 pub count_ends : (plan : Plan) (T : Table) (since : Option Since) (kept : KeptUnits) (lets patterns p count : ℕ) → Keeps plan T since kept →
-    lets ≡ count_by (λ slot. is_none (reads_at kept.let_reads.items slot)) (range_with_len 0 (length plan.lets)) → patterns ≡ length plan.patterns → p ≡ patterns →
-    count ≡ lets + sum_by (λ q. count_by (is_stale_node T kept.reads.items patterns q) (range_with_len 0 (length T))) (range_with_len 0 p) →
+    lets ≡ count_by (λ slot. is_none (reads_at kept.let_reads.entries.items slot)) (range_with_len 0 (length plan.lets)) → patterns ≡ length plan.patterns → p ≡ patterns →
+    count ≡ lets + sum_by (λ q. count_by (is_stale_node T kept.reads.entries.items patterns q) (range_with_len 0 (length T))) (range_with_len 0 p) →
     count ≡ length (stale_units plan since T)
 count_ends plan T since kept lets patterns p count keeps lets_are patterns_are ends so_far =
     so_far
-    ∙ ap (λ (k : ℕ). lets + sum_by (λ q. count_by (is_stale_node T kept.reads.items patterns q) (range_with_len 0 (length T))) (range_with_len 0 k)) ends
-    ∙ ap (λ (k : ℕ). lets + sum_by (λ q. count_by (is_stale_node T kept.reads.items k q) (range_with_len 0 (length T))) (range_with_len 0 k)) patterns_are
-    ∙ ap (λ (k : ℕ). k + sum_by (λ q. count_by (is_stale_node T kept.reads.items (length plan.patterns) q) (range_with_len 0 (length T))) (range_with_len 0 (length plan.patterns))) lets_are
+    ∙ ap (λ (k : ℕ). lets + sum_by (λ q. count_by (is_stale_node T kept.reads.entries.items patterns q) (range_with_len 0 (length T))) (range_with_len 0 k)) ends
+    ∙ ap (λ (k : ℕ). lets + sum_by (λ q. count_by (is_stale_node T kept.reads.entries.items k q) (range_with_len 0 (length T))) (range_with_len 0 k)) patterns_are
+    ∙ ap (λ (k : ℕ). k + sum_by (λ q. count_by (is_stale_node T kept.reads.entries.items (length plan.patterns) q) (range_with_len 0 (length T))) (range_with_len 0 (length plan.patterns))) lets_are
     ∙ all_counted plan T since kept keeps

@@ -1,5 +1,5 @@
 -- What is kept before and after a refresh.
-use Rattle.std.proofs.Common.{◌≡◌, ◌∙◌, ℕ, ◌<◌, ◌≤◌, Bool, true, false, not, ◌||◌, List, ◌++◌, length, Option, None, Some, IfSome, if◌then◌else◌, refl, sym, ap, subst, inl, inr, arith}
+use Rattle.std.proofs.Common.{◌≡◌, ◌∙◌, ℕ, ◌<◌, ◌≤◌, Bool, true, false, not, ◌||◌, List, ◌++◌, length, Option, None, Some, IfSome, is_none, if◌then◌else◌, refl, sym, ap, subst, inl, inr, arith}
 use Rattle.std.proofs.lemmas.Bool.{cases_lt}
 use Rattle.std.proofs.lemmas.List.{get_or_past}
 use Rattle.std.proofs.lemmas.List.Elements.{filter-append}
@@ -19,9 +19,10 @@ use Rattle.edit_costs.specs.Costs.{Raised}
 use Rattle.edit_costs.specs.Dirty.{Since, is_changed, is_touched, units_to_run}
 use Rattle.edit_costs.specs.SameOutcome.{same_outcome}
 use Rattle.edit_costs.specs.Units.{ValidationUnit, in_force, under, let_units, node_units, reads_of, units_of}
+use Rattle.kept_units.specs.declared.kept_reads.KeptReads.{KeptReads}
 use Rattle.kept_units.specs.declared.kept_units.KeptUnits.{KeptUnits}
-use Rattle.kept_units.specs.Keeping.{Keeps, KeepsSince, fresh, kept_reads, place_of, reads_at}
-use Rattle.kept_units.specs.inner.Refreshing.{FlagsBelow, LetsAlone, LetsRefreshed, PairsAlone, PatternKept, PatternKnown, PatternsRefreshed, Reaches, is_run}
+use Rattle.kept_units.specs.Keeping.{IsIndexed, Keeps, KeepsSince, fresh, kept_reads, may_be_stale, place_of, reads_at}
+use Rattle.kept_units.specs.inner.Refreshing.{FlagsBelow, LetsAlone, LetsRefreshed, PairsAlone, PassesNodes, PatternKept, PatternKnown, PatternsRefreshed, Reaches, is_run}
 use Rattle.kept_units.proofs.LetLemmas.{lets_whole}
 use Rattle.kept_units.proofs.ListLemmas.{all_in}
 use Rattle.kept_units.proofs.RaisedLemmas.{raised_then}
@@ -36,6 +37,11 @@ keeps_reached plan T since old new reaches keeps = record {
   let_reads = λ slot below. reaches.let_reads slot ∙ keeps.let_reads slot below;
   reads = λ p n low live. reaches.reads (place_of plan p n) ∙ keeps.reads p n low live;
   known = by_since since keeps.known;
+  let_indexed = reaches.let_indexed keeps.let_indexed;
+  indexed = reaches.indexed keeps.indexed;
+  blocks = omega (arith, ap (λ v. length v.items) reaches.blocks, keeps.blocks);
+  passed = λ p n low live clean.
+      ap is_none (reaches.reads (place_of plan p n)) ∙ keeps.passed p n low live (ap (λ v. may_be_stale v.items n) (sym reaches.blocks) ∙ clean);
 }
   where
     by_since : (o : Option Since) → IfSome o (KeepsSince plan T old) → IfSome o (KeepsSince plan T new)
@@ -58,8 +64,11 @@ pub patterns_kept : (order : LetsStandInOrder) (plan : Plan) (T : Table) (since 
     LetsAlone plan old new → LetsRefreshed plan since T (length plan.lets) old new flags before after → (p : ℕ) → p < length plan.patterns → PatternKept plan since T p new flags
 patterns_kept order plan T since old new flags before after keeps alone lets p low = record {
   lets = lets_whole order plan T new alone.few lets.done;
-  reads = λ n live. ap (λ (entries : List (Option Recorded)). reads_at entries (place_of plan p n)) (ap (λ v. v.items) alone.reads) ∙ keeps.reads p n low live;
+  reads = λ n live. ap (λ (entries : List (Option Recorded)). reads_at entries (place_of plan p n)) (ap (λ (k : KeptReads). k.entries.items) alone.reads) ∙ keeps.reads p n low live;
   known = by_since since keeps.known lets.flags_are;
+  passed = λ n live clean.
+      ap (λ (k : KeptReads). is_none (reads_at k.entries.items (place_of plan p n))) alone.reads
+      ∙ keeps.passed p n low live (ap (λ (k : KeptReads). may_be_stale k.stale_blocks.items n) (sym alone.reads) ∙ clean);
 }
   where
     by_since : (o : Option Since) → IfSome o (KeepsSince plan T old) → IfSome o (FlagsBelow plan T (length plan.lets) flags) → IfSome o (PatternKnown plan T p new flags)
@@ -88,23 +97,28 @@ fresh_pair plan T p n live =
     ∙ fresh_reads plan T (under p n) (note_all nothing_read (reads_of plan T (under p n)))
 
 -- once all is refreshed, what is kept is of the tree
-pub keeps_fresh : (order : LetsStandInOrder) (plan : Plan) (T : Table) (since : Option Since) (old mid new : KeptUnits) (flags : List Bool) (before middle start after : ℕ) → Formed T → Keeps plan T since old →
+pub keeps_fresh : (order : LetsStandInOrder) (plan : Plan) (T : Table) (since : Option Since) (old mid new last : KeptUnits) (flags : List Bool) (before middle start after : ℕ) → Formed T → Keeps plan T since old →
     LetsAlone plan old mid → LetsRefreshed plan since T (length plan.lets) old mid flags before middle → PairsAlone mid new →
-    PatternsRefreshed plan since T (length plan.patterns) mid new start after → Keeps plan T (Some (fresh T)) new
-keeps_fresh order plan T since old mid new flags before middle start after formed keeps alone lets pairs patterns = record {
-  patterns = pairs.patterns ∙ ap (λ (found : OutcomeTable). found.patterns) alone.found ∙ keeps.patterns;
-  few = omega (arith, ap length pairs.lets, alone.few);
-  short = omega (arith, pairs.places, ap (λ v. length v.items) alone.reads, keeps.short);
+    PatternsRefreshed plan since T (length plan.patterns) mid new start after → PassesNodes T new last → Keeps plan T (Some (fresh T)) last
+keeps_fresh order plan T since old mid new last flags before middle start after formed keeps alone lets pairs patterns passes = record {
+  patterns = ap (λ (found : OutcomeTable). found.patterns) passes.found ∙ pairs.patterns ∙ ap (λ (found : OutcomeTable). found.patterns) alone.found ∙ keeps.patterns;
+  few = omega (arith, ap length passes.lets, ap length pairs.lets, alone.few);
+  short = omega (arith, ap (λ v. length v.items) passes.reads.entries, pairs.places, ap (λ (k : KeptReads). length k.entries.items) alone.reads, keeps.short);
   let_reads = λ slot below.
-      ap (λ v. reads_at v.items slot) pairs.let_reads ∙ (lets.done slot below).reads
+      ap (λ (k : KeptReads). reads_at k.entries.items slot) (passes.let_reads ∙ pairs.let_reads) ∙ (lets.done slot below).reads
       ∙ sym (fresh_reads plan T (in_force slot) (note_all nothing_read (reads_of plan T (in_force slot))));
-  reads = λ p n low live. (patterns.done p n low low live).reads ∙ sym (fresh_pair plan T p n live);
+  reads = λ p n low live. ap (λ v. reads_at v.items (place_of plan p n)) passes.reads.entries ∙ (patterns.done p n low low live).reads ∙ sym (fresh_pair plan T p n live);
   known = record {
     formed = formed;
     edits = none;
-    lets = pairs.lets ∙ lets_whole order plan T mid alone.few lets.done;
-    outcomes = λ p n low was live. (patterns.done p n low low live).outcome;
+    lets = passes.lets ∙ pairs.lets ∙ lets_whole order plan T mid alone.few lets.done;
+    outcomes = λ p n low was live. ap (λ (found : OutcomeTable). outcome_at found p n) passes.found ∙ (patterns.done p n low low live).outcome;
   };
+  let_indexed = subst IsIndexed (sym (passes.let_reads ∙ pairs.let_reads)) (alone.indexed keeps.let_indexed);
+  indexed = passes.reads.indexed (pairs.indexed (subst IsIndexed (sym alone.reads) keeps.indexed));
+  blocks = omega (arith, passes.reads.blocks);
+  passed = λ p n low live clean.
+      ap is_none (ap (λ v. reads_at v.items (place_of plan p n)) passes.reads.entries ∙ (patterns.done p n low low live).reads);
 }
 
 -- the units that are run are those of all that are to be

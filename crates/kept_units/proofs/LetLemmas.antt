@@ -51,13 +51,13 @@ let_stays_on : (slot : ℕ) (old mid new : KeptUnits) → LetStays slot old mid 
 let_stays_on slot old mid new first next = record { outcome = next.outcome ∙ first.outcome; reads = next.reads ∙ first.reads }
 
 left_let_stays : (slot : ℕ) (old new : KeptUnits) → new ≡ old → LetStays slot old new
-left_let_stays slot old new same = record { outcome = ap (λ (k : KeptUnits). in_slot k.lets slot) same; reads = ap (λ (k : KeptUnits). reads_at k.let_reads.items slot) same }
+left_let_stays slot old new same = record { outcome = ap (λ (k : KeptUnits). in_slot k.lets slot) same; reads = ap (λ (k : KeptUnits). reads_at k.let_reads.entries.items slot) same }
 
 ran_let_stays : (m : Evaluation EvalFault Value) (l slot : ℕ) (old new : KeptUnits) (flag : Bool) (before after : ℕ) → slot ≢ l → RunsLet m l old new flag before after → LetStays slot old new
 ran_let_stays m l slot old new flag before after differ runs = record {
   outcome = ap (λ (L : Lets). in_slot L slot) runs.lets ∙ others_stay old.lets l slot m.answer differ;
   reads = ap (λ (entries : List (Option Recorded)). reads_at entries slot) runs.let_reads
-      ∙ get_or-set_other old.let_reads.items l slot (Some (note_all nothing_read m.reads)) None differ;
+      ∙ get_or-set_other old.let_reads.entries.items l slot (Some (note_all nothing_read m.reads)) None differ;
 }
 
 module _ (stand : CleanUnitsStand) (need : LetsNeedThoseBefore) (equal : SameOutcomesAreEqual) (order : LetsStandInOrder) (plan : Plan) (T : Table) (sound : IsSound plan) where
@@ -101,14 +101,14 @@ module _ (stand : CleanUnitsStand) (need : LetsNeedThoseBefore) (equal : SameOut
     flag_is : IfSome since (λ s. flag ≡ is_changed plan s.base T (variable l))
     raised : Raised plan T (in_force l ∷ []) before after
 
-  ran_at : (since : Option Since) (l : ℕ) (t : LetInForce) (old mid new : KeptUnits) (flag : Bool) (before after : ℕ) → l < length mid.let_reads.items → slice_get plan.lets l ≡ Some t →
+  ran_at : (since : Option Since) (l : ℕ) (t : LetInForce) (old mid new : KeptUnits) (flag : Bool) (before after : ℕ) → l < length mid.let_reads.entries.items → slice_get plan.lets l ≡ Some t →
       Keeps plan T since old → LetStays l old mid → ((slot : ℕ) → slot < l → in_slot mid.lets slot ≡ in_slot (lets_of plan T) slot) →
       RunsLet (unit_let T mid.lets t.expr) l mid new flag before after → RanAt since l new flag before after
   ran_at since l t old mid new flag before after place there keeps stays earlier runs = record {
     at = record {
       outcome = ap (λ (L : Lets). in_slot L l) runs.lets ∙ put_there mid.lets l m.answer ∙ sym is;
       reads = ap (λ (entries : List (Option Recorded)). reads_at entries l) runs.let_reads
-          ∙ get_or-set_same mid.let_reads.items l (Some (note_all nothing_read m.reads)) None place
+          ∙ get_or-set_same mid.let_reads.entries.items l (Some (note_all nothing_read m.reads)) None place
           ∙ ap (λ (xs : List Read). Some (note_all nothing_read xs)) (sym read);
     };
     flag_is = by_since since keeps;
@@ -167,7 +167,7 @@ module _ (stand : CleanUnitsStand) (need : LetsNeedThoseBefore) (equal : SameOut
             )
       ])
 
-  pub let_on : (since : Option Since) (l : ℕ) (flags : List Bool) (old mid new : KeptUnits) (flag : Bool) (before middle after : ℕ) → l < length plan.lets → l < length mid.let_reads.items →
+  pub let_on : (since : Option Since) (l : ℕ) (flags : List Bool) (old mid new : KeptUnits) (flag : Bool) (before middle after : ℕ) → l < length plan.lets → l < length mid.let_reads.entries.items →
       Keeps plan T since old → LetsRefreshed plan since T l old mid flags before middle → RefreshesLet plan T l flags mid new flag middle after →
       LetsRefreshed plan since T (l + 1) old new (flags ++ flag ∷ []) before after
   let_on since l flags old mid new flag before middle after within place keeps so_far (let_ran tells ran) =
@@ -216,6 +216,7 @@ alone_on plan old mid new first next = record {
   reads = next.reads ∙ first.reads;
   few = next.few;
   let_places = next.let_places ∙ first.let_places;
+  indexed = λ indexed. next.indexed (first.indexed indexed);
 }
 
 -- a let that is run is within the slots
@@ -225,7 +226,8 @@ ran_alone plan m l old new flag before after within few runs = record {
   found = runs.found;
   reads = runs.reads;
   few = omega (arith, ap length runs.lets, within_slots old.lets l m.answer (length plan.lets) within few);
-  let_places = ap length runs.let_reads ∙ length-set old.let_reads.items l (Some (note_all nothing_read m.reads));
+  let_places = ap length runs.let_reads ∙ length-set old.let_reads.entries.items l (Some (note_all nothing_read m.reads));
+  indexed = runs.indexed;
 }
 
 -- all lets are those of the tree

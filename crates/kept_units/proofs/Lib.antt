@@ -5,6 +5,9 @@ pub mod LetLemmas
 pub mod PairLemmas
 pub mod KeepLemmas
 pub mod Sets
+pub mod ReaderLemmas
+pub mod DroppingLemmas
+pub mod TouchedLemmas
 pub mod MarkingLemmas
 pub mod CountingLemmas
 pub mod Searches

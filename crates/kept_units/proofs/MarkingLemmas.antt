@@ -1,12 +1,12 @@
 -- What becomes of kept units where cells are touched.
-use Rattle.std.proofs.Common.{◌≡◌, ◌∙◌, ℕ, ◌<◌, ◌≤◌, Bool, true, false, ◌||◌, not, List, [], ◌∷◌, length, Option, None, Some, IfSome, is_some, if◌then◌else◌, Vec, vec_len, inl, inr, refl, sym, ap, subst, arith}
+use Rattle.std.proofs.Common.{◌≡◌, ◌∙◌, ℕ, ◌/◌, ◌<◌, ◌≤◌, Bool, true, false, ◌||◌, not, List, [], ◌∷◌, length, Option, None, Some, IfSome, is_none, is_some, if◌then◌else◌, inl, inr, refl, sym, ap, subst, arith}
 use Rattle.std.proofs.Math.Bool.{or_assoc}
 use Rattle.std.proofs.Math.Nat.{mul-le-mul_right}
+use Rattle.std.proofs.lemmas.Nat.{div-mul-add}
 use Rattle.std.proofs.lemmas.Bool.{cases_lt, true≢false}
-use Rattle.std.proofs.lemmas.List.{get_or_past, with_items_is}
+use Rattle.std.proofs.lemmas.List.{get_or_past}
 use Rattle.std.specs.FinSet.{from_list, insert, items}
 use Rattle.std.specs.List.{list_any}
-use Rattle.std.specs.Vec.{with_items}
 use Rattle.doc_table.specs.inner.Sound.{Formed}
 use Rattle.doc_tree.specs.cell.Cell.{Cell}
 use Rattle.doc_tree.specs.Table.{Table, is_live}
@@ -18,9 +18,10 @@ use Rattle.sch_compiled.specs.declared.plan.Plan.{Plan}
 use Rattle.sch_compiled.specs.Findings.{OutcomeTable, outcome_at}
 use Rattle.edit_costs.specs.Dirty.{Since, is_new, is_stale, is_touched}
 use Rattle.edit_costs.specs.Units.{ValidationUnit, in_force, under, reads_of}
+use Rattle.kept_units.specs.declared.kept_reads.KeptReads.{KeptReads}
 use Rattle.kept_units.specs.declared.kept_units.KeptUnits.{KeptUnits}
-use Rattle.kept_units.specs.Keeping.{Keeps, KeepsSince, kept_reads, place_of, reads_at, touched_too}
-use Rattle.kept_units.specs.inner.Marking.{Drops, some_touched, untouched}
+use Rattle.kept_units.specs.Keeping.{Keeps, KeepsSince, kept_reads, may_be_stale, place_of, reads_at, touched_too}
+use Rattle.kept_units.specs.inner.Marking.{Drops, Marks, Thinned, entry_stays, entry_dropped, reads_touched, some_touched, untouched}
 use Rattle.kept_units.proofs.Sets.{any-from_list}
 
 -- Sets of cells
@@ -64,12 +65,26 @@ recorded_touched touched rs =
     ∙ any_before touched rs []
     ∙ or_none (list_any (is_touched touched) rs)
 
--- what is written through a slice of a list stands in the list
-pub drops_written : {Z : Type 0} (touched : Cell → Bool) (entries : Vec (Option Recorded) Z) (slice after : List (Option Recorded)) → slice ≡ entries.items → length slice ≡ vec_len entries →
-    Drops touched slice after → Drops touched entries.items (with_items entries after).items
-drops_written touched entries slice after is len drops =
-    subst (λ (xs : List (Option Recorded)). Drops touched entries.items xs) (sym (with_items_is entries after (drops.same_length ∙ len)))
-    (subst (λ (xs : List (Option Recorded)). Drops touched xs after) is drops)
+-- what is dropped, told place by place
+drops_of : (touched : Cell → Bool) (width : ℕ) (old new : KeptReads) → Marks touched width old new → Drops touched old.entries.items new.entries.items
+drops_of touched width old new marks = record {
+  same_length = marks.thins.places;
+  entries = λ place. by new.stale_blocks.items place (reads_at old.entries.items place) (reads_at new.entries.items place) (marks.thins.entries place) (marks.clean place);
+}
+  where
+    by : (blocks : List Bool) (place : ℕ) (before after : Option Recorded) → Thinned touched width place blocks before after → reads_touched touched after ≡ false → after ≡ untouched touched before
+    by blocks place before after (entry_stays same) clean = same ∙ sym (ap (λ (b : Bool). if b then None else before) (ap (reads_touched touched) (sym same) ∙ clean))
+    by blocks place before after (entry_dropped hit gone stale) clean = gone ∙ sym (ap (λ (b : Bool). if b then None else before) hit)
+
+-- what wasn't dropped is kept
+still_kept : (touched : Cell → Bool) (width place : ℕ) (blocks : List Bool) (before after : Option Recorded) → Thinned touched width place blocks before after → 0 < width →
+    may_be_stale blocks (place / width) ≡ false → is_none before ≡ false → is_none after ≡ false
+still_kept touched width place blocks before after (entry_stays same) wide clean had = ap is_none same ∙ had
+still_kept touched width place blocks before after (entry_dropped hit gone stale) wide clean had = absurd (true≢false (sym (stale wide) ∙ clean))
+
+was_false : (a b : Bool) → (a ≡ true → b ≡ true) → b ≡ false → a ≡ false
+was_false true b on clean = absurd (true≢false (sym (on refl) ∙ clean))
+was_false false b on clean = refl
 
 -- One edit more
 
@@ -159,18 +174,43 @@ known_too leave plan T U (Some since) last old new formed edit lets found known 
 }
 
 -- what is kept of units over a tree is kept over the tree that an edit makes, once what it touched is dropped
-pub marked : EditsLeave → (plan : Plan) (T U : Table) (since : Option Since) (held last : Cell → Bool) (old new : KeptUnits) → Formed T → Edit T U last →
-    ((c : Cell) → held c ≡ last c) → new.lets ≡ old.lets → new.found ≡ old.found → Drops held old.let_reads.items new.let_reads.items → Drops held old.reads.items new.reads.items →
+pub marked : EditsLeave → (plan : Plan) (T U : Table) (since : Option Since) (held last : Cell → Bool) (old new : KeptUnits) (width : ℕ) → Formed T → Edit T U last →
+    ((c : Cell) → held c ≡ last c) → new.lets ≡ old.lets → new.found ≡ old.found → width ≡ old.found.patterns → Marks held 1 old.let_reads new.let_reads → Marks held width old.reads new.reads →
     Keeps plan T since old → Keeps plan U (touched_too since last) new
-marked leave plan T U since held last old new formed edit same lets found let_drops drops keeps = record {
+marked leave plan T U since held last old new width formed edit same lets found width_is let_marks marks keeps = record {
   patterns = ap (λ (table : OutcomeTable). table.patterns) found ∙ keeps.patterns;
   few = subst (λ (n : ℕ). n ≤ length plan.lets) (sym (ap length lets)) keeps.few;
   short = let rows = mul-le-mul_right (length plan.patterns) grown in omega (arith, rows, drops.same_length, keeps.short);
   let_reads = λ slot in_plan. let_drops.entries slot ∙ ap (untouched held) (keeps.let_reads slot in_plan) ∙ to_last (in_force slot);
   reads = λ p n active lives. drops.entries (place_of plan p n) ∙ by_life p n active lives (is_live T n) refl;
   known = known_too leave plan T U since last old new formed edit lets found keeps.known;
+  let_indexed = let_marks.indexed;
+  indexed = marks.indexed;
+  blocks = omega (arith, marks.thins.blocks, keeps.blocks, grown);
+  passed = λ p n active lives clean. by_passed p n active lives clean (is_live T n) refl;
 }
   where
+    drops : Drops held old.reads.entries.items new.reads.entries.items
+    drops = drops_of held width old.reads new.reads marks
+
+    let_drops : Drops held old.let_reads.entries.items new.let_reads.entries.items
+    let_drops = drops_of held 1 old.let_reads new.let_reads let_marks
+
+    wide : width ≡ length plan.patterns
+    wide = width_is ∙ keeps.patterns
+
+    by_passed : (p n : ℕ) → p < length plan.patterns → is_live U n ≡ true → may_be_stale new.reads.stale_blocks.items n ≡ false → (b : Bool) → is_live T n ≡ b →
+        is_none (reads_at new.reads.entries.items (place_of plan p n)) ≡ false
+    by_passed p n active lives clean true lived =
+        let row : place_of plan p n / width ≡ n = ap (λ (w : ℕ). place_of plan p n / w) wide ∙ div-mul-add n (length plan.patterns) p active in
+        still_kept held width (place_of plan p n) new.reads.stale_blocks.items (reads_at old.reads.entries.items (place_of plan p n)) (reads_at new.reads.entries.items (place_of plan p n))
+        (marks.thins.entries (place_of plan p n)) (omega (arith, wide, active)) (ap (may_be_stale new.reads.stale_blocks.items) row ∙ clean)
+        (keeps.passed p n active lived (was_false (may_be_stale old.reads.stale_blocks.items n) (may_be_stale new.reads.stale_blocks.items n) (marks.thins.still n) clean))
+    by_passed p n active lives clean false dead =
+        let past = new_past leave T U last n formed edit lives dead in
+        let behind : length old.reads.stale_blocks.items ≤ n / 64 = omega (arith, past, keeps.blocks) in
+        absurd (true≢false (sym (marks.thins.still n (get_or_past old.reads.stale_blocks.items (n / 64) true behind)) ∙ clean))
+
     grown : length T ≤ length U
     grown = (leave T U (λ c. false || last c) formed (one_edit T U last edit)).agree.numbers
 
@@ -178,10 +218,10 @@ marked leave plan T U since held last old new formed edit same lets found let_dr
     to_last unit = ap (λ (touched : Cell → Bool). untouched touched (kept_reads plan since unit)) (λ i c. same c i) ∙ kept_too plan since last unit
 
     by_life : (p n : ℕ) → p < length plan.patterns → is_live U n ≡ true → (b : Bool) → is_live T n ≡ b →
-        untouched held (reads_at old.reads.items (place_of plan p n)) ≡ kept_reads plan (touched_too since last) (under p n)
+        untouched held (reads_at old.reads.entries.items (place_of plan p n)) ≡ kept_reads plan (touched_too since last) (under p n)
     by_life p n active lives true lived = ap (untouched held) (keeps.reads p n active lived) ∙ to_last (under p n)
     by_life p n active lives false dead =
         let past = new_past leave T U last n formed edit lives dead in
         let rows = mul-le-mul_right (length plan.patterns) past in
-        ap (untouched held) (get_or_past old.reads.items (place_of plan p n) None (omega (arith, rows, keeps.short)))
+        ap (untouched held) (get_or_past old.reads.entries.items (place_of plan p n) None (omega (arith, rows, keeps.short)))
         ∙ sym (new_unit leave plan T since last old p n keeps.known past)

@@ -1,5 +1,5 @@
 -- The nodes under patterns are refreshed one after another.
-use Rattle.std.proofs.Common.{◌≡◌, ◌≢◌, ◌∙◌, inl, inr, ◌⊎◌, ℕ, ◌+◌, ◌<◌, ◌≤◌, Bool, true, false, is_some, List, [], ◌∷◌, ◌++◌, length, map, Option, None, Some, IfSome, refl, sym, ap, subst, arith}
+use Rattle.std.proofs.Common.{◌≡◌, ◌≢◌, ◌∙◌, inl, inr, ◌⊎◌, ℕ, zero, suc, ◌+◌, ◌-◌, ◌<◌, ◌≤◌, Bool, true, false, is_none, is_some, List, [], ◌∷◌, ◌++◌, length, map, Option, None, Some, IfSome, refl, sym, ap, subst, arith, add-zero}
 use Rattle.std.proofs.lemmas.Bool.{cases_eq, cases_lt, false≢true, not-false}
 use Rattle.std.proofs.lemmas.List.{get_or-set_other, get_or-set_same, get_or_past, length-set, map-append}
 use Rattle.std.proofs.lemmas.Nat.{mul-add-lt}
@@ -24,8 +24,8 @@ use Rattle.edit_costs.specs.Dirty.{Since, is_changed, is_new, is_touched}
 use Rattle.edit_costs.specs.Laws.{CleanUnitsStand}
 use Rattle.edit_costs.specs.Units.{ValidationUnit, under, node_units, reads_of}
 use Rattle.kept_units.specs.declared.kept_units.KeptUnits.{KeptUnits}
-use Rattle.kept_units.specs.Keeping.{kept_reads, place_of, reads_at}
-use Rattle.kept_units.specs.inner.Refreshing.{IsReady, NodesRefreshed, PairAt, PairStays, PairsAlone, PatternKept, PatternKnown, PatternsRefreshed, RefreshesPair, RunsPair, TellsRun, flag_at, is_run, pair_dead, pair_left, pair_ran}
+use Rattle.kept_units.specs.Keeping.{IsIndexed, kept_reads, may_be_stale, place_of, reads_at}
+use Rattle.kept_units.specs.inner.Refreshing.{GoesOn, goes_one, goes_past, NoneChanged, IsReady, NodesRefreshed, PairAt, PairStays, PairsAlone, PatternKept, PatternKnown, PatternsRefreshed, RefreshesPair, RunsPair, TellsRun, flag_at, is_run, pair_dead, pair_left, pair_ran}
 use Rattle.kept_units.proofs.ListLemmas.{flat_last, last_in, last_out, number_more}
 use Rattle.kept_units.proofs.RaisedLemmas.{raised_in, raised_none, raised_out, raised_pair, raised_then}
 use Rattle.kept_units.proofs.ReadLemmas.{Told, kept_where_clean, run_told}
@@ -50,7 +50,7 @@ pair_stays_on : (plan : Plan) (q m : ℕ) (old mid new : KeptUnits) → PairStay
 pair_stays_on plan q m old mid new first next = record { outcome = next.outcome ∙ first.outcome; reads = next.reads ∙ first.reads }
 
 left_pair_stays : (plan : Plan) (q m : ℕ) (old new : KeptUnits) → new ≡ old → PairStays plan q m old new
-left_pair_stays plan q m old new same = record { outcome = ap (λ (k : KeptUnits). outcome_at k.found q m) same; reads = ap (λ (k : KeptUnits). reads_at k.reads.items (place_of plan q m)) same }
+left_pair_stays plan q m old new same = record { outcome = ap (λ (k : KeptUnits). outcome_at k.found q m) same; reads = ap (λ (k : KeptUnits). reads_at k.reads.entries.items (place_of plan q m)) same }
 
 -- another node or pattern has another place
 other_place : (plan : Plan) (p n q m : ℕ) → p < length plan.patterns → q < length plan.patterns → (q ≢ p) ⊎ (m ≢ n) → place_of plan q m ≢ place_of plan p n
@@ -62,7 +62,7 @@ ran_pair_stays : (plan : Plan) (e : Evaluation EvalFault Outcome) (p n q m : ℕ
 ran_pair_stays plan e p n q m old new before after low below differ runs = record {
   outcome = runs.puts.others q m differ;
   reads = ap (λ (entries : List (Option Recorded)). reads_at entries (place_of plan q m)) runs.reads
-      ∙ get_or-set_other old.reads.items (place_of plan p n) (place_of plan q m) (Some (note_all nothing_read e.reads)) None (other_place plan p n q m low below differ);
+      ∙ get_or-set_other old.reads.entries.items (place_of plan p n) (place_of plan q m) (Some (note_all nothing_read e.reads)) None (other_place plan p n q m low below differ);
 }
 
 module _ (stand : CleanUnitsStand) (plan : Plan) (T : Table) (p : ℕ) (typed : RulesTyped plan p) (low : p < length plan.patterns) where
@@ -91,12 +91,12 @@ module _ (stand : CleanUnitsStand) (plan : Plan) (T : Table) (p : ℕ) (typed : 
       }
 
   -- a node that was run
-  ran_pair_at : (n : ℕ) (old new : KeptUnits) (before after : ℕ) → place_of plan p n < length old.reads.items →
+  ran_pair_at : (n : ℕ) (old new : KeptUnits) (before after : ℕ) → place_of plan p n < length old.reads.entries.items →
       RunsPair plan (unit_pair plan T (lets_of plan T) p n) p n old new before after → PairAt plan T p n new
   ran_pair_at n old new before after place runs = record {
     outcome = runs.puts.there;
     reads = ap (λ (entries : List (Option Recorded)). reads_at entries (place_of plan p n)) runs.reads
-        ∙ get_or-set_same old.reads.items (place_of plan p n) (Some (note_all nothing_read (unit_pair plan T (lets_of plan T) p n).reads)) None place;
+        ∙ get_or-set_same old.reads.entries.items (place_of plan p n) (Some (note_all nothing_read (unit_pair plan T (lets_of plan T) p n).reads)) None place;
   }
 
   -- the units of the live nodes below a number
@@ -135,7 +135,7 @@ module _ (stand : CleanUnitsStand) (plan : Plan) (T : Table) (p : ℕ) (typed : 
       differs q m (inl differ) = inl differ
       differs q m (inr past) = inr (λ same. omega (arith, past, same))
 
-  pub node_on : (since : Option Since) (n : ℕ) (flags : List Bool) (old mid new : KeptUnits) (before middle after : ℕ) → place_of plan p n < length mid.reads.items → mid.lets ≡ old.lets →
+  pub node_on : (since : Option Since) (n : ℕ) (flags : List Bool) (old mid new : KeptUnits) (before middle after : ℕ) → place_of plan p n < length mid.reads.entries.items → mid.lets ≡ old.lets →
       PatternKept plan since T p old flags → NodesRefreshed plan since T p n old mid before middle → RefreshesPair plan T p n flags mid new middle after →
       NodesRefreshed plan since T p (n + 1) old new before after
   node_on since n flags old mid new before middle after place lets keeps so_far (pair_ran live tells ran) =
@@ -163,6 +163,58 @@ module _ (stand : CleanUnitsStand) (plan : Plan) (T : Table) (p : ℕ) (typed : 
       (subst (λ (units : List ValidationUnit). Raised plan T (filter (is_run plan since T) units) before after) (sym (one_dead n dead))
       (subst (λ (count : ℕ). Raised plan T (filter (is_run plan since T) (units_below n)) before count) (sym leaves.count) so_far.raised))
 
+  -- a node that isn't stale is passed over where no let has another outcome
+  tells_none : (entry : Option Recorded) (flags : List Bool) → is_none entry ≡ false → NoneChanged flags → TellsRun entry flags false
+  tells_none None flags some none = absurd (false≢true (sym some))
+  tells_none (Some held) flags some none = record { some = λ found. absurd (false≢true found); none = λ _ slot _. none slot }
+
+  node_passed : (since : Option Since) (n : ℕ) (flags : List Bool) (old mid : KeptUnits) (before middle : ℕ) → PatternKept plan since T p old flags → NodesRefreshed plan since T p n old mid before middle →
+      may_be_stale old.reads.stale_blocks.items n ≡ false → NoneChanged flags → NodesRefreshed plan since T p (n + 1) old mid before middle
+  node_passed since n flags old mid before middle keeps so_far clean none = by (is_live T n) refl
+    where
+      stays : PairStays plan p n old mid
+      stays = so_far.stays p n low (inr (omega arith))
+
+      by : (b : Bool) → is_live T n ≡ b → NodesRefreshed plan since T p (n + 1) old mid before middle
+      by true live =
+          let told : is_run plan since T (under p n) ≡ false =
+          pair_told since n old flags false keeps (subst (λ (entry : Option Recorded). TellsRun entry flags false) (keeps.reads n live)
+          (tells_none (reads_at old.reads.entries.items (place_of plan p n)) flags (keeps.passed n live clean) none)) in
+          finish since n old mid mid before middle middle so_far (λ _. pair_stays_at plan T p n old mid stays (left_pair_at since n old flags live keeps told))
+          (λ q m below differ. left_pair_stays plan q m mid mid refl)
+          (subst (λ (units : List ValidationUnit). Raised plan T (filter (is_run plan since T) units) before middle) (sym (one_live n live))
+          (raised_out plan T (is_run plan since T) (units_below n) (under p n) before middle middle told so_far.raised refl))
+      by false dead =
+          finish since n old mid mid before middle middle so_far (λ live. absurd (false≢true (sym dead ∙ live)))
+          (λ q m below differ. left_pair_stays plan q m mid mid refl)
+          (subst (λ (units : List ValidationUnit). Raised plan T (filter (is_run plan since T) units) before middle) (sym (one_dead n dead)) so_far.raised)
+
+  nodes_passed : (count : ℕ) (since : Option Since) (n : ℕ) (flags : List Bool) (old mid : KeptUnits) (before middle : ℕ) → PatternKept plan since T p old flags →
+      NodesRefreshed plan since T p n old mid before middle → ((m : ℕ) → n ≤ m → m < n + count → may_be_stale old.reads.stale_blocks.items m ≡ false) → NoneChanged flags →
+      NodesRefreshed plan since T p (n + count) old mid before middle
+  nodes_passed zero since n flags old mid before middle keeps so_far clean none =
+      subst (λ (k : ℕ). NodesRefreshed plan since T p k old mid before middle) (sym (add-zero n)) so_far
+  nodes_passed (suc count) since n flags old mid before middle keeps so_far clean none =
+      let place : (n + 1) + count ≡ n + suc count = omega arith in
+      subst (λ (k : ℕ). NodesRefreshed plan since T p k old mid before middle) place
+      (nodes_passed count since (n + 1) flags old mid before middle keeps
+      (node_passed since n flags old mid before middle keeps so_far (clean n (omega arith) (omega arith)) none)
+      (λ m above below. clean m (omega (arith, above)) (omega (arith, below))) none)
+
+  pub goes_on : (since : Option Since) (n next : ℕ) (flags : List Bool) (old mid new : KeptUnits) (before middle after : ℕ) → place_of plan p n < length mid.reads.entries.items → mid.lets ≡ old.lets →
+      mid.reads.stale_blocks ≡ old.reads.stale_blocks → PatternKept plan since T p old flags → NodesRefreshed plan since T p n old mid before middle → GoesOn plan T p n next flags mid new middle after →
+      NodesRefreshed plan since T p next old new before after
+  goes_on since n next flags old mid new before middle after place lets blocks keeps so_far (goes_one is refreshes) =
+      subst (λ (k : ℕ). NodesRefreshed plan since T p k old new before after) (sym is)
+      (node_on since n flags old mid new before middle after place lets keeps so_far refreshes)
+  goes_on since n next flags old mid new before middle after place lets blocks keeps so_far (goes_past later clean none leaves) =
+      let end : n + (next - n) ≡ next = omega (arith, later) in
+      subst (λ (k : KeptUnits). NodesRefreshed plan since T p next old k before after) (sym leaves.kept)
+      (subst (λ (count : ℕ). NodesRefreshed plan since T p next old mid before count) (sym leaves.count)
+      (subst (λ (k : ℕ). NodesRefreshed plan since T p k old mid before middle) end
+      (nodes_passed (next - n) since n flags old mid before middle keeps so_far
+      (λ m above below. ap (λ v. may_be_stale v.items m) (sym blocks) ∙ clean m above (omega (arith, below, end))) none)))
+
 -- nothing but nodes under patterns changes in one step and in the next
 pub pairs_alone_on : (old mid new : KeptUnits) → PairsAlone old mid → PairsAlone mid new → PairsAlone old new
 pairs_alone_on old mid new first next = record {
@@ -170,6 +222,8 @@ pairs_alone_on old mid new first next = record {
   let_reads = next.let_reads ∙ first.let_reads;
   patterns = next.patterns ∙ first.patterns;
   places = next.places ∙ first.places;
+  blocks = next.blocks ∙ first.blocks;
+  indexed = λ indexed. next.indexed (first.indexed indexed);
 }
 
 pub pairs_stay : (old new : KeptUnits) → new ≡ old → PairsAlone old new
@@ -177,7 +231,9 @@ pairs_stay old new same = record {
   lets = ap (λ (k : KeptUnits). k.lets) same;
   let_reads = ap (λ (k : KeptUnits). k.let_reads) same;
   patterns = ap (λ (k : KeptUnits). k.found.patterns) same;
-  places = ap (λ (k : KeptUnits). length k.reads.items) same;
+  places = ap (λ (k : KeptUnits). length k.reads.entries.items) same;
+  blocks = ap (λ (k : KeptUnits). k.reads.stale_blocks) same;
+  indexed = subst (λ (k : KeptUnits). IsIndexed k.reads) (sym same);
 }
 
 pub ran_pairs_alone : (plan : Plan) (e : Evaluation EvalFault Outcome) (p n : ℕ) (old new : KeptUnits) (before after : ℕ) → RunsPair plan e p n old new before after → PairsAlone old new
@@ -185,7 +241,9 @@ ran_pairs_alone plan e p n old new before after runs = record {
   lets = runs.lets;
   let_reads = runs.let_reads;
   patterns = runs.puts.patterns;
-  places = ap length runs.reads ∙ length-set old.reads.items (place_of plan p n) (Some (note_all nothing_read e.reads));
+  places = ap length runs.reads ∙ length-set old.reads.entries.items (place_of plan p n) (Some (note_all nothing_read e.reads));
+  blocks = runs.blocks;
+  indexed = runs.indexed;
 }
 
 -- the nodes under a pattern may still be evaluated
@@ -199,7 +257,7 @@ ready_on plan T p old new alone ready = record {
 }
 
 -- a node that was made has a place
-pub place_within : (plan : Plan) (T : Table) (p n : ℕ) (kept : KeptUnits) → n < length T → IsReady plan T p kept → place_of plan p n < length kept.reads.items
+pub place_within : (plan : Plan) (T : Table) (p n : ℕ) (kept : KeptUnits) → n < length T → IsReady plan T p kept → place_of plan p n < length kept.reads.entries.items
 place_within plan T p n kept made ready =
     omega (arith, mul-add-lt n (length plan.patterns) p (length T) made ready.active, mul_comm (length T) (length plan.patterns), ready.places)
 
@@ -214,12 +272,13 @@ nodes_begin plan T p since kept count = record {
 -- Patterns
 
 -- a pattern whose nodes stay is kept
-pub pattern_stays : (plan : Plan) (since : Option Since) (T : Table) (p : ℕ) (old mid : KeptUnits) (flags : List Bool) → mid.lets ≡ old.lets → ((n : ℕ) → PairStays plan p n old mid) →
-    PatternKept plan since T p old flags → PatternKept plan since T p mid flags
-pattern_stays plan since T p old mid flags lets stays keeps = record {
+pub pattern_stays : (plan : Plan) (since : Option Since) (T : Table) (p : ℕ) (old mid : KeptUnits) (flags : List Bool) → mid.lets ≡ old.lets → mid.reads.stale_blocks ≡ old.reads.stale_blocks →
+    ((n : ℕ) → PairStays plan p n old mid) → PatternKept plan since T p old flags → PatternKept plan since T p mid flags
+pattern_stays plan since T p old mid flags lets blocks stays keeps = record {
   lets = lets ∙ keeps.lets;
   reads = λ n live. (stays n).reads ∙ keeps.reads n live;
   known = by_since since keeps.known;
+  passed = λ n live clean. ap is_none (stays n).reads ∙ keeps.passed n live (ap (λ v. may_be_stale v.items n) (sym blocks) ∙ clean);
 }
   where
     by_since : (o : Option Since) → IfSome o (PatternKnown plan T p old flags) → IfSome o (PatternKnown plan T p mid flags)

@@ -1,6 +1,7 @@
 -- What the loops over patterns and nodes keep.
-use Rattle.std.proofs.Common.{◌≡◌, ◌∙◌, ℕ, ◌+◌, ◌<◌, ◌≤◌, ◌==◌, zero, suc, Bool, true, false, ◌||◌, List, length, drop, slice_index_or, Option, None, Some, refl, sym, ap, subst, arith}
-use Rattle.std.proofs.lemmas.Bool.{eqb-true, false≢true}
+use Rattle.std.proofs.Common.{◌≡◌, ◌∙◌, ℕ, ◌+◌, ◌<◌, ◌≤◌, ◌==◌, zero, suc, Bool, true, false, ◌||◌, List, [], ◌∷◌, length, drop, filter, slice_index_or, if◌then◌else◌, Option, None, Some, refl, sym, ap, subst, arith}
+use Rattle.std.proofs.lemmas.Bool.{eqb-true, false_from_ne_true, false≢true}
+use Rattle.std.proofs.lemmas.Map.Views.{any-filter_same}
 use Rattle.std.proofs.lemmas.List.FromFn.{get_or-range_with_len, length-range_with_len}
 use Rattle.std.specs.List.{list_any, range_with_len}
 use Rattle.std.specs.Option.{option_or}
@@ -10,7 +11,9 @@ use Rattle.doc_tree.specs.Table.{Table}
 use Rattle.doc_tree.specs.Walks.{order}
 use Rattle.sch_compiled.specs.declared.plan.Plan.{Plan}
 use Rattle.sch_compiled.specs.declared.state_fault.StateFault.{StateFault}
-use Rattle.sch_compiled.specs.Findings.{outcome_at}
+use Rattle.sch_compiled.specs.declared.findings.Outcome.{Outcome}
+use Rattle.sch_compiled.specs.declared.findings.Outcome.TheVariants.{NoRule, Fired, Fault}
+use Rattle.sch_compiled.specs.Findings.{OutcomeTable, ToldInOrder, is_told, outcome_at}
 use Rattle.sch_units.specs.Units.{lets_of}
 use Rattle.sch_units.specs.Validity.{finds, first_fault, first_let_fault, first_node_fault, first_with, has_finding, pair_fault, pair_outcome, pattern_numbers}
 use Rattle.kept_units.specs.declared.kept_units.KeptUnits.{KeptUnits}
@@ -77,6 +80,50 @@ number_below from (suc count) p there = by (p == from) refl there (number_below 
     by : (b : Bool) → (p == from) ≡ b → (b || mem p (range_with_len (from + 1) count)) ≡ true → (mem p (range_with_len (from + 1) count) ≡ true → p < (from + 1) + count) → p < from + suc count
     by true same there rest = omega (arith, eqb-true p from same)
     by false other there rest = omega (arith, rest there)
+
+-- an outcome that tells nothing has no fault and no finding
+no_fault : (p n : ℕ) (o : Option Outcome) → is_told o ≡ false → pair_fault p n (kept_outcome o) ≡ None
+no_fault p n None not_so = refl
+no_fault p n (Some NoRule) not_so = refl
+no_fault p n (Some (Fired rule findings)) not_so = refl
+no_fault p n (Some (Fault kind)) not_so = absurd (cc)
+
+no_finding : (o : Option Outcome) → has_finding (kept_outcome o) ≡ true → is_told o ≡ true
+no_finding None finds = absurd (cc)
+no_finding (Some NoRule) finds = absurd (cc)
+no_finding (Some (Fired rule findings)) finds = refl
+no_finding (Some (Fault kind)) finds = refl
+
+-- what gives nothing may be left out
+with_filter : {B : Type 0} (f : ℕ → Option B) (among : ℕ → Bool) (ns : List ℕ) → ((n : ℕ) → among n ≡ false → f n ≡ None) → first_with f (filter among ns) ≡ first_with f ns
+with_filter f among [] none = refl
+with_filter f among (n ∷ ns) none = by (among n) refl (with_filter f among ns none)
+  where
+    by : (b : Bool) → among n ≡ b → first_with f (filter among ns) ≡ first_with f ns → first_with f (if b then n ∷ filter among ns else filter among ns) ≡ option_or (f n) (first_with f ns)
+    by true is rest = ap (option_or (f n)) rest
+    by false is rest = rest ∙ sym (ap (λ o. option_or o (first_with f ns)) (none n is))
+
+-- some nodes of a tree, among them all of which something is told, came to what all did
+pub told_scanned : (T : Table) (found : OutcomeTable) (nodes : List ℕ) (count : ℕ) → ToldInOrder T found nodes → count ≤ found.patterns →
+    patterns_came_to found nodes count ≡ patterns_came_to found (order T) count
+told_scanned T found nodes count told few =
+    ap (λ o. came_to o (list_any (nodes_find found nodes) (range_with_len 0 count))) faults
+    ∙ ap (came_to (first_with (fault_of_nodes found (order T)) (range_with_len 0 count))) findings
+  where
+    out : (p n : ℕ) → mem p (range_with_len 0 count) ≡ true → told.among n ≡ false → is_told (outcome_at found p n) ≡ false
+    out p n active not_so = false_from_ne_true (is_told (outcome_at found p n)) (λ (is : is_told (outcome_at found p n) ≡ true).
+        let there : told.among n ≡ true = told.all p n (omega (arith, number_below 0 count p active, few)) is in absurd (cc))
+
+    faults : first_with (fault_of_nodes found nodes) (range_with_len 0 count) ≡ first_with (fault_of_nodes found (order T)) (range_with_len 0 count)
+    faults = with_alike (fault_of_nodes found nodes) (fault_of_nodes found (order T)) (range_with_len 0 count) (λ p active.
+        ap (first_with (fault_of_node found p)) told.in_order
+        ∙ with_filter (fault_of_node found p) told.among (order T) (λ n not_so. no_fault p n (outcome_at found p n) (out p n active not_so)))
+
+    findings : list_any (nodes_find found nodes) (range_with_len 0 count) ≡ list_any (nodes_find found (order T)) (range_with_len 0 count)
+    findings = any_alike (nodes_find found nodes) (nodes_find found (order T)) (range_with_len 0 count) (λ p active.
+        ap (list_any (node_finds found p)) told.in_order
+        ∙ any-filter_same (node_finds found p) told.among true
+        (λ n finds. told.all p n (omega (arith, number_below 0 count p active, few)) (no_finding (outcome_at found p n) finds)) (order T))
 
 -- The whole
 

@@ -16,7 +16,7 @@ same_bool false false there back = refl
 
 module _ {K : Type 0} {R : K → K → Ordering} (o : IsTotalOrder R) (same : IsAntisymmetric R) (p : K → Bool) where
   -- an item that ties with one of a list passes where that one does
-  passes_there : (x : K) → p x ≡ true → (ys : List K) → list_any (eq_by_cmp R x) ys ≡ true → list_any p ys ≡ true
+  pub passes_there : (x : K) → p x ≡ true → (ys : List K) → list_any (eq_by_cmp R x) ys ≡ true → list_any p ys ≡ true
   passes_there x passes [] there = absurd (cc)
   passes_there x passes (y ∷ ys) there = by (eq_by_cmp R x y) refl there (passes_there x passes ys)
     where

@@ -1,6 +1,7 @@
 -- What is kept of the units of a plan over a tree: what each gave when all were last evaluated, and what it read, where no edit has
 -- touched that since.
-use Rattle.std.specs.Prelude.{◌≡◌, ℕ, ◌+◌, ◌*◌, ◌<◌, ◌≤◌, Bool, true, false, ◌||◌, List, length, Option, None, Some, IfSome, slice_index_or, if◌then◌else◌}
+use Rattle.std.specs.FinSet.{contains}
+use Rattle.std.specs.Prelude.{◌≡◌, ℕ, ◌+◌, ◌*◌, ◌/◌, ◌<◌, ◌≤◌, Bool, true, false, ◌||◌, List, length, Option, None, Some, IfSome, is_none, slice_index_or, if◌then◌else◌}
 use Rattle.doc_table.specs.inner.Sound.{Formed}
 use Rattle.doc_tree.specs.cell.Cell.{Cell}
 use Rattle.doc_tree.specs.Table.{Table, is_live}
@@ -12,6 +13,8 @@ use Rattle.sch_units.specs.Units.{lets_of}
 use Rattle.sch_units.specs.Validity.{pair_outcome}
 use Rattle.edit_costs.specs.Dirty.{Since, is_stale}
 use Rattle.edit_costs.specs.Units.{ValidationUnit, in_force, under, reads_of}
+use Rattle.unit_readers.specs.Readers.{IsReader}
+use Rattle.kept_units.specs.declared.kept_reads.KeptReads.{KeptReads}
 use Rattle.kept_units.specs.declared.kept_units.KeptUnits.{KeptUnits}
 
 -- all units were evaluated over this tree, and no edit has come since
@@ -37,6 +40,15 @@ reads_at entries place = slice_index_or entries place None
 abbrev pub place_of : Plan → ℕ → ℕ → ℕ
 place_of plan p n = n * length plan.patterns + p
 
+-- whether a unit of a row may be stale, by the flags of blocks of 64 rows each; past the last block each may
+abbrev pub may_be_stale : List Bool → ℕ → Bool
+may_be_stale blocks row = slice_index_or blocks (row / 64) true
+
+-- once the readers of cells are known, a unit whose reads are kept is a reader of each cell among them
+pub record IsIndexed (reads : KeptReads) : Type 0 where
+  pub readers : reads.is_indexed ≡ true → (place : ℕ) (held : Recorded) → reads_at reads.entries.items place ≡ Some held →
+      (c : Cell) → contains held.cells c ≡ true → IsReader reads.readers c place
+
 -- what is kept is of the tree over which all units were last evaluated; the edits since made T of it
 pub record KeepsSince (plan : Plan) (T : Table) (kept : KeptUnits) (since : Since) : Type 0 where
   pub formed : Formed since.base
@@ -49,8 +61,13 @@ pub record KeepsSince (plan : Plan) (T : Table) (kept : KeptUnits) (since : Sinc
 pub record Keeps (plan : Plan) (T : Table) (since : Option Since) (kept : KeptUnits) : Type 0 where
   pub patterns : kept.found.patterns ≡ length plan.patterns
   pub few : length kept.lets ≤ length plan.lets
-  pub short : length kept.reads.items ≤ length T * length plan.patterns
-  pub let_reads : (slot : ℕ) → slot < length plan.lets → reads_at kept.let_reads.items slot ≡ kept_reads plan since (in_force slot)
+  pub short : length kept.reads.entries.items ≤ length T * length plan.patterns
+  pub let_reads : (slot : ℕ) → slot < length plan.lets → reads_at kept.let_reads.entries.items slot ≡ kept_reads plan since (in_force slot)
   pub reads : (p n : ℕ) → p < length plan.patterns → is_live T n ≡ true →
-      reads_at kept.reads.items (place_of plan p n) ≡ kept_reads plan since (under p n)
+      reads_at kept.reads.entries.items (place_of plan p n) ≡ kept_reads plan since (under p n)
   pub known : IfSome since (KeepsSince plan T kept)
+  pub let_indexed : IsIndexed kept.let_reads
+  pub indexed : IsIndexed kept.reads
+  pub blocks : 64 * length kept.reads.stale_blocks.items ≤ length T
+  pub passed : (p n : ℕ) → p < length plan.patterns → is_live T n ≡ true → may_be_stale kept.reads.stale_blocks.items n ≡ false →
+      is_none (reads_at kept.reads.entries.items (place_of plan p n)) ≡ false

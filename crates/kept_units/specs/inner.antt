@@ -1,4 +1,5 @@
 pub mod Counting
+pub mod KeptReads
 pub mod Marking
 pub mod Refreshing
 pub mod Scanning

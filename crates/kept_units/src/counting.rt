@@ -22,9 +22,9 @@ impl KeptUnits {
             result ≡ length (stale_units plan.now since tree.now.nodes) }
     {
         let patterns = plan.pattern_count();
-        let mut count = u64::from(stale_lets(self.let_reads.as_slice(), plan.let_count()));
+        let mut count = u64::from(stale_lets(self.let_reads.entries.as_slice(), plan.let_count()));
         for p in 0..patterns {
-            count += u64::from(stale_nodes(self.reads.as_slice(), tree, patterns, p));
+            count += u64::from(stale_nodes(self.reads.entries.as_slice(), tree, patterns, p));
         }
         count
     }

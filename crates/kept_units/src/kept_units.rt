@@ -5,11 +5,12 @@ ghost use Rattle.doc_tree.specs.Table.{Table};
 ghost use Rattle.sch_compiled.specs.Soundness.{IsCounted, IsSound};
 ghost use Rattle.edit_costs.specs.Costs.{Raised};
 ghost use Rattle.edit_costs.specs.Dirty.{Since, units_to_run};
-ghost use Rattle.kept_units.specs.Keeping.{Keeps, fresh, reads_at};
-ghost use Rattle.kept_units.specs.inner.Refreshing.{Reaches};
+ghost use Rattle.kept_units.specs.Keeping.{Keeps, fresh};
+ghost use Rattle.kept_units.specs.inner.Refreshing.{PassesNodes, Reaches};
 
+use crate::kept_reads::KeptReads;
 use doc_tree::{MAX_NODE_NUMBERS, Tree};
-use rule_run::{Caller, Lets, PlanRun, Recorder};
+use rule_run::{Caller, Lets, PlanRun};
 use sch_compiled::{Findings, Plan};
 use sch_units::lets_stand_in_order;
 use std::alloc::{AllocError, Global};
@@ -24,12 +25,12 @@ use xp_outcome::Steps;
 pub struct KeptUnits {
     /// The outcomes of the lets in force, each in its slot.
     pub(crate) lets: Lets,
-    /// What each let in force read; None where it is stale.
-    pub(crate) let_reads: Vec<Option<Recorder>>,
+    /// What each let in force read, in its slot.
+    pub(crate) let_reads: KeptReads,
     /// The outcome of each node under each active pattern.
     pub(crate) found: Findings,
-    /// What each node read under each active pattern; None where it is stale.
-    pub(crate) reads: Vec<Option<Recorder>>,
+    /// What each node read under each active pattern, in a row for each node.
+    pub(crate) reads: KeptReads,
 }
 
 impl KeptUnits {
@@ -40,16 +41,17 @@ impl KeptUnits {
     {
         Ok(KeptUnits {
             lets: Lets::new(alloc),
-            let_reads: Vec::new(alloc),
+            let_reads: KeptReads::new(alloc),
             found: Findings::new(alloc, plan.pattern_count())?,
-            reads: Vec::new(alloc),
+            reads: KeptReads::new(alloc),
         })
     }
 
     /// Evaluates the stale units, and those that read a let whose outcome has changed: first the lets in force in order, then the
     /// nodes pattern by pattern.
     ///
-    /// Costs the visits of these units, and the time to look at all of them. After want of memory what is kept is of no use.
+    /// Costs the visits of these units, and for each pattern a look at each block of 64 nodes, and at the nodes of a block that may have
+    /// a stale one; where a let has another outcome, at all nodes. After want of memory what is kept is of no use.
     pub fn refresh<L: Ledger>(
         &mut self,
         alloc: Global,
@@ -75,6 +77,16 @@ impl KeptUnits {
         self.make_places(&run)?;
         let changed = self.refresh_lets(&run, steps)?;
         self.refresh_patterns(&run, &changed, steps)?;
+        self.pass_nodes(tree)?;
+        Ok(())
+    }
+
+    /// No node that was made is stale under a pattern.
+    fn pass_nodes(&mut self, tree: &Tree) -> Result<(), AllocError>
+        ensures { OnOk result (PassesNodes tree.now.nodes self.old self.new) }
+    {
+        let numbers = MAX_NODE_NUMBERS - tree.numbers_left();
+        self.reads.pass(numbers as usize)?;
         Ok(())
     }
 
@@ -85,23 +97,10 @@ impl KeptUnits {
     {
         let plan = run.plan;
         let numbers = MAX_NODE_NUMBERS - run.caller.tree.numbers_left();
-        lengthen(&mut self.let_reads, plan.let_count() as usize)?;
-        lengthen(
-            &mut self.reads,
-            numbers as usize * plan.pattern_count() as usize,
-        )
+        let alloc = run.caller.alloc;
+        self.let_reads.prepare(alloc, plan.let_count() as usize)?;
+        self.reads
+            .prepare(alloc, numbers as usize * plan.pattern_count() as usize)?;
+        Ok(())
     }
-}
-
-/// Puts empty entries at the end until there are so many.
-fn lengthen(entries: &mut Vec<Option<Recorder>>, count: usize) -> Result<(), AllocError>
-    ensures there { OnOk result (count ≤ length entries.new.items) }
-    ensures short { OnOk result (length entries.old.items ≤ count → length entries.new.items ≤ count) }
-    ensures same { OnOk result ((place : ℕ) → reads_at entries.new.items place ≡ reads_at entries.old.items place) }
-{
-    if count <= entries.len() {
-        return Ok(());
-    }
-    entries.resize_with(count, || None)?;
-    Ok(())
 }

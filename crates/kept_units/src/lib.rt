@@ -3,6 +3,7 @@
 #![tactic(auto)]
 
 mod counting;
+mod kept_reads;
 mod kept_units;
 mod marking;
 mod refreshing_lets;

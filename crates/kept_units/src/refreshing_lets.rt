@@ -28,7 +28,7 @@ impl KeptUnits {
     ) -> Result<Vec<bool>, AllocError>
         requires sound { IsSound run.now.plan.now }
         requires few { length self.old.lets ≤ length run.now.plan.now.lets }
-        requires places { length run.now.plan.now.lets ≤ length self.old.let_reads.items }
+        requires places { length run.now.plan.now.lets ≤ length self.old.let_reads.entries.items }
         ensures refreshed { IfOk result (λ changed. (since : Option Since) → Keeps run.now.plan.now run.now.caller.tree.now.nodes since self.old →
             LetsRefreshed run.now.plan.now since run.now.caller.tree.now.nodes (length run.now.plan.now.lets) self.old self.new changed.items steps.old steps.new) }
         ensures alone { OnOk result (LetsAlone run.now.plan.now self.old self.new) }
@@ -56,13 +56,13 @@ impl KeptUnits {
         steps: &mut Steps<L>,
     ) -> Result<bool, AllocError>
         requires in_force { l < length run.now.plan.now.lets }
-        requires place { l < length self.old.let_reads.items }
+        requires place { l < length self.old.let_reads.entries.items }
         requires few { length self.old.lets ≤ length run.now.plan.now.lets }
         ensures refreshes { IfOk result (λ flag. RefreshesLet run.now.plan.now run.now.caller.tree.now.nodes l changed.now.items self.old self.new flag steps.old steps.new) }
         ensures alone { OnOk result (LetsAlone run.now.plan.now self.old self.new) }
         ensures steps { steps.old ≤ steps.new }
     {
-        if is_to_run(&self.let_reads[l as usize], changed) {
+        if is_to_run(&self.let_reads.entries[l as usize], changed) {
             return self.evaluate_let(run, l, steps);
         }
         Ok(false)
@@ -76,7 +76,7 @@ impl KeptUnits {
         steps: &mut Steps<L>,
     ) -> Result<bool, AllocError>
         requires in_force { l < length run.now.plan.now.lets }
-        requires place { l < length self.old.let_reads.items }
+        requires place { l < length self.old.let_reads.entries.items }
         ensures runs { IfOk result (λ flag. IfSome (slice_get run.now.plan.now.lets l) (λ t.
             RunsLet (unit_let run.now.caller.tree.now.nodes self.old.lets t.expr) l self.old self.new flag steps.old steps.new)) }
         ensures steps { steps.old < steps.new }
@@ -87,7 +87,7 @@ impl KeptUnits {
         let mut reads = kept.reads;
         reads.settle();
         self.lets.set(l, kept.value)?;
-        self.let_reads[l as usize] = Some(reads);
+        self.let_reads.put(l as usize, reads)?;
         Ok(!same)
     }
 }

@@ -27,7 +27,8 @@ pub enum Evaluated {
 impl KeptUnits {
     /// What the units came to, none of which is stale: lets in force by slot, then nodes pattern by pattern in document order.
     ///
-    /// Looks at each outcome up to the first fault; the memory grows with the nodes.
+    /// Looks at the outcomes of the nodes at which a rule fired or a fault was met, up to the first fault; the memory grows
+    /// with these nodes.
     pub fn evaluated(
         &self,
         alloc: Global,
@@ -42,7 +43,7 @@ impl KeptUnits {
         if let Some(fault) = first_let_fault(&self.lets, plan.let_count()) {
             return Ok(Evaluated::Faulted(fault));
         }
-        let nodes = tree.nodes_in_order(alloc)?;
+        let nodes = self.found.told_in_order(alloc, tree)?;
         Ok(scan_patterns(&self.found, nodes.as_slice(), plan.pattern_count()))
     }
 

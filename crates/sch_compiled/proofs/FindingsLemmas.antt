@@ -158,27 +158,27 @@ none-puts before count cells pattern node was low past = record {
     past-none (c ∷ cs) zero few = absurd (omega arith)
     past-none (c ∷ cs) (suc i) few = past-none cs i (omega arith)
 
--- calls that give no outcome give none anywhere
-none_given : {F : Type 0} (step : F → Option Outcome → F → Type 0) →
-    ((f : F) (x : Option Outcome) (g : F) → step f x g → x ≡ None) →
-    (f : F) (ys : List (Option Outcome)) (last : F) → FoldsTo step f ys last → (i : ℕ) → slice_index_or ys i None ≡ None
-none_given step gives f [] last run i = refl
-none_given step gives f (y ∷ ys) last run zero = gives f y run.0 run.1
-none_given step gives f (y ∷ ys) last run (suc i) = none_given step gives run.0 ys last run.2 i
+-- calls that give one value give it anywhere
+all_given : {F X : Type 0} (d : X) (step : F → X → F → Type 0) →
+    ((f : F) (x : X) (g : F) → step f x g → x ≡ d) →
+    (f : F) (ys : List X) (last : F) → FoldsTo step f ys last → (i : ℕ) → slice_index_or ys i d ≡ d
+all_given d step gives f [] last run i = refl
+all_given d step gives f (y ∷ ys) last run zero = gives f y run.0 run.1
+all_given d step gives f (y ∷ ys) last run (suc i) = all_given d step gives run.0 ys last run.2 i
 
--- where nothing stands in the cells behind, each place reads as before
-none_behind : (cells more : List (Option Outcome)) → ((i : ℕ) → slice_index_or more i None ≡ None) →
-    (i : ℕ) → slice_index_or (cells ++ more) i None ≡ slice_index_or cells i None
-none_behind [] more none i = none i
-none_behind (cell ∷ cells) more none zero = refl
-none_behind (cell ∷ cells) more none (suc i) = none_behind cells more none i
+-- where that value alone stands behind, each place reads as before
+alike_behind : {X : Type 0} (d : X) (items more : List X) → ((i : ℕ) → slice_index_or more i d ≡ d) →
+    (i : ℕ) → slice_index_or (items ++ more) i d ≡ slice_index_or items i d
+alike_behind d [] more none i = none i
+alike_behind d (item ∷ items) more none zero = refl
+alike_behind d (item ∷ items) more none (suc i) = alike_behind d items more none i
 
--- cells to which calls that give no outcome added some read as before
-pub same_cells : {F : Type 0} (step : F → Option Outcome → F → Type 0) →
-    ((f : F) (x : Option Outcome) (g : F) → step f x g → x ≡ None) →
-    (count : ℕ) (old new : List (Option Outcome)) (f : F) → length old ≤ count →
-    AppendsResults step (take count old) new f → (i : ℕ) → slice_index_or new i None ≡ slice_index_or old i None
-same_cells step gives count old new f few added i =
-    ap (λ (cells : List (Option Outcome)). slice_index_or cells i None)
-    (added.2 ∙ ap (λ (cells : List (Option Outcome)). cells ++ added.0) (take_all count old few))
-    ∙ none_behind old added.0 (none_given step gives f added.0 added.1 added.3) i
+-- items to which calls that give one value added some read as before, past the end that value
+pub same_items : {F X : Type 0} (d : X) (step : F → X → F → Type 0) →
+    ((f : F) (x : X) (g : F) → step f x g → x ≡ d) →
+    (count : ℕ) (old new : List X) (f : F) → length old ≤ count →
+    AppendsResults step (take count old) new f → (i : ℕ) → slice_index_or new i d ≡ slice_index_or old i d
+same_items d step gives count old new f few added i =
+    ap (λ (items : List _). slice_index_or items i d)
+    (added.2 ∙ ap (λ (items : List _). items ++ added.0) (take_all count old few))
+    ∙ alike_behind d old added.0 (all_given d step gives f added.0 added.1 added.3) i

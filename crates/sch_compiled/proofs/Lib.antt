@@ -1,2 +1,3 @@
 pub mod FindingsLemmas
+pub mod MarkLemmas
 pub mod PatternLemmas

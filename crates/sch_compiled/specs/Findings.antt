@@ -1,9 +1,13 @@
 -- The outcomes of nodes under patterns, as they are put and cleared.
-use Rattle.std.specs.Prelude.{◌≡◌, ◌≢◌, ℕ, ◌⊎◌, Option}
+use Rattle.std.specs.Prelude.{◌≡◌, ◌≢◌, ℕ, ◌<◌, Bool, true, false, ◌⊎◌, List, filter, Option, None, Some}
 use Rattle.std.specs.FinMap as map
 use Rattle.std.specs.Ordering.{nat_cmp, on, then_cmp}
 use Rattle.std.specs.declared.cmp.Ordering.{Ordering}
+use Rattle.doc_tree.specs.Lists.{mem}
+use Rattle.doc_tree.specs.Table.{Table}
+use Rattle.doc_tree.specs.Walks.{order}
 use Rattle.sch_compiled.specs.declared.findings.Outcome.{Outcome}
+use Rattle.sch_compiled.specs.declared.findings.Outcome.TheVariants.{NoRule, Fired, Fault}
 
 -- the order of the pairs of a pattern and a node: by node, then by pattern
 abbrev pub pair_cmp : (ℕ × ℕ) → (ℕ × ℕ) → Ordering
@@ -28,3 +32,21 @@ pub record Puts (before after : OutcomeTable) (pattern node : ℕ) (outcome : Op
   pub patterns : after.patterns ≡ before.patterns
   pub there : outcome_at after pattern node ≡ outcome
   pub others : (p n : ℕ) → (p ≢ pattern) ⊎ (n ≢ node) → outcome_at after p n ≡ outcome_at before p n
+
+-- whether an outcome is there and tells something: a rule fires, or a fault was met
+abbrev pub is_told : Option Outcome → Bool
+is_told None = false
+is_told (Some NoRule) = false
+is_told (Some (Fired rule findings)) = true
+is_told (Some (Fault kind)) = true
+
+-- these are the nodes of which something is told under one of the patterns
+pub record AreTold (table : OutcomeTable) (nodes : List ℕ) : Type 0 where
+  pub all : (pattern node : ℕ) → pattern < table.patterns → is_told (outcome_at table pattern node) ≡ true → mem node nodes ≡ true
+  pub alone : (node : ℕ) → mem node nodes ≡ true → (pattern : ℕ) × (pattern < table.patterns) × (is_told (outcome_at table pattern node) ≡ true)
+
+-- nodes of a tree in document order, among them all of which something is told
+pub record ToldInOrder (T : Table) (table : OutcomeTable) (nodes : List ℕ) : Type 0 where
+  pub among : ℕ → Bool
+  pub in_order : nodes ≡ filter among (order T)
+  pub all : (pattern node : ℕ) → pattern < table.patterns → is_told (outcome_at table pattern node) ≡ true → among node ≡ true

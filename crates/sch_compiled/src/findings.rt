@@ -1,10 +1,12 @@
 //! What validation found: the outcome of each node under each pattern.
 
-ghost use Rattle.std.specs.Prelude.{◌≡◌, ◌+◌, ◌*◌, ◌<◌, Some, None, IfOk, OnOk, OnErr};
+ghost use Rattle.std.specs.Prelude.{◌≡◌, ◌+◌, ◌*◌, ◌<◌, ◌^◌, Some, None, IfOk, OnOk, OnErr};
 ghost use Rattle.std.specs.Option.{option_copied};
-ghost use Rattle.sch_compiled.specs.Findings.{outcome_at, IsEmptyFor, Puts};
+ghost use Rattle.sch_compiled.specs.Findings.{outcome_at, AreTold, IsEmptyFor, Puts};
+ghost use Rattle.sch_compiled.specs.inner.Marks.{mark_of};
 
-use doc_tree::NodeId;
+use crate::marks::{make_room, marked_nodes};
+use doc_tree::{NodeId, NodeList};
 use sch_base::{ItemList, Text};
 use std::alloc::{AllocError, Global};
 use std::marker::Model;
@@ -42,6 +44,8 @@ pub enum Outcome {
 pub struct Findings {
     patterns: u32,
     cells: Vec<Option<Outcome>>,
+    /// The mark of each cell: 1 where a rule fired or a fault was met, else 0.
+    marks: Vec<u8>,
 }
 
 impl Model for Findings {
@@ -54,6 +58,10 @@ impl Model for Findings {
     ghost coded = { table_code (Prim.hlevel codes) };
 
     ghost view = { λ f. shown f.patterns f.cells.items };
+
+    ghost use Rattle.sch_compiled.specs.inner.Marks.{IsMarked};
+
+    ghost invariant = { λ f. IsMarked f.patterns f.cells.items f.marks.items };
 }
 
 impl Findings {
@@ -64,6 +72,7 @@ impl Findings {
         Ok(Findings {
             patterns,
             cells: Vec::new(alloc),
+            marks: Vec::new(alloc),
         })
     }
 
@@ -81,9 +90,11 @@ impl Findings {
         ensures unchanged { OnErr result (self.new ≡ self.old) }
     {
         let place = place_of(self.patterns, p, n);
+        make_room(&mut self.marks, place + 1)?;
         if place >= self.cells.len() {
             self.cells.resize_with(place + 1, || None)?;
         }
+        self.marks[place] = mark_of(&o);
         self.cells[place] = Some(o);
         Ok(())
     }
@@ -95,6 +106,7 @@ impl Findings {
     {
         let place = place_of(self.patterns, p, n);
         if place < self.cells.len() {
+            self.marks[place] = 0;
             self.cells[place] = None;
         }
     }
@@ -107,11 +119,31 @@ impl Findings {
         let place = place_of(self.patterns, p, n);
         self.cells.get(place)?.as_ref()
     }
+
+    /// The nodes at which a rule fired or a fault was met, by their numbers.
+    ///
+    /// Looks at a byte for each node and pattern, many at a time.
+    pub fn told_nodes(&self, alloc: Global) -> Result<NodeList, AllocError>
+        ensures { IfOk result (AreTold self.now) }
+    {
+        marked_nodes(alloc, self.patterns, self.marks.as_slice())
+    }
+}
+
+/// How the cell of an outcome is marked.
+fn mark_of(outcome: &Outcome) -> u8
+    ensures { result ≡ mark_of (Some outcome.now) }
+{
+    match outcome {
+        Outcome::NoRule => 0,
+        Outcome::Fired { .. } | Outcome::Fault { .. } => 1,
+    }
 }
 
 /// Where in the table the outcome of the node under the pattern stands.
 fn place_of(patterns: u32, p: u32, n: NodeId) -> usize
-    ensures { result ≡ n * patterns + p }
+    ensures place { result ≡ n * patterns + p }
+    ensures bounded { p < patterns → result < 2 ^ 32 * patterns }
 {
     n.index() * patterns as usize + p as usize
 }

@@ -2,10 +2,12 @@
 #![tactic(auto)]
 
 mod findings;
+mod marks;
 mod parts;
 mod patterns;
 mod plan;
 mod state_fault;
+mod told;
 
 pub use doc_tree::NodeId;
 pub use findings::{Finding, FindingList, Findings, Outcome, TextList};

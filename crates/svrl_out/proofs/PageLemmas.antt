@@ -15,6 +15,10 @@ use Rattle.svrl_out.proofs.ReportLemmas.{reported_both, reported_err, reported_f
 abbrev pub WrittenBut : SinkLog → SinkLog → List ℕ → List ℕ → Type 0
 WrittenBut old new page text = (front : List ℕ) × (text ≡ front ++ page) × Reported old new front (Ok tt)
 
+-- the page was written
+pub but_done : {x : Unit {0}} {a b c : SinkLog} {page text : List ℕ} → WrittenBut a b page text → Wrote {E = SinkFailed} b c page (Ok x) → Reported a c text (Ok tt)
+but_done {a = a} {c = c} so wrote = subst (λ (l : List ℕ). Reported a c l (Ok tt)) (sym so.1) (reported_both so.2 (reported_ok wrote))
+
 -- the page was not written whole
 pub but_failed : {e : SinkFailed} {a b c : SinkLog} {page text : List ℕ} (r : Result (Unit {0}) OutError) → r ≡ Err Failed → WrittenBut a b page text → Wrote {T = Unit {0}} b c page (Err e) → Reported a c text r
 but_failed {a = a} {c = c} r is so wrote = subst (λ (l : List ℕ). Reported a c l r) (sym so.1) (reported_both so.2 (reported_err r is wrote))

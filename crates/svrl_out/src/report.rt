@@ -51,9 +51,10 @@ impl From<Failed> for OutError {
 
 /// Writes the report: each active pattern, and what it found at each node in document order.
 ///
-/// After an error a front of the report was written. The time grows with the number of nodes for each pattern, and
-/// for a node with findings with its depth and theirs. Of the report one location is kept, and one page of lines, so
-/// that the sink is asked once for many lines.
+/// After an error a front of the report was written. The time grows with the number of nodes that fire a rule, for each
+/// pattern, and for a node with findings with its depth and theirs; besides, the siblings of what fires and of what stands
+/// above it are looked at once, and a byte for each node and pattern. Of the report one location is kept, and one page of
+/// lines, so that the sink is asked once for many lines.
 pub fn write_report<O: Sink>(
     alloc: Global,
     plan: &Plan,
@@ -64,8 +65,8 @@ pub fn write_report<O: Sink>(
     requires { IsReportable plan.now tree.now.nodes found.now }
     ensures { Reported (O.log sink.old) (O.log sink.new) (report plan.now tree.now.nodes (outcome_at found.now)) result }
 {
-    let nodes = tree.nodes_in_order(alloc)?;
-    let locator = Locator::new(alloc, tree, nodes.as_slice())?;
+    let nodes = found.told_in_order(alloc, tree)?;
+    let locator = Locator::of_nodes(alloc, tree, nodes.as_slice())?;
     tree.laws();
     let printer = Printer {
         alloc,
@@ -85,7 +86,7 @@ struct Printer<'a> {
     plan: &'a Plan,
     tree: &'a Tree,
     found: &'a Findings,
-    /// The nodes in document order.
+    /// Nodes in document order, among them all that fire a rule.
     nodes: &'a [NodeId],
     /// What finds the nodes of the tree.
     locator: &'a Locator<'a>,
@@ -149,7 +150,7 @@ impl Printer<'_> {
         self.write_nodes(p, &pattern.rules, sink)
     }
 
-    /// Writes what a pattern with these rules found at each node, in their order.
+    /// Writes what a pattern with these rules found at each node, in their order. The others have nothing to tell.
     fn write_nodes<O: Sink>(
         &self,
         p: u32,

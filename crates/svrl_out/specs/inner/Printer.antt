@@ -4,15 +4,14 @@ use Rattle.std.specs.List.{flat_map, enumerate_from}
 use Rattle.pyx_write.specs.Written.{end_line}
 use Rattle.doc_tree.specs.Lists.{mem}
 use Rattle.doc_tree.specs.Table.{is_live}
-use Rattle.doc_tree.specs.Walks.{order}
-use Rattle.sch_compiled.specs.Findings.{outcome_at}
+use Rattle.sch_compiled.specs.Findings.{ToldInOrder, outcome_at}
 use Rattle.sch_compiled.specs.declared.parts.PlanRule.{PlanRule}
 use Rattle.svrl_out.specs.declared.report.Printer.{Printer}
 use Rattle.svrl_out.specs.Report.{IsOutcomeOf, IsReportable, node_lines, ns_lines, pattern_lines, report}
 
--- the nodes and their locator are at hand, and what was found can be told
+-- the nodes that fire a rule and a locator are at hand, and what was found can be told
 pub record IsReady (p : Printer) : Type 0 where
-  pub nodes : p.nodes.now ≡ order p.tree.now.nodes
+  pub nodes : ToldInOrder p.tree.now.nodes p.found.now p.nodes.now
   pub live : (n : ℕ) → mem n p.nodes.now ≡ true → is_live p.tree.now.nodes n ≡ true
   pub locator : p.locator.now ≡ p.tree.now.nodes
   pub found : IsReportable p.plan.now p.tree.now.nodes p.found.now

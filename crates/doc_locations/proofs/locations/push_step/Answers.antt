@@ -1,33 +1,25 @@
--- The place in the table is that among the siblings of the node's kind.
-use Rattle.std.proofs.Common.{◌∙◌, Some, codes, ap, refl, slice_index_or}
+-- The place is that among the siblings of the node's kind.
+use Rattle.std.proofs.Common.{◌∙◌, Some, codes, ap, refl}
 use Rattle.doc_tree.specs.kind.Kind.TheVariants.{Element, Text, Comment, Pi}
-use Rattle.doc_locations.proofs.LocationLemmas.{place_is, kid_step_is}
+use Rattle.doc_locations.proofs.LocationLemmas.{kid_step_is}
 use Rattle.doc_locations.proofs.locations.push_step.Goals as goal
 
 pub returns-in-Element : goal.returns-in-Element
 returns-in-Element c =
     let kind = c.kind.ensures ∙ ap Some c.in-Element.is in
-    kid_step_is c.push_kid_step.result c.args.tree.now.nodes c.args.n _ Element (codes "*") _ _ kind refl
-    (ap (λ i. slice_index_or c.args.places.now i 0) c.index.ensures.value ∙ place_is c.args.tree.now.nodes c.args.places.now c.laws.ensures.well_formed c.laws.ensures.ways_up c.requires.places c.args.n Element c.requires.live kind refl)
-    c.push_kid_step.ensures
+    kid_step_is c.push_kid_step.result c.args.tree.now.nodes c.args.n _ Element (codes "*") _ _ kind refl (c.place_of.ensures Element kind refl) c.push_kid_step.ensures
 
 pub returns-in-Text : goal.returns-in-Text
 returns-in-Text c =
     let kind = c.kind.ensures ∙ ap Some c.in-Text.is in
-    kid_step_is c.push_kid_step-in-Text.result c.args.tree.now.nodes c.args.n _ Text (codes "text()") _ _ kind refl
-    (ap (λ i. slice_index_or c.args.places.now i 0) c.index.ensures.value ∙ place_is c.args.tree.now.nodes c.args.places.now c.laws.ensures.well_formed c.laws.ensures.ways_up c.requires.places c.args.n Text c.requires.live kind refl)
-    c.push_kid_step-in-Text.ensures
+    kid_step_is c.push_kid_step-in-Text.result c.args.tree.now.nodes c.args.n _ Text (codes "text()") _ _ kind refl (c.place_of-in-Text.ensures Text kind refl) c.push_kid_step-in-Text.ensures
 
 pub returns-in-Comment : goal.returns-in-Comment
 returns-in-Comment c =
     let kind = c.kind.ensures ∙ ap Some c.in-Comment.is in
-    kid_step_is c.push_kid_step-in-Comment.result c.args.tree.now.nodes c.args.n _ Comment (codes "comment()") _ _ kind refl
-    (ap (λ i. slice_index_or c.args.places.now i 0) c.index.ensures.value ∙ place_is c.args.tree.now.nodes c.args.places.now c.laws.ensures.well_formed c.laws.ensures.ways_up c.requires.places c.args.n Comment c.requires.live kind refl)
-    c.push_kid_step-in-Comment.ensures
+    kid_step_is c.push_kid_step-in-Comment.result c.args.tree.now.nodes c.args.n _ Comment (codes "comment()") _ _ kind refl (c.place_of-in-Comment.ensures Comment kind refl) c.push_kid_step-in-Comment.ensures
 
 pub returns-in-Pi : goal.returns-in-Pi
 returns-in-Pi c =
     let kind = c.kind.ensures ∙ ap Some c.in-Pi.is in
-    kid_step_is c.push_kid_step-in-Pi.result c.args.tree.now.nodes c.args.n _ Pi (codes "processing-instruction()") _ _ kind refl
-    (ap (λ i. slice_index_or c.args.places.now i 0) c.index.ensures.value ∙ place_is c.args.tree.now.nodes c.args.places.now c.laws.ensures.well_formed c.laws.ensures.ways_up c.requires.places c.args.n Pi c.requires.live kind refl)
-    c.push_kid_step-in-Pi.ensures
+    kid_step_is c.push_kid_step-in-Pi.result c.args.tree.now.nodes c.args.n _ Pi (codes "processing-instruction()") _ _ kind refl (c.place_of-in-Pi.ensures Pi kind refl) c.push_kid_step-in-Pi.ensures

@@ -9,7 +9,7 @@ loop-l-preserved g c =
     let plan = c.args.run.now.plan.now in
     let T = c.args.run.now.caller.tree.now.nodes in
     let within : c.loop-l.l < length c.args.run.now.plan.now.lets = omega arith in
-    let place : c.loop-l.l < length c.loop-l.self.let_reads.items = omega (arith, within, c.loop-l.invariant.alone.let_places, c.requires.places) in
+    let place : c.loop-l.l < length c.loop-l.self.let_reads.entries.items = omega (arith, within, c.loop-l.invariant.alone.let_places, c.requires.places) in
     record {
       alone = alone_on plan c.args.self.now c.loop-l.self c.refresh_let.new.self c.loop-l.invariant.alone c.in_ok-has_changed.ensures.alone;
       so_far = λ since keeps.

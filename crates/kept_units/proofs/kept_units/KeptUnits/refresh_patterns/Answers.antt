@@ -14,7 +14,7 @@ loop-p-preserved g c =
           let so_far = c.loop-p.invariant.so_far since keeps in
           pattern_on plan since T c.loop-p.p c.args.self.now c.loop-p.self c.refresh_pattern.new.self c.args.steps.now c.loop-p.steps c.refresh_pattern.new.steps low so_far
           (c.in_ok-refresh_pattern.ensures.refreshed since
-          (pattern_stays plan since T c.loop-p.p c.args.self.now c.loop-p.self c.args.changed.now.items c.loop-p.invariant.alone.lets
+          (pattern_stays plan since T c.loop-p.p c.args.self.now c.loop-p.self c.args.changed.now.items c.loop-p.invariant.alone.lets c.loop-p.invariant.alone.blocks
           (λ n. so_far.stays c.loop-p.p n low (omega arith)) (keeps c.loop-p.p low)));
       steps = omega (arith, c.loop-p.invariant.steps, c.in_ok-refresh_pattern.ensures.steps);
     }

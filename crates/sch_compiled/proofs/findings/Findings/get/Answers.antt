@@ -9,10 +9,10 @@ pub returns-in_err-get : goal.returns-in_err-get
 returns-in_err-get c =
     let was : c.args.self.now ≡ shown c.self.inside.patterns c.self.inside.cells.items = sym c.self.view_is in
     let low : c.args.p < c.self.inside.patterns = omega (arith, c.requires, ap (λ (t : OutcomeTable). t.patterns) was) in
-    rw (shown-at c.args.self.now c.self.inside.patterns c.args.p c.args.n c.self.inside.cells.items was low, ← c.place_of-place.ensures) (search rules)
+    rw (shown-at c.args.self.now c.self.inside.patterns c.args.p c.args.n c.self.inside.cells.items was low, ← c.place_of-place.ensures.place) (search rules)
 
 pub returns : goal.returns
 returns c =
     let was : c.args.self.now ≡ shown c.self.inside.patterns c.self.inside.cells.items = sym c.self.view_is in
     let low : c.args.p < c.self.inside.patterns = omega (arith, c.requires, ap (λ (t : OutcomeTable). t.patterns) was) in
-    rw (shown-at c.args.self.now c.self.inside.patterns c.args.p c.args.n c.self.inside.cells.items was low, ← c.place_of-place.ensures) (search rules)
+    rw (shown-at c.args.self.now c.self.inside.patterns c.args.p c.args.n c.self.inside.cells.items was low, ← c.place_of-place.ensures.place) (search rules)
