@@ -20,7 +20,10 @@ use Rattle.edit_session.specs.declared.state.Shown.TheVariants as shown
 use Rattle.sch_cli.specs.declared.status.Status.TheVariants as status
 use Rattle.sch_cli.specs.declared.stop.Stop.{Stop}
 use Rattle.sch_cli.specs.declared.stop.Stop.TheVariants.{Usage, SchemaRefused, DocumentRefused, ScriptRefused, Missing, ReadFault, WriteFault, Memory}
-use Rattle.sch_cli.specs.CommandOutput.{IsBegun, IsEnd, IsReadAlong, IsReadBy, IsReadFor, IsText, Treed}
+use Rattle.sch_cli.specs.declared.notice.Notice.{Notice}
+use Rattle.sch_cli.specs.Commands.{tell}
+use Rattle.sch_cli.specs.CommandOutput.{AreWritten, ComesTo, IsBegun, IsEnd, IsOutputOf, IsReadAlong, IsReadBy, IsReadFor, IsText, Treed}
+use Rattle.sch_cli.specs.Notices.{notice_text}
 use Rattle.sch_cli.specs.Output.{Output, ended, expanded, in_front, line_shown, state, status_shown}
 use Rattle.sch_cli.specs.Runs.{AppendsFront, Fronted, counted_if}
 use Rattle.sch_cli.specs.Stages.{BeginsStates, Expanding, Expansion, Following, Is, Planning, Scripting, States, Stating, Then, Treeing, Validating, refused_rule}
@@ -267,6 +270,12 @@ text_ends is_output comes_to comes_to_write old new text last may comes (Err sto
       is_front = appended.2;
       out = appended.3;
     }
+
+-- Notices
+
+pub notice_ends : (files : Files) (notice : Notice) (old new : SinkLog) (result : Result Shown Stop) → WroteText old new (notice_text notice) result → IfOk result (λ last. last ≡ shown.Clean) →
+    Concludes (IsOutputOf (Some (tell notice)) files) (ComesTo (Some (tell notice)) files) (AreWritten (Some (tell notice)) files) (Appends old.written new.written) result
+notice_ends files notice old new = text_ends (IsOutputOf (Some (tell notice)) files) (ComesTo (Some (tell notice)) files) (AreWritten (Some (tell notice)) files) old new (notice_text notice) shown.Clean refl refl
 
 -- Expansions
 

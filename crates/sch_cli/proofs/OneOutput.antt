@@ -34,7 +34,7 @@ use Rattle.sch_cli.specs.declared.refusal.FileRefusal.TheVariants.{TooLarge, Fau
 use Rattle.sch_cli.specs.declared.refusal.ScriptRefusal.TheVariants as script
 use Rattle.sch_cli.specs.declared.status.Status.TheVariants.{ScriptRefused}
 use Rattle.sch_cli.specs.Refusals.{script_refused_line}
-use Rattle.sch_cli.specs.Commands.{Command, expand, validate, follow, command_of}
+use Rattle.sch_cli.specs.Commands.{Command, tell, expand, validate, follow, command_of}
 use Rattle.sch_cli.specs.CommandOutput.{IsEnd, IsOutput, IsOutputOf}
 use Rattle.sch_cli.specs.Documents.{IsDocument, IsRefused}
 use Rattle.sch_cli.specs.Following.{Follows, comes_to_end, edit_line, edits, refused_line, refuses, stops_at, then_shown, under}
@@ -250,6 +250,7 @@ module _ (one_tree : OneTree) (one_inclusion : OneInclusion) (one_plan : OnePlan
     where
       by : (command : Option Command) → IsOutputOf command files a → IsOutputOf command files b → a ≡ b
       by None p q = p ∙ sym q
+      by (Some (tell notice)) p q = p ∙ sym q
       by (Some (expand schema)) p q = one-end (Expansion files schema) (one-expansion schema) a b p q
       by (Some (validate phase schema document)) p q = one-end (Validating files phase schema document) (one-validating phase schema document) a b p q
       by (Some (follow phase schema document script)) p q = one-end (Following files phase schema document script) (one-following phase schema document script) a b p q

@@ -11,7 +11,8 @@ use Rattle.sch_cli.specs.declared.status.Status.{Status}
 use Rattle.sch_cli.specs.declared.status.Status.TheVariants as status
 use Rattle.sch_cli.specs.declared.stop.Stop.{Stop}
 use Rattle.sch_cli.specs.declared.stop.Stop.TheVariants.{Memory}
-use Rattle.sch_cli.specs.Commands.{Command, validate, follow}
+use Rattle.sch_cli.specs.declared.notice.Notice.{Notice}
+use Rattle.sch_cli.specs.Commands.{Command, tell, validate, follow}
 use Rattle.sch_cli.specs.CommandOutput.{IsOpenedBy, IsOpenedFor, Opens, OpensBoth, Treed}
 use Rattle.sch_cli.specs.Runs.{IsLast, OpensDecided, OpensFiles, OpensOver, counted_if, is_status}
 use Rattle.sch_cli.specs.Stages.{Planning}
@@ -167,6 +168,18 @@ reads_written command old new value reads (Err stop) writing = record {
   named = if_none (λ told. IsLast told old.opened new.opened) (name_in stop) writing.unnamed;
   no_usage = writing.usage;
 }
+
+-- a notice opens nothing
+pub reads_notice : (notice : Notice) (state : ShelfState) (result : Result Shown Stop) → IfErr result IsOfWriting → ReadsAs (tell notice) state state result
+reads_notice notice state = reads_written {A = Unit {0}} (tell notice) state state tt (record {
+  held = refl;
+  opened = record { opened = []; noted = sym (append-nil state.opened); which = refl };
+  decided = λ files held ends. record { opened = []; noted = sym (append-nil state.opened); which = refl };
+  faults = refl;
+  misses = refl;
+  named = tt;
+  no_usage = refl;
+})
 
 -- Runs
 

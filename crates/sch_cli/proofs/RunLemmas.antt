@@ -1,5 +1,5 @@
 -- How what was carried out ends the run.
-use Rattle.std.proofs.Common.{◌≡◌, ℕ, true, false, List, [], Option, None, Some, MatchOption, Result, Ok, Err, refl, ap, sym, subst, ◌∙◌}
+use Rattle.std.proofs.Common.{◌≡◌, ◌↔◌, ℕ, true, false, List, [], Option, None, Some, MatchOption, Result, Ok, Err, refl, ap, sym, subst, ◌∙◌}
 use Rattle.std.proofs.KnownBytes.{Appends-nil}
 use Rattle.sch_io.specs.Files.{Files}
 use Rattle.sch_io.specs.SinkLog.{SinkLog}
@@ -77,6 +77,11 @@ not_usage (Ok shown.Clean) differs is = cc
 not_usage (Ok shown.Findings) differs is = cc
 not_usage (Ok shown.Fault) differs is = cc
 not_usage (Err stop) differs is = let same : is_status status.Usage (status_of stop) ≡ true = ap (is_status status.Usage) is in cc
+
+-- words that are accepted do not end the run as those that are not
+pub accepted : (asked : Option Command) (command : Command) (result : Result Shown Stop) → asked ≡ Some command → ends_with status.Usage result ≡ false →
+    (status_of_end result ≡ status.Usage) ↔ (asked ≡ None)
+accepted asked command result is differs = (λ ends. absurd (not_usage result differs ends), λ none. absurd (let clash : Some command ≡ None = sym is ∙ none in cc))
 
 pub ends_by : (ends : Status) (result : Result Shown Stop) → ends ≡ status_of_end result → EndsAs ends result
 ends_by ends result is = subst (λ (status : Status). EndsAs status result) (sym is) (ends_same result)

@@ -24,7 +24,7 @@ use Rattle.sch_cli.specs.declared.status.Status.{Status}
 use Rattle.sch_cli.specs.declared.status.Status.TheVariants as status
 use Rattle.sch_cli.specs.declared.stop.Stop.{Stop}
 use Rattle.sch_cli.specs.declared.stop.Stop.TheVariants.{Usage, SchemaRefused, DocumentRefused, ScriptRefused, Missing, ReadFault, WriteFault, Memory}
-use Rattle.sch_cli.specs.Commands.{Command, command_of, expand}
+use Rattle.sch_cli.specs.Commands.{Command, command_of}
 use Rattle.sch_cli.specs.CommandOutput.{Treed}
 use Rattle.sch_cli.specs.Following.{then_shown}
 use Rattle.sch_cli.specs.Runs.{AppendsFront, Fronted}
@@ -290,12 +290,12 @@ following_counts files phase schema document script plan T bytes before after re
 
 -- The words
 
--- an expansion makes no visits
-none_counted : (count : ℕ) (result : Result Shown Stop) → CountsBy (λ cost. cost ≡ 0) (status_of_end result) count count
-none_counted count (Ok Clean) = (0, refl, omega arith)
-none_counted count (Ok Findings) = (0, refl, omega arith)
-none_counted count (Ok Fault) = (0, refl, omega arith)
-none_counted count (Err stop) = still (λ cost. cost ≡ 0) count stop
+-- what makes no visits counts none
+none_counted : (costs : ℕ → Type 0) (count : ℕ) (result : Result Shown Stop) → costs 0 → CountsBy costs (status_of_end result) count count
+none_counted costs count (Ok Clean) none = (0, none, omega arith)
+none_counted costs count (Ok Findings) none = (0, none, omega arith)
+none_counted costs count (Ok Fault) none = (0, none, omega arith)
+none_counted costs count (Err stop) none = still costs count stop
 
 -- words that are not accepted count nothing
 pub no_counts : (words : List (List ℕ)) (files : Option Files) (before after : ℕ) → CountsOver files words status.Usage before after
@@ -309,9 +309,10 @@ carries_counts words None command ends before after is counts = tt
 carries_counts words (Some files) command ends before after is counts =
     subst (λ (asked : Option Command). CountsBy (Costs asked files) ends before after) (sym is) (counts files refl)
 
-pub carries_none : (words : List (List ℕ)) (files : Option Files) (schema : List ℕ) (count : ℕ) (result : Result Shown Stop) → command_of words ≡ Some (expand schema) →
-    CountsOver files words (status_of_end result) count count
-carries_none words files schema count result is = carries_counts words files (expand schema) (status_of_end result) count count is (λ held same. none_counted count result)
+pub carries_none : (words : List (List ℕ)) (files : Option Files) (command : Command) (count : ℕ) (result : Result Shown Stop) → command_of words ≡ Some command →
+    ((held : Files) → Costs (Some command) held 0) → CountsOver files words (status_of_end result) count count
+carries_none words files command count result is none =
+    carries_counts words files command (status_of_end result) count count is (λ held same. none_counted (Costs (Some command) held) count result (none held))
 
 -- the status of the run
 pub run_counts : (words : List (List ℕ)) (files : Option Files) (ends : Status) (result : Result Shown Stop) (before after : ℕ) → ends ≡ status_of_end result →

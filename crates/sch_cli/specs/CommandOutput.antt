@@ -9,8 +9,9 @@ use Rattle.sch_include.specs.Included.{Including}
 use Rattle.sch_include.specs.Taking.{fault_of}
 use Rattle.sch_compiled.specs.declared.plan.Plan.{Plan}
 use Rattle.sch_cli.specs.declared.status.Status.TheVariants.{Usage}
-use Rattle.sch_cli.specs.Commands.{Command, expand, validate, follow, command_of}
-use Rattle.sch_cli.specs.Output.{Output, stopped, usage_line}
+use Rattle.sch_cli.specs.Commands.{Command, tell, expand, validate, follow, command_of}
+use Rattle.sch_cli.specs.Notices.{notice_text}
+use Rattle.sch_cli.specs.Output.{Output, notice_output, stopped, usage_line}
 use Rattle.sch_cli.specs.Stages.{BeginsStates, Expansion, Following, Planning, Scripting, Treeing, Validating}
 
 -- the output of a run in stages, which comes to its end or is stopped
@@ -20,6 +21,7 @@ IsEnd stages output = stages (Ok output) ⊎ stages (Err output)
 -- the output of a command; words that are not accepted are none
 abbrev pub IsOutputOf : Option Command → Files → Output → Type 0
 IsOutputOf None files output = output ≡ stopped Usage usage_line
+IsOutputOf (Some (tell notice)) files output = output ≡ notice_output notice
 IsOutputOf (Some (expand schema)) files output = IsEnd (Expansion files schema) output
 IsOutputOf (Some (validate phase schema document)) files output = IsEnd (Validating files phase schema document) output
 IsOutputOf (Some (follow phase schema document script)) files output = IsEnd (Following files phase schema document script) output
@@ -49,6 +51,7 @@ pub record IsBegun (files : Files) (phase schema document script text : List ℕ
 -- the texts that a command comes to write: its whole output, and of a script that is followed each part up to a command
 abbrev pub AreWritten : Option Command → Files → List ℕ → Type 0
 AreWritten None files text = ⊥
+AreWritten (Some (tell notice)) files text = text ≡ notice_text notice
 AreWritten (Some (expand schema)) files text = IsText (Expansion files schema) text
 AreWritten (Some (validate phase schema document)) files text = IsText (Validating files phase schema document) text
 AreWritten (Some (follow phase schema document script)) files text = IsBegun files phase schema document script text
@@ -70,6 +73,7 @@ IsReadAlong files phase schema document script name =
 -- a command comes to read the file of that name
 abbrev pub ComesTo : Option Command → Files → List ℕ → Type 0
 ComesTo None files name = ⊥
+ComesTo (Some (tell notice)) files name = ⊥
 ComesTo (Some (expand schema)) files name = IsReadFor files schema name
 ComesTo (Some (validate phase schema document)) files name = IsReadBy files phase schema document name
 ComesTo (Some (follow phase schema document script)) files name = IsReadAlong files phase schema document script name
@@ -92,6 +96,7 @@ pub record OpensAll (schema document script : List ℕ) (opened : List (List ℕ
 -- the files that a command opens, in their order
 abbrev pub Opens : Option Command → List (List ℕ) → Type 0
 Opens None opened = opened ≡ []
+Opens (Some (tell notice)) opened = opened ≡ []
 Opens (Some (expand schema)) opened = OpensFor schema opened
 Opens (Some (validate phase schema document)) opened = OpensFor schema opened ⊎ OpensBoth schema document opened
 Opens (Some (follow phase schema document script)) opened =
@@ -120,6 +125,7 @@ pub record IsOpenedAlong (files : Files) (phase schema document script : List �
 
 abbrev pub IsOpenedBy : Option Command → Files → List (List ℕ) → Type 0
 IsOpenedBy None files opened = opened ≡ []
+IsOpenedBy (Some (tell notice)) files opened = opened ≡ []
 IsOpenedBy (Some (expand schema)) files opened = IsOpenedFor files schema opened
 IsOpenedBy (Some (validate phase schema document)) files opened =
     IsOpenedFor files schema opened ⊎ IsOpenedAfter files phase schema document opened

@@ -3,10 +3,13 @@ use Rattle.std.specs.Prelude.{ℕ, Bool, false, not, ◌&&◌, ◌==◌, if◌th
 use Rattle.std.specs.Str.{bytes_eq}
 use Rattle.sch_cli.specs.declared.command.Command.{Command as Borrowed}
 use Rattle.sch_cli.specs.declared.command.Command.TheVariants as borrowed
+use Rattle.sch_cli.specs.declared.notice.Notice.{Notice}
+use Rattle.sch_cli.specs.declared.notice.Notice.TheVariants.{Help, Version}
 
--- what accepted words ask for: to expand a schema, to validate by a phase and a schema a document, or to do the same after each
--- command of an edit script
+-- what accepted words ask for: to say something of the program, to expand a schema, to validate by a phase and a schema a document, or
+-- to do the same after each command of an edit script
 pub data Command : Type 0 where
+  tell : Notice → Command
   expand : List ℕ → Command
   validate : List ℕ → List ℕ → List ℕ → Command
   follow : List ℕ → List ℕ → List ℕ → List ℕ → Command
@@ -24,6 +27,12 @@ is_of_phase option phase = bytes_eq option (codes "--phase") && not (length phas
 abbrev pub default_phase : List ℕ
 default_phase = codes "#DEFAULT"
 
+-- `--help` and `--version`
+abbrev pub notice_of : List ℕ → Option Command
+notice_of word =
+    if bytes_eq word (codes "--help") then Some (tell Help) else
+    if bytes_eq word (codes "--version") then Some (tell Version) else None
+
 -- `expand S`
 abbrev pub expansion_of : List ℕ → List ℕ → Option Command
 expansion_of verb schema = if bytes_eq verb (codes "expand") && is_file_name schema then Some (expand schema) else None
@@ -39,9 +48,10 @@ following_of verb phase schema document script =
     if bytes_eq verb (codes "follow") && is_file_name schema && is_file_name document && is_file_name script
     then Some (follow phase schema document script) else None
 
--- `expand S`, `validate S D`, `validate --phase P S D`, `follow S D E`, `follow --phase P S D E`, where P is not empty; no other
--- words are accepted
+-- `--help`, `--version`, `expand S`, `validate S D`, `validate --phase P S D`, `follow S D E`, `follow --phase P S D E`, where P is not
+-- empty; no other words are accepted
 abbrev pub command_of : List (List ℕ) → Option Command
+command_of (word ∷ []) = notice_of word
 command_of (verb ∷ schema ∷ []) = expansion_of verb schema
 command_of (verb ∷ schema ∷ document ∷ []) = validation_of verb default_phase schema document
 command_of (verb ∷ schema ∷ document ∷ script ∷ []) = following_of verb default_phase schema document script
@@ -53,6 +63,7 @@ command_of words = None
 
 -- what the program's own type of command says
 abbrev pub shown : Borrowed → Command
+shown (borrowed.Tell notice) = tell notice
 shown (borrowed.Expand schema) = expand schema.now
 shown (borrowed.Validate asked) = validate asked.phase.now asked.schema.now asked.document.now
 shown (borrowed.Follow asked) = follow asked.validation.phase.now asked.validation.schema.now asked.validation.document.now asked.script.now

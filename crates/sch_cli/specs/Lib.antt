@@ -1,3 +1,4 @@
+pub mod Notices
 pub mod Commands
 pub mod Documents
 pub mod Refusals

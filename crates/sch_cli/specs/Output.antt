@@ -9,8 +9,10 @@ use Rattle.sch_compiled.specs.declared.plan.Plan.{Plan}
 use Rattle.edit_session.specs.State.{shows, state_text}
 use Rattle.edit_session.specs.declared.state.Shown.{Shown}
 use Rattle.edit_session.specs.declared.state.Shown.TheVariants as shown
+use Rattle.sch_cli.specs.declared.notice.Notice.{Notice}
 use Rattle.sch_cli.specs.declared.status.Status.{Status}
 use Rattle.sch_cli.specs.declared.status.Status.TheVariants.{Clean, Findings, Faulted}
+use Rattle.sch_cli.specs.Notices.{notice_text}
 
 pub record Output : Type 0 where
   pub out : List ℕ
@@ -59,6 +61,10 @@ ended text last = record { out = text; err = line_shown last; ends = status_show
 -- a text in front of what else is written
 abbrev pub in_front : List ℕ → Output → Output
 in_front text output = record { out = text ++ output.out; err = output.err; ends = output.ends }
+
+-- what the program says of itself, which shows nothing to be found
+abbrev pub notice_output : Notice → Output
+notice_output notice = ended (notice_text notice) shown.Clean
 
 -- a schema without abstract parts, as the text of its document
 abbrev pub expanded : FlatSchema → Output

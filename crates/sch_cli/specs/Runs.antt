@@ -12,7 +12,7 @@ use Rattle.sch_cli.specs.declared.refusal.DocumentRefusal.{DocumentRefusal}
 use Rattle.sch_cli.specs.declared.refusal.SchemaRefusal.{SchemaRefusal}
 use Rattle.sch_cli.specs.declared.refusal.ScriptRefusal.{ScriptRefusal}
 use Rattle.sch_cli.specs.Refusals.{document_refused_line, file_in, schema_refused_line, script_refused_line}
-use Rattle.sch_cli.specs.Commands.{Command, expand, validate, follow, command_of}
+use Rattle.sch_cli.specs.Commands.{Command, tell, expand, validate, follow, command_of}
 use Rattle.sch_cli.specs.Output.{Output, usage_line, faulted_line, missing_line, read_fault_line, write_fault_line, memory_line}
 use Rattle.sch_cli.specs.CommandOutput.{AreWritten, ComesTo, IsOpenedBy, IsOutput, Opens}
 
@@ -128,9 +128,10 @@ may_write ReadFault = false
 may_write WriteFault = true
 may_write Memory = true
 
--- whether a run of a command that ends so may have evaluated: expansions never do
+-- whether a run of a command that ends so may have evaluated: notices and expansions never do
 abbrev pub may_evaluate : Option Command → Status → Bool
 may_evaluate None status = false
+may_evaluate (Some (tell notice)) status = false
 may_evaluate (Some (expand schema)) status = false
 may_evaluate (Some (validate phase schema document)) status = may_write status
 may_evaluate (Some (follow phase schema document script)) status = may_write status

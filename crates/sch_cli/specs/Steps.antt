@@ -15,7 +15,7 @@ use Rattle.edit_costs.specs.Dirty.{dirty_units}
 use Rattle.edit_costs.specs.Units.{units_of}
 use Rattle.sch_cli.specs.declared.status.Status.{Status}
 use Rattle.sch_cli.specs.declared.status.Status.TheVariants.{Clean, Findings, ScriptRefused, Faulted}
-use Rattle.sch_cli.specs.Commands.{Command, expand, validate, follow, command_of}
+use Rattle.sch_cli.specs.Commands.{Command, tell, expand, validate, follow, command_of}
 use Rattle.sch_cli.specs.CommandOutput.{Treed}
 use Rattle.sch_cli.specs.Following.{under}
 use Rattle.sch_cli.specs.Stages.{Scripting}
@@ -56,9 +56,10 @@ pub record FollowingCosts (files : Files) (phase schema document script : List �
   pub edits : EditsCost plan tree (script_of bytes) later
   pub costs : cost ≡ first_cost plan tree + later
 
--- the visits of a command that comes to its states; an expansion makes none
+-- the visits of a command that comes to its states; a notice and an expansion make none
 abbrev pub Costs : Option Command → Files → ℕ → Type 0
 Costs None files cost = cost ≡ 0
+Costs (Some (tell notice)) files cost = cost ≡ 0
 Costs (Some (expand schema)) files cost = cost ≡ 0
 Costs (Some (validate phase schema document)) files cost = ValidationCosts files phase schema document cost
 Costs (Some (follow phase schema document script)) files cost = FollowingCosts files phase schema document script cost

@@ -1,8 +1,9 @@
 //! Which words are accepted, and what they ask for.
 
 ghost use Rattle.std.specs.Prelude.{◌≡◌, MatchOption, Some, None};
-ghost use Rattle.sch_cli.specs.Commands.{command_of, expansion_of, following_of, is_file_name, is_of_phase, shown, validation_of};
+ghost use Rattle.sch_cli.specs.Commands.{command_of, expansion_of, following_of, is_file_name, is_of_phase, notice_of, shown, validation_of};
 
+use crate::notice::Notice;
 use sch_base::Text;
 
 /// The phase where none is named: the one that the schema chooses.
@@ -26,6 +27,8 @@ pub struct ScriptedValidation<'a> {
 /// What accepted words ask for.
 #[derive(Debug, Drop)]
 pub enum Command<'a> {
+    /// Write what the program says of itself.
+    Tell(Notice),
     /// Write the schema expanded.
     Expand { schema: &'a Text },
     /// Validate a document, and write the report.
@@ -47,6 +50,17 @@ fn is_of_phase(option: &Text, phase: &Text) -> bool
     ensures { result ≡ is_of_phase option.now phase.now }
 {
     option.as_str() == "--phase" && !phase.as_str().is_empty()
+}
+
+/// The notice that the word asks for.
+fn notice_of(word: &Text) -> Option<Command<'_>>
+    ensures { MatchOption result (notice_of word.now ≡ None) (λ command. notice_of word.now ≡ Some (shown command)) }
+{
+    match word.as_str() {
+        "--help" => Some(Command::Tell(Notice::Help)),
+        "--version" => Some(Command::Tell(Notice::Version)),
+        _ => None,
+    }
 }
 
 /// The expansion that the words ask for.
@@ -97,6 +111,7 @@ pub fn command_of(words: &[Text]) -> Option<Command<'_>>
     ensures { MatchOption result (command_of words.now ≡ None) (λ command. command_of words.now ≡ Some (shown command)) }
 {
     match words {
+        [word] => notice_of(word),
         [verb, schema] => expansion_of(verb, schema),
         [verb, schema, document] => {
             let phase = DEFAULT_PHASE;

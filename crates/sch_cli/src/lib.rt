@@ -7,6 +7,7 @@ mod expansion;
 mod following;
 mod laws;
 mod loading;
+mod notice;
 mod program;
 mod refusal;
 mod schema;

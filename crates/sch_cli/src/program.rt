@@ -12,6 +12,7 @@ ghost use Rattle.sch_cli.specs.inner.Stops.{ConcludesOver, EndsAs, Names, ends_w
 use crate::command::{Command, command_of};
 use crate::expansion::expand_schema;
 use crate::following::follow;
+use crate::notice::write_notice;
 use crate::status::Status;
 use crate::stop::Stop;
 use crate::validation::validate;
@@ -22,8 +23,8 @@ use std::alloc::Global;
 use std::sync::ledger::Ledger;
 use xp_outcome::Steps;
 
-/// Carries out what the words ask for, over the files of the shelf: the reports or the expanded schema go to `out`, and where the
-/// run was stopped or a state of it is a fault its one line goes to `err`, whose failure changes no status.
+/// Carries out what the words ask for, over the files of the shelf: the reports, the expanded schema or a notice go to `out`, and
+/// where the run was stopped or a state of it is a fault its one line goes to `err`, whose failure changes no status.
 #[tactic(auto, using(crate::proofs::RunLemmas::run_ends, crate::proofs::RunLemmas::line_named))]
 pub fn run<S: Shelf, O: Sink, E: Sink, L: Ledger>(
     alloc: Global,
@@ -81,6 +82,7 @@ fn carry_out<S: Shelf, O: Sink, L: Ledger>(
 {
     match command_of(words.as_slice()) {
         None => Err(Stop::Usage),
+        Some(Command::Tell(notice)) => write_notice(notice, out),
         Some(Command::Expand { schema }) => expand_schema(alloc, schema, shelf, out),
         Some(Command::Validate(asked)) => validate(alloc, asked, shelf, out, steps),
         Some(Command::Follow(asked)) => follow(alloc, asked, shelf, out, steps),

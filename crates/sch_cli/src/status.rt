@@ -6,7 +6,7 @@ ghost use Rattle.sch_cli.specs.Status.{code_of};
 /// How a run ended; its code is the exit status of the program.
 #[derive(Clone, Copy, Debug, PartialEq, Eq)]
 pub enum Status {
-    /// The report has no finding, or the expanded schema was written.
+    /// The report has no finding, or the expanded schema or a notice was written.
     Clean,
     /// The report has a finding.
     Findings,

@@ -1,9 +1,10 @@
 -- What the words ask for ends the run.
 use Rattle.std.proofs.Common.{◌∙◌, Some, ap, refl}
 use Rattle.sch_cli.specs.declared.command.Command.TheVariants as borrowed
-use Rattle.sch_cli.specs.Commands.{command_of, expand, follow, validate}
-use Rattle.sch_cli.proofs.OpenLemmas.{asked_decides, asked_opens}
-use Rattle.sch_cli.proofs.RunLemmas.{asks, asks_nothing, carries, carries_nothing, evaluates_asked}
+use Rattle.sch_cli.specs.Commands.{command_of, expand, follow, tell, validate}
+use Rattle.sch_cli.proofs.EndLemmas.{not_untouched, notice_ends}
+use Rattle.sch_cli.proofs.OpenLemmas.{asked_decides, asked_opens, reads_notice}
+use Rattle.sch_cli.proofs.RunLemmas.{accepted, asks, asks_nothing, carries, carries_nothing, evaluates_asked}
 use Rattle.sch_cli.specs.inner.Stops.{status_of_end}
 use Rattle.sch_cli.proofs.StepLemmas.{carries_counts, carries_none, no_counts}
 use Rattle.sch_cli.proofs.program.carry_out.Goals as goal
@@ -11,6 +12,53 @@ use Rattle.sch_cli.proofs.program.carry_out.Goals as goal
 pub returns-in-None-clause-whole : goal.returns-in-None-clause-whole
 returns-in-None-clause-whole g c =
     carries_nothing c.args.words.now _ _ (rw (← c.as_slice.ensures) (asks_nothing c.as_slice.result.now c.command_of.result c.command_of.ensures c.in-None.is))
+
+pub returns-in-Some-Tell-clause-whole : goal.returns-in-Some-Tell-clause-whole
+returns-in-Some-Tell-clause-whole g c =
+    let at = c.in-Some-Tell in
+    carries c.args.words.now _ (tell at.notice) _ c.write_notice.result
+    (rw (← c.as_slice.ensures) (asks c.as_slice.result.now c.command_of.result (borrowed.Tell at.notice) c.command_of.ensures (at.is ∙ ap Some at.field-0-is)))
+    (λ files held. notice_ends files at.notice _ _ c.write_notice.result c.write_notice.ensures.wrote c.write_notice.ensures.shown)
+
+pub returns-in-Some-Tell-clause-named : goal.returns-in-Some-Tell-clause-named
+returns-in-Some-Tell-clause-named g c = (reads_notice c.in-Some-Tell.notice (g.S.Shelf.state c.args.shelf.now) c.write_notice.result c.write_notice.ensures.wrote.writing).named
+
+pub returns-in-Some-Tell-clause-usage : goal.returns-in-Some-Tell-clause-usage
+returns-in-Some-Tell-clause-usage g c =
+    let at = c.in-Some-Tell in
+    accepted (command_of c.args.words.now) (tell at.notice) c.write_notice.result
+    (rw (← c.as_slice.ensures) (asks c.as_slice.result.now c.command_of.result (borrowed.Tell at.notice) c.command_of.ensures (at.is ∙ ap Some at.field-0-is)))
+    (reads_notice at.notice (g.S.Shelf.state c.args.shelf.now) c.write_notice.result c.write_notice.ensures.wrote.writing).no_usage
+
+pub returns-in-Some-Tell-clause-opened : goal.returns-in-Some-Tell-clause-opened
+returns-in-Some-Tell-clause-opened g c =
+    let at = c.in-Some-Tell in
+    asked_opens (command_of c.args.words.now) (tell at.notice) _ _ c.write_notice.result
+    (rw (← c.as_slice.ensures) (asks c.as_slice.result.now c.command_of.result (borrowed.Tell at.notice) c.command_of.ensures (at.is ∙ ap Some at.field-0-is)))
+    (reads_notice at.notice (g.S.Shelf.state c.args.shelf.now) c.write_notice.result c.write_notice.ensures.wrote.writing)
+
+pub returns-in-Some-Tell-clause-decided : goal.returns-in-Some-Tell-clause-decided
+returns-in-Some-Tell-clause-decided g c =
+    let at = c.in-Some-Tell in
+    asked_decides (command_of c.args.words.now) (tell at.notice) (g.S.Shelf.state c.args.shelf.now) (g.S.Shelf.state c.args.shelf.now) c.write_notice.result
+    (rw (← c.as_slice.ensures) (asks c.as_slice.result.now c.command_of.result (borrowed.Tell at.notice) c.command_of.ensures (at.is ∙ ap Some at.field-0-is)))
+    (reads_notice at.notice (g.S.Shelf.state c.args.shelf.now) c.write_notice.result c.write_notice.ensures.wrote.writing)
+
+pub returns-in-Some-Tell-clause-misses : goal.returns-in-Some-Tell-clause-misses
+returns-in-Some-Tell-clause-misses g c = (reads_notice c.in-Some-Tell.notice (g.S.Shelf.state c.args.shelf.now) c.write_notice.result c.write_notice.ensures.wrote.writing).misses
+
+pub returns-in-Some-Tell-clause-read_faults : goal.returns-in-Some-Tell-clause-read_faults
+returns-in-Some-Tell-clause-read_faults g c = (reads_notice c.in-Some-Tell.notice (g.S.Shelf.state c.args.shelf.now) c.write_notice.result c.write_notice.ensures.wrote.writing).faults
+
+pub returns-in-Some-Tell-clause-untouched : goal.returns-in-Some-Tell-clause-untouched
+returns-in-Some-Tell-clause-untouched g c = λ untouched. absurd (not_untouched c.write_notice.result c.write_notice.ensures.wrote.writing untouched)
+
+pub returns-in-Some-Tell-clause-counted : goal.returns-in-Some-Tell-clause-counted
+returns-in-Some-Tell-clause-counted g c =
+    let at = c.in-Some-Tell in
+    carries_none c.args.words.now (g.S.Shelf.state c.args.shelf.now).files (tell at.notice) c.args.steps.now c.write_notice.result
+    (rw (← c.as_slice.ensures) (asks c.as_slice.result.now c.command_of.result (borrowed.Tell at.notice) c.command_of.ensures (at.is ∙ ap Some at.field-0-is)))
+    (λ held. refl)
 
 pub returns-in-Some-Expand-clause-whole : goal.returns-in-Some-Expand-clause-whole
 returns-in-Some-Expand-clause-whole g c =
@@ -97,8 +145,9 @@ returns-in-None-clause-counted g c = no_counts c.args.words.now (g.S.Shelf.state
 pub returns-in-Some-Expand-clause-counted : goal.returns-in-Some-Expand-clause-counted
 returns-in-Some-Expand-clause-counted g c =
     let at = c.in-Some-Expand in
-    carries_none c.args.words.now (g.S.Shelf.state c.args.shelf.now).files at.schema.now c.args.steps.now c.expand_schema.result
+    carries_none c.args.words.now (g.S.Shelf.state c.args.shelf.now).files (expand at.schema.now) c.args.steps.now c.expand_schema.result
     (rw (← c.as_slice.ensures) (asks c.as_slice.result.now c.command_of.result (borrowed.Expand at.schema) c.command_of.ensures (at.is ∙ ap Some at.field-0-is)))
+    (λ held. refl)
 
 pub returns-in-Some-Validate-clause-counted : goal.returns-in-Some-Validate-clause-counted
 returns-in-Some-Validate-clause-counted g c =
