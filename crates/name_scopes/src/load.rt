@@ -61,6 +61,9 @@ pub fn load_tree(alloc: Global, bytes: &[u8]) -> Result<Tree, LoadError>
     }
 }
 
+/// The least length of a piece that does not end a document, in bytes.
+const PIECE: usize = 65_536;
+
 /// The next piece of a document and what follows it: some thousand lines, which no piece cuts. The events that a piece
 /// completes enter the tree before the next one is read.
 fn split_piece(bytes: &[u8]) -> (&[u8], &[u8])
@@ -68,7 +71,7 @@ fn split_piece(bytes: &[u8]) -> (&[u8], &[u8])
     ensures parts { bytes.now ≡ result.0.now ++ result.1.now }
     ensures shorter { length result.1.now < length bytes.now }
 {
-    let least = bytes.len().min(65_536);
+    let least = bytes.len().min(PIECE);
     let end = match bytes[least..].iter().position(|b| *b == b'\n') {
         Some(more) => least + more + 1,
         None => bytes.len(),

@@ -12,13 +12,15 @@ pub(crate) struct QName<'a> {
 }
 
 /// Splits a QName at its first colon.
-#[tactic(auto, using(sch_base::proofs::Lists::none_passes))]
 pub(crate) fn split(name: &str) -> QName
     ensures prefix { result.prefix.now ≡ prefix_part name.now }
     ensures local { result.local.now ≡ local_part name.now }
 {
-    match name.split_once(':') {
-        Some((prefix, local)) => QName { prefix, local },
+    match memchr::memchr(b':', name.as_bytes()) {
+        Some(at) => QName {
+            prefix: &name[..at],
+            local: &name[at + 1..],
+        },
         None => QName {
             prefix: "",
             local: name,

@@ -1,4 +1,6 @@
 pub mod LinesLemmas
+pub mod ByteLemmas
+pub mod EndLemmas
 pub mod EscapeLemmas
 pub mod EventCountLemmas
 pub mod CuttingLemmas
@@ -7,6 +9,7 @@ pub mod LineLemmas
 pub mod LineTableLemmas
 pub mod NameBytes
 pub mod NestingLemmas
+pub mod PlainLemmas
 pub mod ReaderLemmas
 pub mod ReadBack
 pub mod ReplayLemmas

@@ -95,7 +95,7 @@ good_unless : (mode : Mode) (before : List Line) (line : Line) (breaks : Option 
 good_unless mode before line None made is = (made, is)
 good_unless mode before line (Some kind) made is = tt
 
-good_placed : (mode : Mode) (before : List Line) (found : Result Line PyxKind) → IfMade found → IfGood mode before (placed mode before found)
+pub good_placed : (mode : Mode) (before : List Line) (found : Result Line PyxKind) → IfMade found → IfGood mode before (placed mode before found)
 good_placed mode before (Ok line) made = good_unless mode before line (misplaced mode before line) made refl
 good_placed mode before (Err kind) made = tt
 
@@ -181,7 +181,7 @@ start_nests mode before name well made second =
     (well_more mode (bare (ended mode before)) (place_of mode before) (event.Start name []) well
     (record { room = second; named = made; attributes = refl }))
 
-innermost : (name : List ℕ) (names : List (List ℕ)) → is_innermost name names ≡ true → names ≡ name ∷ outer names
+pub innermost : (name : List ℕ) (names : List (List ℕ)) → is_innermost name names ≡ true → names ≡ name ∷ outer names
 innermost name [] h = absurd (cc)
 innermost name (top ∷ names) h = ap (λ n. n ∷ names) ((bytes_eq-Decides top name).0 h)
 

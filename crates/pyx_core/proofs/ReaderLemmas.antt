@@ -14,6 +14,7 @@ use Rattle.pyx_core.specs.inner.ReaderFields.{state_of, kept_in, error_of, stops
 use Rattle.pyx_core.specs.inner.ReadAll.{ReadsAll}
 use Rattle.pyx_core.specs.Reading.{Judged, so_far, completed, fault_so_far, or_lacking, fault_of, events_unless, events_before_fault, sound, IfFault}
 use Rattle.pyx_core.specs.Lines.{ended_lines, unended}
+use Rattle.pyx_core.proofs.EndLemmas.{named_good}
 use Rattle.pyx_core.proofs.JudgeLemmas.{judged_stopped}
 
 -- what is kept is what follows from the bytes
@@ -52,6 +53,7 @@ keeps_from lines stopped mode fed taken reads = record {
     reads = record {
       mode_is = ap (λ k. k.mode) reads.keeps;
       opened = ap (λ k. k.opened) reads.keeps;
+      named = named_good mode [] (ended_lines fed) (so_far mode fed).before refl (good_from (so_far mode fed) reads.good);
       item = ap (λ k. k.has_item) reads.keeps;
       told = record { completed = reads.events; begun_is = ap (λ k. k.begun) reads.keeps };
     };

@@ -74,7 +74,7 @@ start_is name h =
     let parts = and_parts (of_chars name) _ h in
     line_is (40 ∷ name) (mark_made 40 name (omega arith) mark_start parts.0) ∙ rw parts.1 refl
 
-end_is : (name : List ℕ) → is_name name ≡ true → line_of (41 ∷ name) ≡ Ok (End name)
+pub end_is : (name : List ℕ) → is_name name ≡ true → line_of (41 ∷ name) ≡ Ok (End name)
 end_is name h =
     let parts = and_parts (of_chars name) _ h in
     line_is (41 ∷ name) (mark_made 41 name (omega arith) mark_end parts.0) ∙ rw parts.1 refl

@@ -20,7 +20,7 @@ use Rattle.pyx_core.specs.declared.standing.Standing.{Standing}
 use Rattle.pyx_core.specs.declared.begun.Begun.{Begun}
 use Rattle.pyx_core.specs.declared.begun.Begun.TheVariants as begun
 use Rattle.pyx_core.specs.Before.{outer, outermost_first, open_names, has_item, closed, completed_by, lacking, takes_attribute, pending, is_outside, kept, attr_onto, with_attr, begin_text, text_onto, with_text}
-use Rattle.pyx_core.specs.inner.Standing.{HasRead, Settles, TakesLine, TakesGoodLast, TakesLast}
+use Rattle.pyx_core.specs.inner.Standing.{AreNamed, HasRead, Settles, TakesLine, TakesGoodLast, TakesLast}
 use Rattle.pyx_core.specs.inner.Begun.{shown, Goes}
 
 pub length_outermost_first : (names : List (List ℕ)) → length (outermost_first names) ≡ length names
@@ -95,12 +95,12 @@ popped items rest count (name ∷ names) is counted pops =
 -- a line that left its traces was read
 pub settles : {T E : Type 0} (standing : Standing) (mode : Mode) (taken : List Located) (before : List Line) (line : Line)
     (result : Result T E) → standing.mode ≡ mode → standing.opened.items ≡ outermost_first (open_names (line ∷ before)) →
-    standing.has_item ≡ has_item mode (line ∷ before) →
+    AreNamed (line ∷ before) → standing.has_item ≡ has_item mode (line ∷ before) →
     Goes standing.events taken (closed mode before) (completed_by mode before line) (pending mode (line ∷ before)) result →
     Settles standing mode taken before line result
-settles standing mode taken before line (Ok x) mode_is opened item goes =
-    record { mode_is = mode_is; opened = opened; item = item; told = goes }
-settles standing mode taken before line (Err e) mode_is opened item goes = goes
+settles standing mode taken before line (Ok x) mode_is opened named item goes =
+    record { mode_is = mode_is; opened = opened; named = named; item = item; told = goes }
+settles standing mode taken before line (Err e) mode_is opened named item goes = goes
 
 -- the rule that a second item at the top breaks
 abbrev pub second : Bool → Option PyxKind

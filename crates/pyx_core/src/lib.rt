@@ -9,6 +9,7 @@ mod fault;
 mod laws;
 mod line_table;
 mod mode;
+mod plain;
 mod reader;
 mod reading;
 mod standing;

@@ -7,6 +7,7 @@ ghost use Rattle.sch_base.specs.Characters.{is_xml_char};
 ghost use Rattle.pyx_core.specs.LineTable.{is_space, is_qname, is_target, name_part, read_start, read_end, read_chars, read_comment, read_attribute, read_pi, read_marked, read_text, line_of};
 
 use crate::escapes::unescape;
+use crate::plain::{is_plain_name, is_plain_text};
 use crate::{Attr, PyxKind};
 use sch_base::{Text, is_ncname, is_xml_char, split_qname};
 use std::alloc::{AllocError, Global};
@@ -51,7 +52,17 @@ fn utf8_text(bytes: &[u8]) -> Option<&str>
 }
 
 /// Whether each character is a Char (XML 1.0, section 2.2).
+///
+/// The characters are decoded only where the bytes are not all of ASCII.
+#[tactic(auto, using(crate::proofs::PlainLemmas::plain_text))]
 fn is_of_chars(text: &str) -> bool
+    ensures { result ≡ list_all is_xml_char (chars text.now) }
+{
+    is_plain_text(text.as_bytes()) || are_chars(text)
+}
+
+/// Whether each character is a Char, one decoded after the other.
+fn are_chars(text: &str) -> bool
     ensures { result ≡ list_all is_xml_char (chars text.now) }
 {
     text.chars().all(|c| is_xml_char(c))
@@ -86,10 +97,13 @@ fn read_marked(alloc: Global, mark: char, body: &str) -> Result<Result<Line, Pyx
 }
 
 /// Whether the text is a QName (Namespaces in XML 1.0, section 4).
+///
+/// The characters are decoded only where the name has a colon or bytes that are not of ASCII.
+#[tactic(auto, using(crate::proofs::PlainLemmas::plain_name))]
 fn is_qname(text: &str) -> bool
     ensures { result ≡ is_qname text.now }
 {
-    split_qname(text).is_some()
+    is_plain_name(text.as_bytes()) || split_qname(text).is_some()
 }
 
 /// Whether the text is the target of a processing instruction (XML 1.0, section 2.6).
@@ -134,13 +148,12 @@ fn read_comment(alloc: Global, body: &str) -> Result<Result<Line, PyxKind>, Allo
 }
 
 /// A name and what is after the space that ends it, still escaped; without a space there is nothing after it.
-#[tactic(auto, using(crate::proofs::LineTableLemmas::before_none, crate::proofs::LineTableLemmas::after_none))]
 fn parts(body: &str) -> (&str, &str)
     ensures name { result.0.now ≡ name_part body.now }
     ensures text { result.1.now ≡ after_first is_space body.now }
 {
-    match body.split_once(' ') {
-        Some((name, text)) => (name, text),
+    match memchr::memchr(b' ', body.as_bytes()) {
+        Some(at) => (&body[..at], &body[at + 1..]),
         None => (body, ""),
     }
 }

@@ -9,9 +9,9 @@ ghost use Rattle.pyx_core.specs.declared.event.Located.{Located};
 ghost use Rattle.pyx_core.specs.declared.line_table.Line.{Line};
 ghost use Rattle.pyx_core.specs.declared.mode.Mode.{Mode};
 ghost use Rattle.pyx_core.specs.declared.mode.Mode.TheVariants.{Fragment};
-ghost use Rattle.pyx_core.specs.Before.{is_fragment, is_second, has_item, makes_item, misplaced, lacking, kept, is_outside, at_top, open_names, is_innermost, takes_attribute, is_text, pending};
+ghost use Rattle.pyx_core.specs.Before.{is_fragment, is_second, has_item, makes_item, misplaced, lacking, kept, is_outside, at_top, open_names, outer, is_innermost, takes_attribute, is_text, pending};
 ghost use Rattle.pyx_core.specs.Reading.{judge};
-ghost use Rattle.pyx_core.specs.inner.Standing.{HasRead, Settles, TakesLine, TakesLast};
+ghost use Rattle.pyx_core.specs.inner.Standing.{AreNamed, ends_innermost, HasRead, Settles, TakesLine, TakesLast};
 
 use crate::begun::{Begun, Events};
 use crate::line_table::{Line, line_of};
@@ -109,12 +109,24 @@ impl Standing {
         self.opened.is_empty()
     }
 
-    fn is_innermost(&self, name: &Text) -> bool
+    /// Whether the innermost open element has the name with these bytes.
+    fn is_innermost(&self, name: &[u8]) -> bool
         ensures { (mode : Mode) (taken : List Located) (before : List Line) → HasRead self.now mode taken before →
             result ≡ is_innermost name.now (open_names before) }
     {
         match self.opened.last() {
-            Some(top) => top.as_str() == name.as_str(),
+            Some(top) => top.as_str().as_bytes() == name,
+            None => false,
+        }
+    }
+
+    /// Whether the line with these bytes is `)` and the name of the innermost open element.
+    fn ends_innermost(&self, bytes: &[u8]) -> bool
+        ensures { (mode : Mode) (taken : List Located) (before : List Line) → HasRead self.now mode taken before →
+            result ≡ ends_innermost bytes.now (open_names before) }
+    {
+        match bytes.split_first() {
+            Some((mark, name)) => *mark == b')' && self.is_innermost(name),
             None => false,
         }
     }
@@ -151,7 +163,9 @@ impl Standing {
         match line {
             Line::Skipped => None,
             Line::Attribute { .. } => (!self.takes_attribute()).then_some(PyxKind::AttributePlace),
-            Line::End { name } => (!self.is_innermost(name)).then_some(PyxKind::WrongEnd),
+            Line::End { name } => (!self.is_innermost(name.as_str().as_bytes())).then_some(
+                PyxKind::WrongEnd,
+            ),
             Line::Chars { text } => self.misplaced_text(text),
             Line::Start { .. } => self.is_second(line).then_some(PyxKind::SecondRoot),
             Line::Pi { .. } => self.is_second(line).then_some(PyxKind::SecondRoot),
@@ -206,7 +220,7 @@ impl Standing {
     /// Takes a line that has its place.
     fn settle(&mut self, alloc: Global, number: u64, line: Line) -> Result<(), AllocError>
         ensures { (mode : Mode) (taken : List Located) (before : List Line) → HasRead self.old mode taken before →
-            number ≡ suc (length before) → Settles self.new mode taken before line result }
+            number ≡ suc (length before) → AreNamed (line ∷ before) → Settles self.new mode taken before line result }
     {
         let is_outside = self.is_outside();
         self.has_item = self.has_item_after(&line);
@@ -230,6 +244,18 @@ impl Standing {
         }
     }
 
+    /// Ends the innermost open element, whose name becomes that of the event.
+    fn end_innermost(&mut self, number: u64) -> Result<(), AllocError>
+        ensures { (mode : Mode) (taken : List Located) (before : List Line) (name : List ℕ) → HasRead self.old mode taken before →
+            number ≡ suc (length before) → open_names before ≡ name ∷ outer (open_names before) →
+            Settles self.new mode taken before (line_of.End name) result }
+    {
+        match self.opened.pop() {
+            Some(name) => self.events.whole(number, Event::End { name }),
+            None => Ok(()),
+        }
+    }
+
     /// The line with these bytes, or the first rule that it breaks after the lines before it.
     fn judge(&self, alloc: Global, bytes: &[u8]) -> Result<Result<Line, PyxKind>, AllocError>
         ensures { (mode : Mode) (taken : List Located) (before : List Line) → HasRead self.now mode taken before →
@@ -246,6 +272,8 @@ impl Standing {
     }
 
     /// Judges the line with these bytes, and takes it if it is good; else the answer is the rule that it breaks.
+    ///
+    /// A line that ends the innermost open element, as nearly each end does, is compared with the open name alone.
     pub fn take(
         &mut self,
         alloc: Global,
@@ -255,6 +283,10 @@ impl Standing {
         ensures { (mode : Mode) (taken : List Located) (before : List Line) → HasRead self.old mode taken before →
             number ≡ suc (length before) → TakesLine self.new mode taken before (judge mode before bytes.now) result }
     {
+        if self.ends_innermost(bytes) {
+            self.end_innermost(number)?;
+            return Ok(None);
+        }
         let line = match self.judge(alloc, bytes)? {
             Ok(line) => line,
             Err(kind) => return Ok(Some(kind)),

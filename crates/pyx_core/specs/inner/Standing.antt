@@ -1,19 +1,31 @@
 -- What is kept of the lines that were read, for judging the next one.
-use Rattle.std.specs.Prelude.{◌≡◌, List, ◌∷◌, ◌++◌, Option, None, Some, Result, Ok, Err, MatchResult}
+use Rattle.std.specs.Prelude.{◌≡◌, ℕ, Bool, true, false, ◌&&◌, ◌==◌, List, [], ◌∷◌, ◌++◌, Option, None, Some, Result, Ok, Err, MatchResult}
+use Rattle.std.specs.List.{list_all}
 use Rattle.pyx_core.specs.declared.event.Located.{Located}
 use Rattle.pyx_core.specs.declared.fault.PyxKind.{PyxKind}
 use Rattle.pyx_core.specs.declared.line_table.Line.{Line}
 use Rattle.pyx_core.specs.declared.mode.Mode.{Mode}
 use Rattle.pyx_core.specs.declared.standing.Standing.{Standing}
-use Rattle.pyx_core.specs.Before.{outermost_first, open_names, has_item, pending, closed, lacking}
+use Rattle.pyx_core.specs.Before.{outermost_first, open_names, is_innermost, has_item, pending, closed, lacking}
+use Rattle.pyx_core.specs.Nesting.{is_name}
 use Rattle.pyx_core.specs.Reading.{ended}
 use Rattle.pyx_core.specs.Fronts.{IsFront}
 use Rattle.pyx_core.specs.inner.Begun.{Collected}
+
+-- the elements that are open after these lines have QNames, as after good lines
+abbrev pub AreNamed : List Line → Type 0
+AreNamed before = list_all is_name (open_names before) ≡ true
+
+-- whether a line ends the innermost of the elements with these names: it is `)` (41) and the name
+abbrev pub ends_innermost : List ℕ → List (List ℕ) → Bool
+ends_innermost [] names = false
+ends_innermost (mark ∷ name) names = mark == 41 && is_innermost name names
 
 -- these good lines were read, newest first, and these events were taken
 pub record HasRead (standing : Standing) (mode : Mode) (taken : List Located) (before : List Line) : Type 0 where
   pub mode_is : standing.mode ≡ mode
   pub opened : standing.opened.items ≡ outermost_first (open_names before)
+  pub named : AreNamed before
   pub item : standing.has_item ≡ has_item mode before
   pub told : Collected standing.events taken (closed mode before) (pending mode before)
 

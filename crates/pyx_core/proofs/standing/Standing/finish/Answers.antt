@@ -1,8 +1,9 @@
-use Rattle.std.proofs.Common.{◌∷◌, sym, ◌∙◌}
+use Rattle.std.proofs.Common.{◌∷◌, refl, sym, ◌∙◌}
 use Rattle.std.specs.Option.{option_to_list}
 use Rattle.std.proofs.lemmas.Result.{MatchResult-from_err}
 use Rattle.pyx_core.specs.Before.{closed, pending}
 use Rattle.pyx_core.specs.Reading.{judge}
+use Rattle.pyx_core.proofs.EndLemmas.{good_named}
 use Rattle.pyx_core.proofs.StandingLemmas.{ends_none}
 use Rattle.pyx_core.proofs.BegunLemmas.{front_more}
 use Rattle.pyx_core.proofs.standing.Standing.finish.Goals as goal
@@ -19,4 +20,23 @@ returns-in_err-settle c = λ mode taken before reads number.
     rw (good, whole)
     (MatchResult-from_err c.from_residual-in_err-settle.result _ _ c.from_residual-in_err-settle.ensures.0
     (λ _. front_more _ (closed mode (c.in-Ok.line ∷ before)) (option_to_list (pending mode (c.in-Ok.line ∷ before)))
-    (c.in_err-settle.ensures mode taken before reads number)))
+    (c.in_err-settle.ensures mode taken before reads number
+    (good_named mode before c.args.bytes.now c.in-Ok.line good reads.named))))
+
+pub returns-in_err-complete : goal.returns-in_err-complete
+returns-in_err-complete c = λ mode taken before reads number.
+    let good = sym (c.in_ok-line.ensures mode taken before reads) ∙ c.in-Ok.is in
+    let whole = sym (c.in_default.ensures mode taken before reads) in
+    let settled = c.in_ok-settle.ensures mode taken before reads number
+    (good_named mode before c.args.bytes.now c.in-Ok.line good reads.named) in
+    rw (good, whole)
+    (MatchResult-from_err c.from_residual-in_err-complete.result _ _ c.from_residual-in_err-complete.ensures.0
+    (λ _. c.in_err-complete.ensures taken _ _ settled.told))
+
+pub returns : goal.returns
+returns c = λ mode taken before reads number.
+    let good = sym (c.in_ok-line.ensures mode taken before reads) ∙ c.in-Ok.is in
+    let whole = sym (c.in_default.ensures mode taken before reads) in
+    let settled = c.in_ok-settle.ensures mode taken before reads number
+    (good_named mode before c.args.bytes.now c.in-Ok.line good reads.named) in
+    rw (good, whole) (refl, (c.in_ok-complete.ensures taken _ _ settled.told).completed)
