@@ -1,6 +1,6 @@
 -- Sets that lists stand for: the order of the items and repeats don't matter.
-use Rattle.std.proofs.Common.{◌≡◌, Bool, true, false, cond, ◌||◌, ◌&&◌, List, [], ◌∷◌, refl, sym, ◌∙◌, ap, inl, inr}
-use Rattle.std.specs.Prelude.{Result, Ok, Err, OnOk, OnErr}
+use Rattle.std.proofs.Common.{◌≡◌, ℕ, Bool, true, false, cond, ◌||◌, ◌&&◌, List, [], ◌∷◌, ◌++◌, refl, sym, ◌∙◌, ap}
+use Rattle.std.specs.Prelude.{Option, Some, None, Result, Ok, Err, OnOk, OnErr, slice_get}
 use Rattle.std.specs.declared.cmp.Ordering.{Ordering}
 use Rattle.std.specs.declared.cmp.Ordering.TheVariants.{Less, Equal, Greater}
 use Rattle.std.specs.Ordering.{nat_cmp, eq_by_cmp, ordering_then}
@@ -8,10 +8,13 @@ use Rattle.std.specs.Cmp.{IsTotalOrder, Equal-is, nat_cmp_total, on_total, then_
 use Rattle.std.specs.FinMap.{IsAntisymmetric, nat_cmp-IsAntisymmetric}
 use Rattle.std.specs.FinSet.{from_list, from_list_push, insert, retain, contains-from_list, contains-retain, same_set}
 use Rattle.std.specs.List.{list_any, filter, dedup, dedup_from}
+use Rattle.std.specs.List.Sorted.{IsPermutation}
+use Rattle.std.proofs.lemmas.List.Folds.{list_any-append, list_any_at}
 use Rattle.std.proofs.lemmas.List.Sorted.{list_any-IsPermutation}
+use Rattle.std.proofs.lemmas.Option.{get_or_from_slice_get, slice_get_within}
 use Rattle.xp_outcome.specs.Recorded.{kind_number, node_of, cell_cmp}
 use Rattle.xp_outcome.specs.inner.RecordedCode.{cell_of, cell_again}
-use Rattle.xp_outcome.specs.inner.Settling.{Settled, SettledSome, WithOneMore}
+use Rattle.xp_outcome.specs.inner.Settling.{IsExact, SameItems, is_item, is_item_at}
 
 pub cell_cmp_total : IsTotalOrder cell_cmp
 cell_cmp_total = then_total (on_total kind_number nat_cmp_total) (on_total node_of nat_cmp_total)
@@ -37,7 +40,11 @@ and_false : (a : Bool) → false ≡ (a && false)
 and_false true = refl
 and_false false = refl
 
-module _ {T : Type 0} (eq : T → T → Bool) (exact : (x y : T) → eq x y ≡ true → x ≡ y) (p : T → Bool) where
+or_nothing : (a : Bool) → a ≡ (a || false)
+or_nothing true = refl
+or_nothing false = refl
+
+module _ {T : Type 0} (eq : T → T → Bool) (exact : IsExact eq) (p : T → Bool) where
   any_dedup_from : (k : T) (xs : List T) → list_any p (dedup_from eq k xs) ≡ (p k || list_any p xs)
   any_dedup_from k [] = refl
   any_dedup_from k (x ∷ xs) =
@@ -51,24 +58,46 @@ module _ {T : Type 0} (eq : T → T → Bool) (exact : (x y : T) → eq x y ≡ 
   any_dedup [] = refl
   any_dedup (x ∷ xs) = any_dedup_from x xs
 
+-- lists that hold the same items
+module _ {T : Type 0} {eq : T → T → Bool} where
+  -- a list that was sorted and freed of equal neighbours
+  pub settled : (xs ys zs : List T) → IsPermutation xs ys → zs ≡ dedup eq ys → SameItems eq xs zs
+  settled xs ys zs moved is = record {
+    found = λ exact test.
+        ap (λ items. list_any test items) is ∙ any_dedup eq exact test ys ∙ sym (list_any-IsPermutation test xs ys moved);
+  }
+
+  -- a test that an item passes finds its equal in the list
+  found_already : (xs : List T) (place : ℕ) (x : T) (test : T → Bool) → IsExact eq → test x ≡ true →
+      (held : Option T) → slice_get xs place ≡ held → is_item eq held x ≡ true → list_any test xs ≡ true
+  found_already xs place x test exact passes None at is = cc
+  found_already xs place x test exact passes (Some y) at is =
+      list_any_at test xs place x (slice_get_within xs place y at) (ap test (get_or_from_slice_get xs place y x at ∙ exact y x is) ∙ passes)
+
+  -- so that item at the end adds nothing to the answer
+  adds_nothing : (xs : List T) (place : ℕ) (x : T) (test : T → Bool) → IsExact eq → is_item_at eq xs place x ≡ true →
+      (b : Bool) → test x ≡ b → list_any test xs ≡ (list_any test xs || (b || false))
+  adds_nothing xs place x test exact is false fails = or_nothing (list_any test xs)
+  adds_nothing xs place x test exact is true passes =
+      let found : list_any test xs ≡ true = found_already xs place x test exact passes (slice_get xs place) refl is in
+      found ∙ sym (ap (λ b. b || true) found)
+
+  -- an item that stands in the list already
+  pub stands_already : (xs : List T) (place : ℕ) (x : T) → is_item_at eq xs place x ≡ true → SameItems eq (xs ++ x ∷ []) xs
+  stands_already xs place x is = record {
+    found = λ exact test. adds_nothing xs place x test exact is (test x) refl ∙ sym (list_any-append test xs (x ∷ []));
+  }
+
 module _ {K : Type 0} {R : K → K → Ordering} (o : IsTotalOrder R) (same : IsAntisymmetric R) where
-  -- a list freed of repeats stands for the same set
-  pub settled_same : (eq : K → K → Bool) → ((x y : K) → eq x y ≡ true → x ≡ y) → (xs ys : List K) → Settled eq xs ys → from_list {R = R} ys ≡ from_list xs
-  settled_same eq exact xs ys s =
-      ap (λ zs. from_list {R = R} zs) s.deduped
-      ∙ same_set o same _ _ (λ q. contains-from_list o (dedup eq s.sorted) q ∙ any_dedup eq exact (eq_by_cmp R q) s.sorted
-      ∙ sym (list_any-IsPermutation (eq_by_cmp R q) xs s.sorted s.permutation) ∙ sym (contains-from_list o xs q))
+  -- lists that hold the same items stand for the same set
+  pub same_items : (eq : K → K → Bool) → IsExact eq → (xs ys : List K) → SameItems eq xs ys → from_list {R = R} ys ≡ from_list xs
+  same_items eq exact xs ys alike =
+      same_set o same _ _ (λ q. contains-from_list o ys q ∙ alike.found exact (eq_by_cmp R q) ∙ sym (contains-from_list o xs q))
 
-  -- and so does one that was freed of them or not
-  pub settled_some_same : (eq : K → K → Bool) → ((x y : K) → eq x y ≡ true → x ≡ y) → (xs ys : List K) → SettledSome eq xs ys → from_list {R = R} ys ≡ from_list xs
-  settled_some_same eq exact xs ys (inl is) = ap (λ zs. from_list {R = R} zs) is
-  settled_some_same eq exact xs ys (inr s) = settled_same eq exact xs ys s
-
-  -- with one item more at the end it stands for the set with that item
-  pub one_more : (eq : K → K → Bool) → ((x y : K) → eq x y ≡ true → x ≡ y) → (xs : List K) (x : K) (ys : List K) → WithOneMore eq xs x ys →
+  -- with one item more at the end of one, the other stands for the set with that item
+  pub one_more : (eq : K → K → Bool) → IsExact eq → (xs : List K) (x : K) (ys : List K) → SameItems eq (xs ++ x ∷ []) ys →
       from_list {R = R} ys ≡ insert (from_list xs) x
-  one_more eq exact xs x ys w =
-      ap (λ zs. from_list {R = R} zs) w.added ∙ from_list_push o same w.others x ∙ ap (λ s. insert s x) (settled_some_same eq exact xs w.others w.settled)
+  one_more eq exact xs x ys alike = same_items eq exact (xs ++ x ∷ []) ys alike ∙ from_list_push o same xs x
 
 module _ {K : Type 0} (p e : K → Bool) (b : Bool) (same : (x : K) → e x ≡ true → p x ≡ b) where
   any_filter : (xs : List K) → list_any e (filter p xs) ≡ (list_any e xs && b)

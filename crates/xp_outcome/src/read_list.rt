@@ -1,19 +1,27 @@
 //! Lists of what was read, in which an item may stand more than once.
 
-ghost use Rattle.std.specs.Prelude.{◌≡◌, [], filter, nat_lt, OnOk, OnErr};
-ghost use Rattle.xp_outcome.specs.inner.Settling.{Settled, SettledSome, WithOneMore};
+ghost use Rattle.std.specs.Prelude.{◌≡◌, [], ◌∷◌, ◌++◌, true, filter, nat_lt, OnOk, OnErr};
+ghost use Rattle.xp_outcome.specs.inner.Settling.{SameItems, is_item_at};
 
 use std::alloc::{AllocError, Global};
 
-/// The shortest list that is worth freeing of repeats. Most evaluations read less.
-const FEW: usize = 131_072;
+/// The shortest list that is freed of repeats before it grows. Most evaluations read less.
+const LONG: usize = 262_144;
 
-/// A list that is freed of repeats whenever it has doubled. Adding an item costs about the logarithm of the list's length
-/// on average.
+/// The longest list that is freed of repeats when it is kept. To sort a longer one costs more than it saves, since few
+/// repeats come into a list.
+const MOST_SORTED: usize = 4_096;
+
+/// A list that leaves out the repeats that are found without a search: an item that is the last one, and one that stands
+/// at `next`, the place after the item that was found so before. So a second walk in the order of a first one that the
+/// list begins with adds nothing, whatever comes between its items.
+///
+/// A long list that has no room left is freed of all repeats, by sorting, before it grows. Adding an item costs two
+/// comparisons, and in a long list the logarithm of its length on average.
 #[derive(Drop)]
 pub(crate) struct ReadList<T> {
     items: Vec<T>,
-    limit: usize,
+    next: usize,
 }
 
 impl<T> ReadList<T> {
@@ -23,7 +31,7 @@ impl<T> ReadList<T> {
     {
         ReadList {
             items: Vec::new(alloc),
-            limit: next_limit(0),
+            next: 0,
         }
     }
 
@@ -38,29 +46,85 @@ impl<T> ReadList<T> {
 impl<T: Ord + Copy + Drop> ReadList<T> {
     /// Adds an item.
     pub(crate) fn add(&mut self, item: T) -> Result<(), AllocError>
-        ensures added { OnOk result (WithOneMore T.eq self.old.items.items item self.new.items.items) }
-        ensures unchanged { OnErr result (SettledSome T.eq self.old.items.items self.new.items.items) }
+        ensures added { OnOk result (SameItems T.eq (self.old.items.items ++ item ∷ []) self.new.items.items) }
+        ensures unchanged { OnErr result (SameItems T.eq self.old.items.items self.new.items.items) }
     {
-        self.drop_repeats();
+        if self.meets_again(item) {
+            return Ok(());
+        }
+        self.put(item)
+    }
+
+    /// Whether the item stands at `next`, which then moves on, or is the last one.
+    fn meets_again(&mut self, item: T) -> bool
+        ensures list { self.new.items.items ≡ self.old.items.items }
+        ensures again { result ≡ true → SameItems T.eq (self.old.items.items ++ item ∷ []) self.old.items.items }
+    {
+        if self.is_at(self.next, item) {
+            self.move_on();
+            return true;
+        }
+        self.is_at(self.items.len().saturating_sub(1), item)
+    }
+
+    /// Whether the item stands at a place.
+    fn is_at(&self, place: usize, item: T) -> bool
+        ensures { result ≡ is_item_at T.eq self.now.items.items place item }
+    {
+        match self.items.get(place) {
+            Some(held) => *held == item,
+            None => false,
+        }
+    }
+
+    /// Moves `next` on by one; after the last place comes the first.
+    fn move_on(&mut self)
+        ensures { self.new.items.items ≡ self.old.items.items }
+    {
+        let after = self.next.saturating_add(1);
+        self.next = if after < self.items.len() { after } else { 0 };
+    }
+
+    /// Puts an item at the end.
+    fn put(&mut self, item: T) -> Result<(), AllocError>
+        ensures added { OnOk result (SameItems T.eq (self.old.items.items ++ item ∷ []) self.new.items.items) }
+        ensures unchanged { OnErr result (SameItems T.eq self.old.items.items self.new.items.items) }
+    {
+        self.make_room()?;
         self.items.push(item)?;
         Ok(())
     }
 
-    /// Drops repeats where the list has doubled since they were last dropped.
-    fn drop_repeats(&mut self)
-        ensures { SettledSome T.eq self.old.items.items self.new.items.items }
+    /// Drops repeats from a long list without room, and makes room for as many items again as are left.
+    fn make_room(&mut self) -> Result<(), AllocError>
+        ensures { SameItems T.eq self.old.items.items self.new.items.items }
     {
-        if self.items.len() >= self.limit {
-            self.settle();
+        if self.items.len() < LONG || self.items.len() < self.items.capacity() {
+            return Ok(());
         }
+        self.settle();
+        self.items.reserve_exact(self.items.len())
     }
 
-    /// Drops repeats and gives back the memory that isn't needed.
+    /// Drops repeats from a list that is not long, and gives back the memory that isn't needed. Most lists have none, and
+    /// nothing is to do.
     pub(crate) fn shrink(&mut self)
-        ensures { Settled T.eq self.old.items.items self.new.items.items }
+        ensures { SameItems T.eq self.old.items.items self.new.items.items }
     {
-        self.settle();
+        if self.items.capacity() == 0 {
+            return;
+        }
+        self.settle_short();
         self.items.shrink_to_fit();
+    }
+
+    /// Drops repeats from a list that is not long.
+    fn settle_short(&mut self)
+        ensures { SameItems T.eq self.old.items.items self.new.items.items }
+    {
+        if matches!(self.items.len(), 2..=MOST_SORTED) {
+            self.settle();
+        }
     }
 
     /// Drops all items; the memory stays for those that come.
@@ -68,16 +132,17 @@ impl<T: Ord + Copy + Drop> ReadList<T> {
         ensures { self.new.items.items ≡ [] }
     {
         self.items.clear();
-        self.limit = next_limit(0);
+        self.next = 0;
     }
 
-    /// Sorts the items and drops repeats, in place.
+    /// Sorts the items and drops repeats, in place. Kept out of what is done at each item.
+    #[inline(never)]
     fn settle(&mut self)
-        ensures { Settled T.eq self.old.items.items self.new.items.items }
+        ensures { SameItems T.eq self.old.items.items self.new.items.items }
     {
         self.items.sort_unstable();
         self.items.dedup();
-        self.limit = next_limit(self.items.len());
+        self.next = 0;
     }
 }
 
@@ -87,14 +152,6 @@ impl ReadList<u32> {
         ensures { self.new.items.items ≡ filter (λ slot. nat_lt slot len) self.old.items.items }
     {
         self.items.retain(|slot| *slot < len);
-    }
-}
-
-/// How long a list may grow before it is worth freeing of repeats again: twice its length.
-fn next_limit(len: usize) -> usize {
-    if len < FEW {
-        2 * FEW
-    } else {
-        len.saturating_mul(2)
+        self.next = 0;
     }
 }

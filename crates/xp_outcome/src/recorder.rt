@@ -77,7 +77,8 @@ impl Recorder {
         self.lets.cut(len)
     }
 
-    /// Drops repeats and gives back the memory that isn't needed: a recorder that is kept for one cell then holds one.
+    /// Gives back the memory that isn't needed, and drops repeats where at most 4,096 items are held: a recorder that is
+    /// kept for one cell then holds one.
     pub fn settle(&mut self)
         ensures { self.new ≡ self.old }
     {

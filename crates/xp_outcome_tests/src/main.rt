@@ -11,9 +11,6 @@ use test_texts::{copy, first_word, number, parts, shown};
 use xp_outcome::{Recorder, Slots};
 use xp_values::{Num, Value, concat, same_value};
 
-/// More than this is not few.
-const FEW: usize = 100_000;
-
 fn main(rt: HostRuntime) -> Result<ExitCode, Fail> {
     let alloc = rt.alloc();
     let mut tables = Tables {
@@ -50,12 +47,19 @@ impl Answers for Tables {
 }
 
 impl Tables {
-    /// What a call of the recorder comes to; `kids` and `let` come so many times.
+    /// What a call of the recorder comes to; `kids`, `turns` and `let` come so many times.
     fn recorder_call(&mut self, word: &str, rest: &str) -> Result<String, Fail> {
         match word {
             "shape" => self.reads.add(Cell::Shape(self.node))?,
+            "text" => self.reads.add(Cell::Text(self.node))?,
             "kids" => {
                 for _ in 0..number(rest)? {
+                    self.reads.add(Cell::Kids(self.node))?;
+                }
+            }
+            "turns" => {
+                for _ in 0..number(rest)? {
+                    self.reads.add(Cell::Shape(self.node))?;
                     self.reads.add(Cell::Kids(self.node))?;
                 }
             }
@@ -70,7 +74,8 @@ impl Tables {
             "settle" => self.reads.settle(),
             "clear" => self.reads.clear(),
             "few" => {
-                let few = self.reads.cells().len() < FEW && self.reads.lets().len() < FEW;
+                let most = number(rest)?;
+                let few = self.reads.cells().len() <= most && self.reads.lets().len() <= most;
                 return shown(self.alloc, &few);
             }
             _ => return parts(self.alloc, &(self.reads.cells(), self.reads.lets())),

@@ -1,20 +1,21 @@
 -- Lists freed of repeats.
-use Rattle.std.specs.Prelude.{◌≡◌, ◌⊎◌, Bool, List, [], ◌∷◌, ◌++◌}
-use Rattle.std.specs.List.{dedup}
-use Rattle.std.specs.List.Sorted.{IsPermutation}
+use Rattle.std.specs.Prelude.{◌≡◌, ℕ, Bool, true, false, List, Option, Some, None, slice_get}
+use Rattle.std.specs.List.{list_any}
 
--- the new list has the items of the old one in some order, of equal neighbours only the first
-pub record Settled {T : Type 0} (eq : T → T → Bool) (old new : List T) : Type 0 where
-  pub sorted : List T
-  pub permutation : IsPermutation old sorted
-  pub deduped : new ≡ dedup eq sorted
+-- items that are equal are one
+abbrev pub IsExact : {T : Type 0} → (T → T → Bool) → Type 0
+IsExact {T} eq = (x y : T) → eq x y ≡ true → x ≡ y
 
--- the new list is the old one, freed of repeats or not
-abbrev pub SettledSome : {T : Type 0} → (T → T → Bool) → List T → List T → Type 0
-SettledSome eq old new = (new ≡ old) ⊎ Settled eq old new
+-- the two lists hold the same items, in some order and of equal ones perhaps not as many: where equal items are one, a
+-- test that one list has an item for has one in the other
+pub record SameItems {T : Type 0} (eq : T → T → Bool) (old new : List T) : Type 0 where
+  pub found : IsExact eq → (test : T → Bool) → list_any test new ≡ list_any test old
 
--- the new list has one item more at its end
-pub record WithOneMore {T : Type 0} (eq : T → T → Bool) (old : List T) (item : T) (new : List T) : Type 0 where
-  pub others : List T
-  pub settled : SettledSome eq old others
-  pub added : new ≡ others ++ item ∷ []
+-- whether there is an item that equals this one
+abbrev pub is_item : {T : Type 0} → (T → T → Bool) → Option T → T → Bool
+is_item eq (Some held) item = eq held item
+is_item eq None item = false
+
+-- whether an item stands at a place
+abbrev pub is_item_at : {T : Type 0} → (T → T → Bool) → List T → ℕ → T → Bool
+is_item_at eq items place item = is_item eq (slice_get items place) item
