@@ -5,6 +5,7 @@ ghost use Rattle.xp_outcome.specs.Running.{Ran};
 ghost use Rattle.xp_meaning.specs.Conversions.{as_wanted, compare_in, compared_nodes, first_of, nodes_of, number_in, sum_from, sum_in, text_in};
 ghost use Rattle.xp_values.specs.Outcomes.{Gives};
 ghost use Rattle.xp_values.specs.declared.numbers.Num.TheVariants.{Whole};
+ghost use Rattle.xp_values.specs.declared.values.Value.TheVariants as value_kinds;
 ghost use Rattle.xp_values.specs.Comparisons.{is_truth};
 ghost use Rattle.xp_meaning.specs.Results.{shown, shown_alloc};
 ghost use Rattle.xp_meaning.specs.Reads.{taking};
@@ -117,6 +118,22 @@ impl Caller<'_> {
     {
         take_compared(self.tree, left, right, reads, steps)?;
         xp_values::compare(self.alloc, self.tree, operator, left, right)
+    }
+
+    /// Compares a value with a text, as `compare_in` does where the text is a value. The text takes no reads, and no copy of
+    /// it is made.
+    pub fn compare_text_in<L: Ledger>(
+        &self,
+        operator: Comparison,
+        left: &Value,
+        text: &str,
+        reads: &mut Recorder,
+        steps: &mut Steps<L>,
+    ) -> Result<bool, EvalError>
+        ensures { Ran (compare_in self.now.tree.now.nodes operator left.now (value_kinds.Chars text.now)) (shown result) reads.old reads.new steps.old steps.new }
+    {
+        take_texts(self.tree, nodes_of(left), reads, steps)?;
+        xp_values::compare_text(self.alloc, self.tree, operator, left, text)
     }
 
     /// The sum of the numbers of some nodes (XPath 1.0, section 4.4): their string-values are all taken, and then each is

@@ -1,19 +1,21 @@
 //! Comparisons (XPath 1.0, section 3.4).
 
-ghost use Rattle.std.specs.Prelude.{◌≡◌, map, IfOk};
+ghost use Rattle.std.specs.Prelude.{◌≡◌, map};
 ghost use Rattle.std.specs.List.{list_any};
 ghost use Rattle.doc_tree.specs.Walks.{string_value_of};
-ghost use Rattle.xp_values.specs.Comparisons.{is_node_set, is_truth, is_number, is_order, is_unequal, whole_test, number_test, text_test, some_pair, texts_of, all_numbers, numbers_of, truths_compared, numbers_compared, texts_compared, go_by_truths, go_by_numbers, compare};
-ghost use Rattle.xp_values.specs.Numerals.{text_to_number};
+ghost use Rattle.xp_values.specs.declared.values.Value.TheVariants as value_kinds;
+ghost use Rattle.xp_values.specs.Comparisons.{is_node_set, is_truth, is_number, is_order, whole_test, number_test, some_pair, all_numbers, numbers_of, numbers_compared, go_by_truths, go_by_numbers, compare};
 ghost use Rattle.xp_values.specs.Outcomes.{Gives};
 
-use crate::conversions::{to_number, to_text, to_truth, truth_number};
+use crate::conversions::{to_number, to_truth, truth_number};
+use crate::lent::number_of_node;
 use crate::numbers::Num;
 use crate::numerals::text_to_number;
+use crate::text_comparisons::{is_unequal, some_passes, text_test, texts_compared};
 use crate::values::{EvalError, Value};
-use doc_tree::{NodeId, NodeList, Tree};
-use sch_base::{ItemList, Text};
-use std::alloc::{AllocError, Global};
+use doc_tree::{NodeList, Tree};
+use sch_base::ItemList;
+use std::alloc::Global;
 use xp_tree::Comparison;
 
 /// Compares two values (XPath 1.0, section 3.4). A node-set stands for each of its nodes: the comparison holds where some
@@ -40,6 +42,41 @@ pub fn compare(
     } else {
         let holds = texts_compared(alloc, tree, op, a, b)?;
         Ok(holds)
+    }
+}
+
+/// Compares a value with a text (XPath 1.0, section 3.4), as `compare` does where the text is a value.
+///
+/// Faults are those of `compare`: by order the texts of the left side are all converted, then the text. By `=` and `!=` a
+/// node-set costs a test for each node up to the first that passes, and memory only for string-values that the tree does
+/// not hold as one text.
+pub fn compare_text(
+    alloc: Global,
+    tree: &Tree,
+    op: Comparison,
+    a: &Value,
+    text: &str,
+) -> Result<bool, EvalError>
+    ensures { Gives result (compare tree.now.nodes op a.now (value_kinds.Chars text.now)) }
+{
+    if is_order(op) {
+        return numbers_against(alloc, tree, op, a, text);
+    }
+    match a {
+        Value::NodeSet(nodes) => {
+            let holds = some_passes(alloc, tree, op, nodes.as_slice(), text)?;
+            Ok(holds)
+        }
+        Value::Truth(truth) => {
+            let left = truth_number(*truth);
+            let right = truth_number(!text.is_empty());
+            Ok(number_test(op, left, right))
+        }
+        Value::Number(left) => {
+            let right = text_to_number(text)?;
+            Ok(number_test(op, *left, right))
+        }
+        Value::Chars(left) => Ok(text_test(op, left.as_str(), text)),
     }
 }
 
@@ -107,19 +144,19 @@ fn numbers_compared(
     Ok(some_numbers(op, left.as_slice(), right.as_slice()))
 }
 
-/// Whether some pair of the texts that the two sides stand for passes.
-fn texts_compared(
+/// Whether some number that the left side stands for passes with the number of a text.
+fn numbers_against(
     alloc: Global,
     tree: &Tree,
     op: Comparison,
     a: &Value,
-    b: &Value,
-) -> Result<bool, AllocError>
-    ensures { IfOk result (λ holds. holds ≡ texts_compared tree.now.nodes op a.now b.now) }
+    text: &str,
+) -> Result<bool, EvalError>
+    ensures { Gives result (numbers_compared tree.now.nodes op a.now (value_kinds.Chars text.now)) }
 {
-    let left = texts_of(alloc, tree, a)?;
-    let right = texts_of(alloc, tree, b)?;
-    Ok(some_texts(op, left.as_slice(), right.as_slice()))
+    let left = numbers_of(alloc, tree, a)?;
+    let right = text_to_number(text)?;
+    Ok(some_numbers(op, left.as_slice(), &[right]))
 }
 
 /// The numbers that a side stands for.
@@ -153,46 +190,6 @@ fn numbers_of_nodes(
     Ok(numbers)
 }
 
-/// The number of the node's string-value.
-fn number_of_node(alloc: Global, tree: &Tree, n: NodeId) -> Result<Num, EvalError>
-    ensures { Gives result (text_to_number (string_value_of tree.now.nodes n)) }
-{
-    let text = tree.string_value(alloc, n)?;
-    let number = text_to_number(text.as_str())?;
-    Ok(number)
-}
-
-/// The texts that a side stands for.
-fn texts_of(alloc: Global, tree: &Tree, v: &Value) -> Result<ItemList<Text>, AllocError>
-    ensures { IfOk result (λ texts. texts ≡ texts_of tree.now.nodes v.now) }
-{
-    match v {
-        Value::NodeSet(nodes) => texts_of_nodes(alloc, tree, nodes),
-        Value::Truth(_) | Value::Number(_) | Value::Chars(_) => {
-            let text = to_text(alloc, tree, v)?;
-            let mut texts = ItemList::new(alloc);
-            texts.push(text)?;
-            Ok(texts)
-        }
-    }
-}
-
-/// Each node's string-value.
-fn texts_of_nodes(
-    alloc: Global,
-    tree: &Tree,
-    nodes: &NodeList,
-) -> Result<ItemList<Text>, AllocError>
-    ensures { IfOk result (λ texts. texts ≡ map (string_value_of tree.now.nodes) nodes.now) }
-{
-    let mut texts = ItemList::new(alloc);
-    for n in nodes.as_slice() {
-        let text = tree.string_value(alloc, *n)?;
-        texts.push(text)?;
-    }
-    Ok(texts)
-}
-
 /// Whether some pair of numbers passes.
 fn some_numbers(op: Comparison, left: &[Num], right: &[Num]) -> bool
     ensures { result ≡ some_pair (number_test op) left.now right.now }
@@ -205,20 +202,6 @@ fn some_number(op: Comparison, x: Num, right: &[Num]) -> bool
     ensures { result ≡ list_any (number_test op x) right.now }
 {
     right.iter().any(|y| number_test(op, x, *y))
-}
-
-/// Whether some pair of texts passes.
-fn some_texts(op: Comparison, left: &[Text], right: &[Text]) -> bool
-    ensures { result ≡ some_pair (text_test op) left.now right.now }
-{
-    left.iter().any(|x| some_text(op, x.as_str(), right))
-}
-
-/// Whether a text passes with some other.
-fn some_text(op: Comparison, x: &str, right: &[Text]) -> bool
-    ensures { result ≡ list_any (text_test op x.now) right.now }
-{
-    right.iter().any(|y| text_test(op, x, y.as_str()))
 }
 
 /// Compares two numbers: `!=` holds of NaN, and nothing else does.
@@ -242,22 +225,5 @@ fn whole_test(op: Comparison, x: i64, y: i64) -> bool
         Comparison::Le => x <= y,
         Comparison::Gt => x > y,
         Comparison::Ge => x >= y,
-    }
-}
-
-/// Compares two texts by `=` or `!=`.
-fn text_test(op: Comparison, x: &str, y: &str) -> bool
-    ensures { result ≡ text_test op x.now y.now }
-{
-    if is_unequal(op) { x != y } else { x == y }
-}
-
-/// Whether the operator is `!=`.
-fn is_unequal(op: Comparison) -> bool
-    ensures { result ≡ is_unequal op }
-{
-    match op {
-        Comparison::Ne => true,
-        Comparison::Eq | Comparison::Lt | Comparison::Le | Comparison::Gt | Comparison::Ge => false,
     }
 }

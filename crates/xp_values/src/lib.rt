@@ -4,15 +4,17 @@
 
 mod comparisons;
 mod conversions;
+mod lent;
 mod numbers;
 mod numerals;
 mod replacing;
 mod sameness;
 mod spaces;
+mod text_comparisons;
 mod texts;
 mod values;
 
-pub use comparisons::compare;
+pub use comparisons::{compare, compare_text};
 pub use conversions::{to_number, to_text, to_truth};
 pub use numbers::{Num, arith};
 pub use numerals::text_to_number;
