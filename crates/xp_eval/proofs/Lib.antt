@@ -3,3 +3,4 @@ pub mod Loops
 pub mod Runs
 pub mod DeadNodes
 pub mod LoneLets
+pub mod OneNode

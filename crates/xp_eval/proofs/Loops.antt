@@ -49,11 +49,13 @@ module _ (T : Table) (L : Lets) (xs : List TypedExpr) (i : ℕ) where
 module _ (T : Table) (L : Lets) (xs : List Compared) (i : ℕ) (c : Context) (v : Value) where
   pub compared-next : (x : Compared) → i < length xs → x ≡ get_or xs i x →
       compared T (comparands_meant T L (compared_list_seen (drop i xs))) v c
-      ≡ bind (meaning T L (typed_tree_of (out-Compared x).expr) c) (λ w. bind (compare_in T (out-Compared x).operator v w) (λ truth.
-      compared T (comparands_meant T L (compared_list_seen (drop (i + 1) xs))) (Truth truth) c))
+      ≡ bind (bind (meaning T L (typed_tree_of (out-Compared x).expr) c) (λ w. compare_in T (out-Compared x).operator v w)) (λ truth.
+      compared T (comparands_meant T L (compared_list_seen (drop (i + 1) xs))) (Truth truth) c)
   compared-next x below is =
       ap (λ ys. compared T (comparands_meant T L (compared_list_seen ys)) v c) (next_item xs i x below is)
       ∙ ap (λ r. compared T (comparands_meant T L r) v c) (of-compared x (compared_list_seen (drop (i + 1) xs)))
+      ∙ sym (bind_assoc (meaning T L (typed_tree_of (out-Compared x).expr) c) (λ w. compare_in T (out-Compared x).operator v w) (λ truth.
+      compared T (comparands_meant T L (compared_list_seen (drop (i + 1) xs))) (Truth truth) c))
 
   pub compared-end : length xs ≤ i → compared T (comparands_meant T L (compared_list_seen (drop i xs))) v c ≡ done v
   compared-end past = ap (λ ys. compared T (comparands_meant T L (compared_list_seen ys)) v c) (no_item xs i past)

@@ -7,10 +7,13 @@ use Rattle.xp_outcome.specs.Recorded.{Recorded}
 use Rattle.xp_outcome.specs.Running.{Stop, faulted, no_memory, Ran, Onto}
 use Rattle.xp_outcome.proofs.Outcomes.{bind-right, gathering, gathering_start}
 use Rattle.xp_values.specs.declared.values.EvalFault.{EvalFault}
-use Rattle.xp_meaning.specs.Results.{shown_alloc}
+use Rattle.xp_values.specs.declared.values.EvalError.{EvalError}
+use Rattle.xp_meaning.specs.Results.{shown_alloc, stop_of}
 use Rattle.xp_meaning.proofs.Exits.{ran_done_at}
 use Rattle.xp_meaning.specs.Paths.{placed}
+use Rattle.xp_eval.specs.declared.reached.Reached.{Reached}
 use Rattle.xp_eval.specs.inner.Candidates.{shown_found}
+use Rattle.xp_eval.specs.inner.Reaching.{shown_reached}
 use Rattle.xp_outcome.proofs.Runs.{ran_alike, ran_done, ran_fault, ran_late, onto_start, onto_alike, onto_bind, onto_stop, gather_more, gather_stop, gather_end}
 
 module _ {F A B : Type 0} {m k : Evaluation F B} {held now : Recorded} {before after : ℕ} (a : Evaluation F A) (next : A → Evaluation F B) (is : k ≡ bind a next) where
@@ -72,6 +75,12 @@ pub exit_found : (P : AllocError → Type 0) (ns : List ℕ) {m : Evaluation Eva
     Ran m (Err no_memory) held now before after → Ran m (shown_found ns r) held now before after
 exit_found P ns (Ok v) h ran = absurd h
 exit_found P ns (Err d) h ran = ran
+
+-- `?` hands on an error of evaluation where nodes are come to
+pub exit_reached : {m : Evaluation EvalFault (List ℕ)} {held now : Recorded} {before after : ℕ} → (r : Result Reached EvalError) (e : EvalError) → IsErrAnd r (λ d. d ≡ e) →
+    Ran m (Err (stop_of e)) held now before after → Ran m (shown_reached r) held now before after
+exit_reached (Ok v) e h ran = absurd h
+exit_reached {m} {held} {now} {before} {after} (Err d) e h ran = subst (λ x. Ran m (Err (stop_of x)) held now before after) (sym h) ran
 
 -- an operation that has a fault, or an answer
 pub ran_given_fault : {A : Type 0} (meant : Result A EvalFault) (f : EvalFault) (held : Recorded) (n : ℕ) → meant ≡ Err f → Ran (given meant) (Err (faulted f)) held held n n

@@ -17,7 +17,7 @@ use Rattle.xp_typed_tree.specs.TypedView.{typed_tree_of, typed_seen, place_of, c
 use Rattle.xp_typed_tree.proofs.TypedViewLemmas.{of-Or, of-And, of-Compare, of-Arith, of-Negate, of-Union, of-Path, of-Filter, of-Variable, of-Literal, of-Number, of-Call, of-Root, of-Here, of-From}
 use Rattle.xp_outcome.specs.Evaluation.{Evaluation, done, given, bind, visit, reading, variable}
 use Rattle.xp_outcome.specs.Slots.{in_slot}
-use Rattle.xp_outcome.proofs.Outcomes.{bind_alike, bind-done, bind_assoc}
+use Rattle.xp_outcome.proofs.Outcomes.{bind_alike, bind-done, bind-visit, bind_assoc}
 use Rattle.xp_values.specs.declared.values.Value.{Value}
 use Rattle.xp_values.specs.declared.values.Value.TheVariants.{NodeSet, Truth, Number, Chars}
 use Rattle.xp_values.specs.declared.values.EvalFault.{EvalFault}
@@ -111,6 +111,11 @@ module _ (T : Table) (L : Lets) (e : TypedExpr) (c : Context) where
 
   pub view-Literal : (value : List ℕ) → e ≡ exprs.Literal value → meaning T L (typed_tree_of e) c ≡ visit (done (Chars value))
   view-Literal value is = ap (λ t. meaning T L t c) (ap typed_tree_of is ∙ of-Literal value)
+
+  pub literal_bound : {B : Type 0} (next : Value → Evaluation EvalFault B) (value : List ℕ) → e ≡ exprs.Literal value →
+      bind (meaning T L (typed_tree_of e) c) next ≡ visit (next (Chars value))
+  literal_bound next value is =
+      ap (λ m. bind m next) (view-Literal value is) ∙ bind-visit (done (Chars value)) next ∙ ap visit (bind-done (Chars value) next)
 
   pub view-Number : (value : ℤ) → e ≡ exprs.Number value → meaning T L (typed_tree_of e) c ≡ visit (done (Number (Whole value)))
   view-Number value is = ap (λ t. meaning T L t c) (ap typed_tree_of is ∙ of-Number value)

@@ -1,7 +1,7 @@
 //! The candidates of steps: the nodes on an axis that pass a test (XPath 1.0, sections 2.2 and 2.3).
 
-ghost use Rattle.std.specs.Prelude.{◌≡◌, [], ◌++◌, true, length, IfOk, OnOk};
-ghost use Rattle.doc_axes.specs.Axes.{axis_nodes};
+ghost use Rattle.std.specs.Prelude.{◌≡◌, [], ◌++◌, if◌then◌else◌, true, length, IfOk, OnOk};
+ghost use Rattle.doc_axes.specs.Axes.{axis_nodes, backwards, is_reverse};
 ghost use Rattle.xp_typed_tree.specs.declared.expr.TypedStep.{out-TypedStep};
 ghost use Rattle.xp_outcome.specs.Running.{Ran};
 ghost use Rattle.xp_meaning.specs.Results.{shown_alloc};
@@ -9,7 +9,7 @@ ghost use Rattle.xp_eval.specs.inner.Candidates.{found, candidates_of, plain_ste
 
 use crate::evaluator::Evaluator;
 use doc_axes::{into_document_order, push_passing};
-use doc_tree::{NodeId, NodeList, Tree};
+use doc_tree::{Axis, NodeId, NodeList, Tree};
 use sch_base::ItemList;
 use std::alloc::{AllocError, Global};
 use std::sync::ledger::Ledger;
@@ -98,4 +98,27 @@ pub(crate) fn is_plain(step: &TypedStep) -> bool
     ensures { result ≡ true → (out-TypedStep step.now).predicates.items ≡ [] }
 {
     step.predicates.as_slice().is_empty()
+}
+
+/// Nodes in an axis's own order, put in document order: turned round where the axis runs backwards (XPath 1.0, section 2.4).
+/// Takes no memory.
+#[tactic(auto, using(doc_axes::proofs::SubLists::backwards_reverse))]
+pub(crate) fn to_document_order(axis: Axis, nodes: NodeList) -> NodeList
+    ensures { result ≡ (if is_reverse axis then backwards nodes else nodes) }
+{
+    if is_reverse(axis) {
+        nodes.reversed()
+    } else {
+        nodes
+    }
+}
+
+/// Whether an axis runs backwards (XPath 1.0, section 2.4).
+fn is_reverse(axis: Axis) -> bool
+    ensures { result ≡ is_reverse axis }
+{
+    matches!(
+        axis,
+        Axis::Ancestor | Axis::AncestorOrSelf | Axis::Preceding | Axis::PrecedingSibling
+    )
 }

@@ -91,7 +91,7 @@ pub(crate) fn wanted_by(function: Option<Function>, place: usize) -> Want
 pub(crate) fn lone_slot(function: Function, operands: &[TypedExpr]) -> Option<u32>
     ensures { IfSome result (λ slot. (T : Table) (L : Lets) (c : Context) → values T (wanted_by (Some function)) (meanings T L (typed_seen operands.now)) c ≡ lone_let L slot) }
 {
-    match lone_operand(operands) {
+    match lone(operands) {
         Some(operand) => {
             if is_as_it_is(wanted(function, 0)) {
                 slot_of(operand)
@@ -103,11 +103,11 @@ pub(crate) fn lone_slot(function: Function, operands: &[TypedExpr]) -> Option<u3
     }
 }
 
-/// The operand that is alone.
-fn lone_operand(operands: &[TypedExpr]) -> Option<&TypedExpr>
-    ensures { IfSome result (λ operand. operands.now ≡ operand.now ∷ []) }
+/// The item that is alone in a list, as an operand or a node.
+pub(crate) fn lone<T>(items: &[T]) -> Option<&T>
+    ensures { IfSome result (λ item. items.now ≡ item.now ∷ []) }
 {
-    let Some((first, rest)) = operands.split_first() else {
+    let Some((first, rest)) = items.split_first() else {
         return None;
     };
     if rest.is_empty() { Some(first) } else { None }

@@ -2,22 +2,25 @@
 //!
 //! Each function answers what its definition in xp_meaning gives, and stops at the first fault.
 
-ghost use Rattle.std.specs.Prelude.{◌≡◌, None, Some, flat_map, IfOk};
+ghost use Rattle.std.specs.Prelude.{◌≡◌, [], ◌∷◌, None, Some, flat_map, IfOk};
 ghost use Rattle.doc_axes.specs.Sets.{in_order};
 ghost use Rattle.xp_values.specs.declared.values.Value.TheVariants as value_kinds;
 ghost use Rattle.xp_outcome.specs.Evaluation.{done, bind};
 ghost use Rattle.xp_outcome.specs.Running.{Ran};
-ghost use Rattle.xp_meaning.specs.Conversions.{nodes_of, number_in};
+ghost use Rattle.xp_meaning.specs.Conversions.{nodes_of, number_in, compare_in};
 ghost use Rattle.xp_meaning.specs.Results.{shown};
+ghost use Rattle.xp_typed_tree.specs.declared.expr.Compared.{out-Compared};
 ghost use Rattle.xp_typed_tree.specs.TypedView.{typed_tree_of, typed_seen, place_of, compared_list_seen, combined_list_seen, typed_steps_seen};
 ghost use Rattle.xp_meaning.specs.Functions.{applied};
 ghost use Rattle.xp_meaning.specs.Paths.{kept, filtered, step_at, step_from, path};
 ghost use Rattle.xp_meaning.specs.Evaluation.{meaning, meanings, some_true, all_true, compared, combined, values, start_nodes, comparands_meant, combinands_meant, steps_meant};
 ghost use Rattle.xp_eval.specs.Steps.{step_meant};
+ghost use Rattle.xp_eval.specs.inner.Reaching.{nodes_reached, shown_reached};
 ghost use Rattle.xp_eval.specs.inner.Wants.{wanted_by};
 
-use crate::candidates::is_plain;
-use crate::choosing::{holds_at, joined, lone_slot, nodes_in, size_of, union_of, wanted_by};
+use crate::candidates::{is_plain, to_document_order};
+use crate::choosing::{holds_at, joined, lone, lone_slot, nodes_in, size_of, union_of, wanted_by};
+use crate::reached::Reached;
 use doc_axes::into_document_order;
 use doc_tree::{NodeId, NodeList};
 use sch_base::{ItemList, Text};
@@ -73,8 +76,8 @@ impl Evaluator<'_> {
             }
             TypedExpr::Union(operands) => self.union_value(operands, at, reads, steps),
             TypedExpr::Path { start, steps: path } => {
-                let nodes = self.start_nodes(start, at, reads, steps)?;
-                let nodes = self.path_nodes(path, at.current, nodes, reads, steps)?;
+                let begin = self.start_nodes(start, at, reads, steps)?;
+                let nodes = self.path_nodes(path, at.current, begin, reads, steps)?;
                 Ok(Value::NodeSet(nodes))
             }
             TypedExpr::Filter { base, predicates } => {
@@ -146,13 +149,35 @@ impl Evaluator<'_> {
     {
         let mut value = value;
         for operand in rest {
-            let right = self.evaluate(&operand.expr, at, reads, steps)?;
-            let truth = self
-                .caller
-                .compare_in(operand.operator, &value, &right, reads, steps)?;
+            let truth = self.compare_operand(operand, &value, at, reads, steps)?;
             value = Value::Truth(truth);
         }
         Ok(value)
+    }
+
+    /// What the comparison of a value with one later operand gives. A literal is lent to it, and takes no memory.
+    #[cycle(evaluation)]
+    fn compare_operand<L: Ledger>(
+        &self,
+        operand: &Compared,
+        value: &Value,
+        at: &Context,
+        reads: &mut Recorder,
+        steps: &mut Steps<L>,
+    ) -> Result<bool, EvalError>
+        ensures { Ran (bind (meaning self.now.caller.tree.now.nodes self.now.lets.now (typed_tree_of (out-Compared operand.now).expr) at.now)
+            (λ w. compare_in self.now.caller.tree.now.nodes (out-Compared operand.now).operator value.now w))
+            (shown result) reads.old reads.new steps.old steps.new }
+    {
+        if let TypedExpr::Literal { value: text } = &operand.expr {
+            steps.tick();
+            return self
+                .caller
+                .compare_text_in(operand.operator, value, text.as_str(), reads, steps);
+        }
+        let right = self.evaluate(&operand.expr, at, reads, steps)?;
+        self.caller
+            .compare_in(operand.operator, value, &right, reads, steps)
     }
 
     /// Arithmetic on a number and later operands, from left to right: each operand is converted and combined before the
@@ -270,7 +295,7 @@ impl Evaluator<'_> {
         Ok(values)
     }
 
-    /// The nodes at which a path begins.
+    /// The nodes at which a path begins. No list is made of the root or of the context node.
     #[cycle(evaluation)]
     fn start_nodes<L: Ledger>(
         &self,
@@ -278,33 +303,56 @@ impl Evaluator<'_> {
         at: &Context,
         reads: &mut Recorder,
         steps: &mut Steps<L>,
-    ) -> Result<NodeList, EvalError>
-        ensures { Ran (start_nodes self.now.caller.tree.now.nodes self.now.lets.now (place_of start.now) at.now) (shown result) reads.old reads.new steps.old steps.new }
+    ) -> Result<Reached, EvalError>
+        ensures { Ran (start_nodes self.now.caller.tree.now.nodes self.now.lets.now (place_of start.now) at.now) (shown_reached result) reads.old reads.new steps.old steps.new }
     {
         match start {
-            TypedStart::Root => Ok(ItemList::of_one(self.caller.alloc, self.caller.tree.root())?),
-            TypedStart::Here => Ok(ItemList::of_one(self.caller.alloc, at.node)?),
-            TypedStart::From(base) => self.operand_nodes(base, at, reads, steps),
+            TypedStart::Root => Ok(Reached::One(self.caller.tree.root())),
+            TypedStart::Here => Ok(Reached::One(at.node)),
+            TypedStart::From(base) => {
+                let list = self.operand_nodes(base, at, reads, steps)?;
+                Ok(Reached::Set(list))
+            }
         }
     }
 
-    /// The nodes that a path's steps select from a set of nodes, one step after another.
+    /// The nodes that a path's steps select from those at which it begins, one step after another.
     #[cycle(evaluation)]
     fn path_nodes<L: Ledger>(
         &self,
         path_steps: &[TypedStep],
         current: NodeId,
-        nodes: NodeList,
+        begin: Reached,
         reads: &mut Recorder,
         steps: &mut Steps<L>,
     ) -> Result<NodeList, EvalError>
-        ensures { Ran (path self.now.caller.tree.now.nodes (steps_meant self.now.caller.tree.now.nodes self.now.lets.now (typed_steps_seen path_steps.now)) current nodes) (shown result) reads.old reads.new steps.old steps.new }
+        ensures { Ran (path self.now.caller.tree.now.nodes (steps_meant self.now.caller.tree.now.nodes self.now.lets.now (typed_steps_seen path_steps.now)) current (nodes_reached begin)) (shown result) reads.old reads.new steps.old steps.new }
     {
-        let mut nodes = nodes;
+        let mut nodes = begin;
         for step in path_steps {
-            nodes = self.step_set(step, current, nodes.as_slice(), reads, steps)?;
+            let selected = self.step_set(step, current, nodes.as_slice(), reads, steps)?;
+            nodes = Reached::Set(selected);
         }
-        Ok(nodes)
+        let list = nodes.into_list(self.caller.alloc)?;
+        Ok(list)
+    }
+
+    /// The nodes that a step selects from one node, in document order: those of `step_at`, turned round where the axis runs
+    /// backwards (XPath 1.0, section 2.4). They are not compared, and need no other list.
+    #[cycle(evaluation)]
+    fn step_from_one<L: Ledger>(
+        &self,
+        step: &TypedStep,
+        current: NodeId,
+        n: NodeId,
+        reads: &mut Recorder,
+        steps: &mut Steps<L>,
+    ) -> Result<NodeList, EvalError>
+        ensures { Ran (step_from self.now.caller.tree.now.nodes (step_meant self.now.caller.tree.now.nodes self.now.lets.now step.now) current (n ∷ [])) (shown result) reads.old reads.new steps.old steps.new }
+    {
+        self.caller.tree.laws();
+        let nodes = self.step_at(step, current, n, reads, steps)?;
+        Ok(to_document_order(step.axis, nodes))
     }
 
     /// The nodes that a step selects from a set of nodes, in document order.
@@ -319,6 +367,9 @@ impl Evaluator<'_> {
     ) -> Result<NodeList, EvalError>
         ensures { Ran (step_from self.now.caller.tree.now.nodes (step_meant self.now.caller.tree.now.nodes self.now.lets.now step.now) current nodes.now) (shown result) reads.old reads.new steps.old steps.new }
     {
+        if let Some(only) = lone(nodes) {
+            return self.step_from_one(step, current, *only, reads, steps);
+        }
         if is_plain(step) {
             let plain = self.plain_step(step, nodes, reads, steps)?;
             return Ok(plain);

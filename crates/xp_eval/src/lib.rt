@@ -6,6 +6,7 @@ mod candidates;
 mod choosing;
 mod evaluator;
 mod let_calls;
+mod reached;
 mod variables;
 
 pub use calling::{eval, step_at};

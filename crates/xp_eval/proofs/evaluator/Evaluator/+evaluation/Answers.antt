@@ -1,21 +1,25 @@
 use Rattle.std.specs.Prelude.{flat_map}
-use Rattle.std.proofs.Common.{if◌then◌else◌, ℕ, ◌+◌, ◌∷◌, [], ◌++◌, List, drop, length, refl, sym, ◌∙◌, ap}
+use Rattle.std.proofs.Common.{if◌then◌else◌, Bool, ℕ, ◌+◌, ◌∷◌, [], ◌++◌, List, drop, length, refl, sym, ◌∙◌, ap}
 use Rattle.doc_axes.specs.Sets.{in_order}
+use Rattle.xp_typed_tree.specs.declared.expr.Compared.{out-Compared}
 use Rattle.xp_typed_tree.specs.TypedView.{typed_tree_of, typed_seen}
-use Rattle.xp_outcome.specs.Evaluation.{done, bind}
+use Rattle.xp_outcome.specs.Evaluation.{Evaluation, done, bind}
 use Rattle.xp_outcome.proofs.Runs.{next_item, no_item, ran_alike, ran_bind, ran_stop, ran_done, ran_late, onto_alike, onto_bind, onto_stop, onto_done, onto_late, onto_end}
 use Rattle.xp_values.specs.declared.values.Value.{Value}
-use Rattle.xp_values.specs.declared.values.Value.TheVariants.{NodeSet}
-use Rattle.xp_meaning.specs.Conversions.{nodes_of, as_wanted}
-use Rattle.xp_meaning.proofs.Exits.{exit_same, exit_memory, exit_fault, ran_ticked, ran_done_at}
+use Rattle.xp_values.specs.declared.values.Value.TheVariants.{NodeSet, Chars}
+use Rattle.xp_values.specs.declared.values.EvalFault.{EvalFault}
+use Rattle.xp_meaning.specs.Conversions.{nodes_of, compare_in, as_wanted}
+use Rattle.xp_meaning.proofs.Exits.{exit_same, exit_memory, exit_fault, ran_is, ran_ticked, ran_done_at}
 use Rattle.xp_meaning.specs.Paths.{Meaning, chosen, placed, kept, filtered, step_at, step_from}
 use Rattle.xp_meaning.specs.Functions.{applied}
 use Rattle.xp_meaning.specs.Evaluation.{meaning, meanings}
 use Rattle.xp_eval.specs.Steps.{step_meant}
+use Rattle.xp_eval.specs.inner.Reaching.{nodes_reached}
 use Rattle.xp_eval.specs.inner.Wants.{wanted_by}
 use Rattle.xp_eval.proofs.Loops.{some_true-next, some_true-end, all_true-next, all_true-end, filtered-next, filtered-end, compared-next, compared-end, combined-next, combined-end, path-next, path-end, plain_meant}
-use Rattle.xp_eval.proofs.Runs.{onto_goes, onto_stops, chosen_yes, chosen_no, gather_goes, gather_stops, gather_ends, gather_begins, gather_begins_alone, ran_given_fault, ran_given_ok, placed_is}
-use Rattle.xp_eval.proofs.Views.{view-Or, view-And, view-Compare, view-Arith, view-Negate, view-Union, view-Path, view-Filter, view-Variable, view-Literal, view-Number, view-Call, view-Root, view-Here, view-From}
+use Rattle.xp_eval.proofs.OneNode.{from_one, turned_in_order}
+use Rattle.xp_eval.proofs.Runs.{exit_reached, onto_goes, onto_stops, chosen_yes, chosen_no, gather_goes, gather_stops, gather_ends, gather_begins, gather_begins_alone, ran_given_fault, ran_given_ok, placed_is}
+use Rattle.xp_eval.proofs.Views.{view-Or, view-And, view-Compare, view-Arith, view-Negate, view-Union, view-Path, view-Filter, view-Variable, view-Literal, literal_bound, view-Number, view-Call, view-Root, view-Here, view-From}
 use Rattle.xp_eval.proofs.evaluator.Evaluator.+evaluation.Goals as goal
 
 pub some_true-returns-in_err-value : goal.some_true-returns-in_err-value
@@ -50,21 +54,32 @@ pub all_true-returns : goal.all_true-returns
 all_true-returns g t c =
     onto_done (onto_alike (all_true-end c.args.self.now.caller.tree.now.nodes c.args.self.now.lets.now c.args.operands.now c.loop-operand.operand-index c.args.at.now c.loop-operand-test.false) c.loop-operand.invariant)
 
-pub compare_rest-returns-in_err-right : goal.compare_rest-returns-in_err-right
-compare_rest-returns-in_err-right g t c =
-    exit_same _ _ c.from_residual.ensures.1 (onto_stops _ _ (compared-next c.args.self.now.caller.tree.now.nodes c.args.self.now.lets.now c.args.rest.now c.loop-operand.operand-index c.args.at.now c.loop-operand.value c.operand-item.result c.loop-operand-test.true c.operand-item.is) _ c.loop-operand.invariant c.in_err-right.ensures)
-
 pub compare_rest-returns-in_err-truth : goal.compare_rest-returns-in_err-truth
 compare_rest-returns-in_err-truth g t c =
-    exit_same _ _ c.from_residual-in_err-truth.ensures.1 (onto_stop _ _ (onto_goes _ _ (compared-next c.args.self.now.caller.tree.now.nodes c.args.self.now.lets.now c.args.rest.now c.loop-operand.operand-index c.args.at.now c.loop-operand.value c.operand-item.result c.loop-operand-test.true c.operand-item.is) c.loop-operand.invariant c.in_ok-right.ensures) c.in_err-truth.ensures)
+    exit_same _ _ c.from_residual.ensures.1 (onto_stops _ _ (compared-next c.args.self.now.caller.tree.now.nodes c.args.self.now.lets.now c.args.rest.now c.loop-operand.operand-index c.args.at.now c.loop-operand.value c.operand-item.result c.loop-operand-test.true c.operand-item.is) _ c.loop-operand.invariant c.in_err-truth.ensures)
 
 pub compare_rest-loop-operand-preserved : goal.compare_rest-loop-operand-preserved
 compare_rest-loop-operand-preserved g t c =
-    onto_bind _ (onto_goes _ _ (compared-next c.args.self.now.caller.tree.now.nodes c.args.self.now.lets.now c.args.rest.now c.loop-operand.operand-index c.args.at.now c.loop-operand.value c.operand-item.result c.loop-operand-test.true c.operand-item.is) c.loop-operand.invariant c.in_ok-right.ensures) c.in_ok-truth.ensures
+    onto_goes _ _ (compared-next c.args.self.now.caller.tree.now.nodes c.args.self.now.lets.now c.args.rest.now c.loop-operand.operand-index c.args.at.now c.loop-operand.value c.operand-item.result c.loop-operand-test.true c.operand-item.is) c.loop-operand.invariant c.in_ok-truth.ensures
 
 pub compare_rest-returns : goal.compare_rest-returns
 compare_rest-returns g t c =
     onto_done (onto_alike (compared-end c.args.self.now.caller.tree.now.nodes c.args.self.now.lets.now c.args.rest.now c.loop-operand.operand-index c.args.at.now c.loop-operand.value c.loop-operand-test.false) c.loop-operand.invariant)
+
+pub compare_operand-returns-in-Literal : goal.compare_operand-returns-in-Literal
+compare_operand-returns-in-Literal g t c =
+    let e = (out-Compared c.args.operand.now).expr in
+    let next : Value → Evaluation EvalFault Bool = λ w. compare_in c.args.self.now.caller.tree.now.nodes (out-Compared c.args.operand.now).operator c.args.value.now w in
+    ran_alike (literal_bound c.args.self.now.caller.tree.now.nodes c.args.self.now.lets.now e c.args.at.now next _ c.in-Literal.is)
+    (ran_ticked c.tick.ensures (ran_alike (ap (λ s. next (Chars s)) (sym c.as_str.ensures)) c.compare_text_in.ensures))
+
+pub compare_operand-returns-in_err-right : goal.compare_operand-returns-in_err-right
+compare_operand-returns-in_err-right g t c =
+    exit_same _ _ c.from_residual.ensures.1 (ran_stop _ _ c.in_err-right.ensures)
+
+pub compare_operand-returns : goal.compare_operand-returns
+compare_operand-returns g t c =
+    ran_bind _ c.in_ok-right.ensures c.compare_in.ensures
 
 pub combine_rest-returns-in_err-right : goal.combine_rest-returns-in_err-right
 combine_rest-returns-in_err-right g t c =
@@ -147,17 +162,51 @@ pub values-returns : goal.values-returns
 values-returns g t c =
     onto_done (gather_ends (λ i m. bind (m c.args.at.now) (λ v. as_wanted c.args.self.now.caller.tree.now.nodes (wanted_by c.args.function i) v)) (λ (_ : ℕ) (_ : Meaning) (v : Value). v ∷ []) done c.loop-place.values c.loop-place.place (meanings c.args.self.now.caller.tree.now.nodes c.args.self.now.lets.now (typed_seen (drop c.loop-place.place c.args.operands.now))) (ap (λ es. meanings c.args.self.now.caller.tree.now.nodes c.args.self.now.lets.now (typed_seen es)) (no_item c.args.operands.now c.loop-place.place c.loop-place-test.false)) c.loop-place.invariant)
 
-pub path_nodes-returns-in_err-nodes : goal.path_nodes-returns-in_err-nodes
-path_nodes-returns-in_err-nodes g t c =
-    exit_same _ _ c.from_residual.ensures.1 (onto_stops _ _ (path-next c.args.self.now.caller.tree.now.nodes c.args.self.now.lets.now c.args.path_steps.now c.loop-step.step-index c.args.current c.loop-step.nodes c.step-item.result c.loop-step-test.true c.step-item.is) _ c.loop-step.invariant (ran_alike (ap (λ ns. step_from c.args.self.now.caller.tree.now.nodes (step_meant c.args.self.now.caller.tree.now.nodes c.args.self.now.lets.now c.step-item.result) c.args.current ns) (sym c.as_slice.ensures)) c.in_err-nodes.ensures))
+pub start_nodes-returns-in-Root : goal.start_nodes-returns-in-Root
+start_nodes-returns-in-Root g t c =
+    ran_alike (view-Root c.args.self.now.caller.tree.now.nodes c.args.self.now.lets.now c.args.start.now c.args.at.now c.in-Root.is) (ran_done_at _ _ _ (ap (λ n. n ∷ []) c.root.ensures))
+
+pub start_nodes-returns-in-Here : goal.start_nodes-returns-in-Here
+start_nodes-returns-in-Here g t c =
+    ran_alike (view-Here c.args.self.now.caller.tree.now.nodes c.args.self.now.lets.now c.args.start.now c.args.at.now c.in-Here.is) (ran_done _ _ _)
+
+pub start_nodes-returns-in_err-list-in-From : goal.start_nodes-returns-in_err-list-in-From
+start_nodes-returns-in_err-list-in-From g t c =
+    exit_reached _ _ c.from_residual.ensures.1 (ran_alike (view-From c.args.self.now.caller.tree.now.nodes c.args.self.now.lets.now c.args.start.now c.args.at.now _ c.deref.result.now c.in-From.is c.deref.ensures) c.in_err-list-in-From.ensures)
+
+pub start_nodes-returns-in_ok-list-in-From : goal.start_nodes-returns-in_ok-list-in-From
+start_nodes-returns-in_ok-list-in-From g t c =
+    ran_alike (view-From c.args.self.now.caller.tree.now.nodes c.args.self.now.lets.now c.args.start.now c.args.at.now _ c.deref.result.now c.in-From.is c.deref.ensures) c.in_ok-list-in-From.ensures
+
+pub path_nodes-returns-in_err-selected : goal.path_nodes-returns-in_err-selected
+path_nodes-returns-in_err-selected g t c =
+    exit_same _ _ c.from_residual.ensures.1 (onto_stops _ _ (path-next c.args.self.now.caller.tree.now.nodes c.args.self.now.lets.now c.args.path_steps.now c.loop-step.step-index c.args.current (nodes_reached c.loop-step.nodes) c.step-item.result c.loop-step-test.true c.step-item.is) _ c.loop-step.invariant (ran_alike (ap (λ ns. step_from c.args.self.now.caller.tree.now.nodes (step_meant c.args.self.now.caller.tree.now.nodes c.args.self.now.lets.now c.step-item.result) c.args.current ns) (sym c.as_slice.ensures)) c.in_err-selected.ensures))
 
 pub path_nodes-loop-step-preserved : goal.path_nodes-loop-step-preserved
 path_nodes-loop-step-preserved g t c =
-    onto_goes _ _ (path-next c.args.self.now.caller.tree.now.nodes c.args.self.now.lets.now c.args.path_steps.now c.loop-step.step-index c.args.current c.loop-step.nodes c.step-item.result c.loop-step-test.true c.step-item.is) c.loop-step.invariant (ran_alike (ap (λ ns. step_from c.args.self.now.caller.tree.now.nodes (step_meant c.args.self.now.caller.tree.now.nodes c.args.self.now.lets.now c.step-item.result) c.args.current ns) (sym c.as_slice.ensures)) c.in_ok-nodes.ensures)
+    onto_goes _ _ (path-next c.args.self.now.caller.tree.now.nodes c.args.self.now.lets.now c.args.path_steps.now c.loop-step.step-index c.args.current (nodes_reached c.loop-step.nodes) c.step-item.result c.loop-step-test.true c.step-item.is) c.loop-step.invariant (ran_alike (ap (λ ns. step_from c.args.self.now.caller.tree.now.nodes (step_meant c.args.self.now.caller.tree.now.nodes c.args.self.now.lets.now c.step-item.result) c.args.current ns) (sym c.as_slice.ensures)) c.in_ok-selected.ensures)
+
+pub path_nodes-returns-in_err-list : goal.path_nodes-returns-in_err-list
+path_nodes-returns-in_err-list g t c =
+    exit_memory _ c.from_residual-in_err-list.ensures.1 (onto_late c.loop-step.invariant)
 
 pub path_nodes-returns : goal.path_nodes-returns
 path_nodes-returns g t c =
-    onto_done (onto_alike (path-end c.args.self.now.caller.tree.now.nodes c.args.self.now.lets.now c.args.path_steps.now c.loop-step.step-index c.args.current c.loop-step.nodes c.loop-step-test.false) c.loop-step.invariant)
+    ran_is _ c.in_ok-list.ensures
+    (onto_done (onto_alike (path-end c.args.self.now.caller.tree.now.nodes c.args.self.now.lets.now c.args.path_steps.now c.loop-step.step-index c.args.current (nodes_reached c.loop-step.nodes) c.loop-step-test.false) c.loop-step.invariant))
+
+pub step_from_one-returns-in_err-nodes : goal.step_from_one-returns-in_err-nodes
+step_from_one-returns-in_err-nodes g t c =
+    exit_same _ _ c.from_residual.ensures.1 (ran_alike (from_one c.args.self.now.caller.tree.now.nodes (step_meant c.args.self.now.caller.tree.now.nodes c.args.self.now.lets.now c.args.step.now) c.args.current c.args.n) (ran_stop _ _ c.in_err-nodes.ensures))
+
+pub step_from_one-returns : goal.step_from_one-returns
+step_from_one-returns g t c =
+    ran_alike (from_one c.args.self.now.caller.tree.now.nodes (step_meant c.args.self.now.caller.tree.now.nodes c.args.self.now.lets.now c.args.step.now) c.args.current c.args.n)
+    (ran_bind _ c.in_ok-nodes.ensures (ran_done_at _ _ _ (c.to_document_order.ensures ∙ turned_in_order c.args.self.now.caller.tree.now.nodes (step_meant c.args.self.now.caller.tree.now.nodes c.args.self.now.lets.now c.args.step.now) c.args.current c.args.n c.laws.ensures.ordered c.in_ok-nodes.nodes c.in_ok-nodes.ensures)))
+
+pub step_set-returns-in-Some : goal.step_set-returns-in-Some
+step_set-returns-in-Some g t c =
+    ran_alike (ap (λ ns. step_from c.args.self.now.caller.tree.now.nodes (step_meant c.args.self.now.caller.tree.now.nodes c.args.self.now.lets.now c.args.step.now) c.args.current ns) c.in-Some.ensures) c.step_from_one.ensures
 
 pub step_set-returns-in_err-plain : goal.step_set-returns-in_err-plain
 step_set-returns-in_err-plain g t c =
@@ -235,26 +284,6 @@ pub keep-returns : goal.keep-returns
 keep-returns g t c =
     onto_done (gather_ends (λ position n. meaning c.args.self.now.caller.tree.now.nodes c.args.self.now.lets.now (typed_tree_of c.args.predicate.now) (placed c.args.current (length c.args.nodes.now) position n)) chosen done c.loop-n.kept (c.loop-n.n-index + 1) (drop c.loop-n.n-index c.args.nodes.now) (no_item c.args.nodes.now c.loop-n.n-index c.loop-n-test.false) c.loop-n.invariant.rest)
 
-pub start_nodes-returns-in_err-of_one-in-Root : goal.start_nodes-returns-in_err-of_one-in-Root
-start_nodes-returns-in_err-of_one-in-Root g t c =
-    exit_memory _ c.from_residual.ensures.1 (ran_late _ _ _)
-
-pub start_nodes-returns-in_err-of_one-in-Here : goal.start_nodes-returns-in_err-of_one-in-Here
-start_nodes-returns-in_err-of_one-in-Here g t c =
-    exit_memory _ c.from_residual-in_err-of_one-in-Here.ensures.1 (ran_late _ _ _)
-
-pub start_nodes-returns-in_ok-of_one-in-Root : goal.start_nodes-returns-in_ok-of_one-in-Root
-start_nodes-returns-in_ok-of_one-in-Root g t c =
-    ran_alike (view-Root c.args.self.now.caller.tree.now.nodes c.args.self.now.lets.now c.args.start.now c.args.at.now c.in-Root.is) (ran_done_at _ _ _ (c.in_ok-of_one-in-Root.ensures ∙ ap (λ n. n ∷ []) c.root.ensures))
-
-pub start_nodes-returns-in_ok-of_one-in-Here : goal.start_nodes-returns-in_ok-of_one-in-Here
-start_nodes-returns-in_ok-of_one-in-Here g t c =
-    ran_alike (view-Here c.args.self.now.caller.tree.now.nodes c.args.self.now.lets.now c.args.start.now c.args.at.now c.in-Here.is) (ran_done_at _ _ _ c.in_ok-of_one-in-Here.ensures)
-
-pub start_nodes-returns-in-From : goal.start_nodes-returns-in-From
-start_nodes-returns-in-From g t c =
-    ran_alike (view-From c.args.self.now.caller.tree.now.nodes c.args.self.now.lets.now c.args.start.now c.args.at.now _ c.deref.result.now c.in-From.is c.deref.ensures) c.operand_nodes.ensures
-
 pub evaluate-returns-in_err-truth-in-Or : goal.evaluate-returns-in_err-truth-in-Or
 evaluate-returns-in_err-truth-in-Or g t c =
     exit_same _ _ c.from_residual.ensures.1 (ran_alike (view-Or c.args.self.now.caller.tree.now.nodes c.args.self.now.lets.now c.args.expr.now c.args.at.now _ c.deref.result.now c.in-Or.is c.deref.ensures.value) (ran_ticked c.tick.ensures (ran_stop _ _ c.in_err-truth-in-Or.ensures)))
@@ -307,17 +336,17 @@ pub evaluate-returns-in-Union : goal.evaluate-returns-in-Union
 evaluate-returns-in-Union g t c =
     ran_alike (view-Union c.args.self.now.caller.tree.now.nodes c.args.self.now.lets.now c.args.expr.now c.args.at.now _ c.deref-in-Union.result.now c.in-Union.is c.deref-in-Union.ensures.value) (ran_ticked c.tick.ensures c.union_value.ensures)
 
+pub evaluate-returns-in_err-begin-in-Path : goal.evaluate-returns-in_err-begin-in-Path
+evaluate-returns-in_err-begin-in-Path g t c =
+    exit_same _ _ c.from_residual-in_err-begin-in-Path.ensures.1 (ran_alike (view-Path c.args.self.now.caller.tree.now.nodes c.args.self.now.lets.now c.args.expr.now c.args.at.now c.in-Path.start _ _ c.in-Path.is refl) (ran_ticked c.tick.ensures (ran_stop _ _ c.in_err-begin-in-Path.ensures)))
+
 pub evaluate-returns-in_err-nodes-in-Path : goal.evaluate-returns-in_err-nodes-in-Path
 evaluate-returns-in_err-nodes-in-Path g t c =
-    exit_same _ _ c.from_residual-in_err-nodes-in-Path.ensures.1 (ran_alike (view-Path c.args.self.now.caller.tree.now.nodes c.args.self.now.lets.now c.args.expr.now c.args.at.now c.in-Path.start _ _ c.in-Path.is refl) (ran_ticked c.tick.ensures (ran_stop _ _ c.in_err-nodes-in-Path.ensures)))
+    exit_same _ _ c.from_residual-in_err-nodes-in-Path.ensures.1 (ran_alike (view-Path c.args.self.now.caller.tree.now.nodes c.args.self.now.lets.now c.args.expr.now c.args.at.now c.in-Path.start _ c.deref-in-Path.result.now c.in-Path.is c.deref-in-Path.ensures.value) (ran_ticked c.tick.ensures (ran_bind _ c.in_ok-begin-in-Path.ensures (ran_stop _ _ c.in_err-nodes-in-Path.ensures))))
 
-pub evaluate-returns-in_err-nodes-in-Path-2 : goal.evaluate-returns-in_err-nodes-in-Path-2
-evaluate-returns-in_err-nodes-in-Path-2 g t c =
-    exit_same _ _ c.from_residual-in_err-nodes-in-Path-2.ensures.1 (ran_alike (view-Path c.args.self.now.caller.tree.now.nodes c.args.self.now.lets.now c.args.expr.now c.args.at.now c.in-Path.start _ c.deref-in-Path.result.now c.in-Path.is c.deref-in-Path.ensures.value) (ran_ticked c.tick.ensures (ran_bind _ c.in_ok-nodes-in-Path.ensures (ran_stop _ _ c.in_err-nodes-in-Path-2.ensures))))
-
-pub evaluate-returns-in_ok-nodes-in-Path-2 : goal.evaluate-returns-in_ok-nodes-in-Path-2
-evaluate-returns-in_ok-nodes-in-Path-2 g t c =
-    ran_alike (view-Path c.args.self.now.caller.tree.now.nodes c.args.self.now.lets.now c.args.expr.now c.args.at.now c.in-Path.start _ c.deref-in-Path.result.now c.in-Path.is c.deref-in-Path.ensures.value) (ran_ticked c.tick.ensures (ran_bind _ c.in_ok-nodes-in-Path.ensures (ran_bind _ c.in_ok-nodes-in-Path-2.ensures (ran_done _ _ _))))
+pub evaluate-returns-in_ok-nodes-in-Path : goal.evaluate-returns-in_ok-nodes-in-Path
+evaluate-returns-in_ok-nodes-in-Path g t c =
+    ran_alike (view-Path c.args.self.now.caller.tree.now.nodes c.args.self.now.lets.now c.args.expr.now c.args.at.now c.in-Path.start _ c.deref-in-Path.result.now c.in-Path.is c.deref-in-Path.ensures.value) (ran_ticked c.tick.ensures (ran_bind _ c.in_ok-begin-in-Path.ensures (ran_bind _ c.in_ok-nodes-in-Path.ensures (ran_done _ _ _))))
 
 pub evaluate-returns-in_err-set-in-Filter : goal.evaluate-returns-in_err-set-in-Filter
 evaluate-returns-in_err-set-in-Filter g t c =

@@ -8,6 +8,7 @@ use Rattle.xp_meaning.specs.Conversions.{as_wanted}
 use Rattle.xp_meaning.specs.Paths.{chosen, placed, kept, filtered, step_at, step_from, path}
 use Rattle.xp_meaning.specs.Evaluation.{meaning, meanings, some_true, all_true, compared, combined, values, comparands_meant, combinands_meant, steps_meant}
 use Rattle.xp_eval.specs.Steps.{step_meant}
+use Rattle.xp_eval.specs.inner.Reaching.{nodes_reached}
 use Rattle.xp_eval.specs.inner.Wants.{wanted_by}
 use Rattle.xp_eval.proofs.evaluator.Evaluator.+evaluation.Given as goal
 
@@ -39,8 +40,8 @@ invariant-values-loop-place g l =
 
 abbrev pub invariant-path_nodes-loop-step : goal.invariant-path_nodes-loop-step
 invariant-path_nodes-loop-step g l =
-    Onto (path l.fn.self.caller.tree.now.nodes (steps_meant l.fn.self.caller.tree.now.nodes l.fn.self.lets.now (typed_steps_seen l.path_steps)) l.current l.initial.nodes) l.initial.reads l.initial.steps
-    (path l.fn.self.caller.tree.now.nodes (steps_meant l.fn.self.caller.tree.now.nodes l.fn.self.lets.now (typed_steps_seen (drop l.step-index l.path_steps))) l.current l.nodes) l.reads l.steps
+    Onto (path l.fn.self.caller.tree.now.nodes (steps_meant l.fn.self.caller.tree.now.nodes l.fn.self.lets.now (typed_steps_seen l.path_steps)) l.current (nodes_reached l.initial.nodes)) l.initial.reads l.initial.steps
+    (path l.fn.self.caller.tree.now.nodes (steps_meant l.fn.self.caller.tree.now.nodes l.fn.self.lets.now (typed_steps_seen (drop l.step-index l.path_steps))) l.current (nodes_reached l.nodes)) l.reads l.steps
 
 abbrev pub invariant-step_set-loop-n : goal.invariant-step_set-loop-n
 invariant-step_set-loop-n g l =

@@ -1,0 +1,39 @@
+//! The nodes that a location path has come to (XPath 1.0, section 2).
+
+ghost use Rattle.std.specs.Prelude.{◌≡◌, IfOk};
+ghost use Rattle.xp_eval.specs.inner.Reaching.{nodes_reached};
+
+use doc_tree::{NodeId, NodeList};
+use sch_base::ItemList;
+use std::alloc::{AllocError, Global};
+use std::slice;
+
+/// The nodes that a path has come to: the one at which it begins, of which no list is made, or those that an expression or
+/// a step has selected.
+#[derive(Debug, Drop)]
+pub(crate) enum Reached {
+    One(NodeId),
+    Set(NodeList),
+}
+
+impl Reached {
+    /// The nodes in order, lent.
+    pub(crate) fn as_slice(&self) -> &[NodeId]
+        ensures { result.now ≡ nodes_reached self.now }
+    {
+        match self {
+            Reached::One(n) => slice::from_ref(n),
+            Reached::Set(nodes) => nodes.as_slice(),
+        }
+    }
+
+    /// The nodes as a list. Takes memory where it is made of one node.
+    pub(crate) fn into_list(self, alloc: Global) -> Result<NodeList, AllocError>
+        ensures { IfOk result (λ nodes. nodes ≡ nodes_reached self) }
+    {
+        match self {
+            Reached::One(n) => ItemList::of_one(alloc, n),
+            Reached::Set(nodes) => Ok(nodes),
+        }
+    }
+}
