@@ -2,7 +2,7 @@
 
 ghost use Rattle.std.specs.Prelude.{◌≡◌, ◌++◌, true, IfOk, OnOk, string_bytes};
 ghost use Rattle.doc_tree.specs.Table.{is_live, name_of};
-ghost use Rattle.doc_tree.specs.Walks.{above, order};
+ghost use Rattle.doc_tree.specs.Walks.{above};
 ghost use Rattle.doc_locations.specs.Locations.{location_of, steps_of, step_of, kid_step, attribute_step, named_step, quotes_of};
 ghost use Rattle.doc_locations.specs.inner.Places.{HoldsSome};
 
@@ -44,21 +44,9 @@ impl<'a> Model for Locator<'a> {
 }
 
 impl<'a> Locator<'a> {
-    /// A locator of the nodes of the tree, given all of them. The time grows with their number.
-    pub fn new(alloc: Global, tree: &'a Tree, nodes: &[NodeId]) -> Result<Locator<'a>, AllocError>
-        requires { nodes.now ≡ order tree.now.nodes }
-        ensures { IfOk result (λ locator. locator ≡ tree.now.nodes) }
-    {
-        Locator::of_nodes(alloc, tree, nodes)
-    }
-
     /// A locator of the nodes of the tree, for use with some of them. The time grows with their number and that of the
     /// siblings on the ways up from them.
-    pub fn of_nodes(
-        alloc: Global,
-        tree: &'a Tree,
-        nodes: &[NodeId],
-    ) -> Result<Locator<'a>, AllocError>
+    pub fn new(alloc: Global, tree: &'a Tree, nodes: &[NodeId]) -> Result<Locator<'a>, AllocError>
         ensures { IfOk result (λ locator. locator ≡ tree.now.nodes) }
     {
         let places = places_on_ways(alloc, tree, nodes)?;

@@ -25,6 +25,9 @@ pub(crate) fn places_on_ways(
 ) -> Result<Vec<usize>, AllocError>
     ensures { IfOk result (λ places. HoldsSome tree.now.nodes places.items) }
 {
+    if nodes.is_empty() {
+        return Ok(Vec::new(alloc));
+    }
     let mut places = vec![in alloc; 0; numbers_made(tree)]?;
     count_ways(places.as_mut_slice(), tree, nodes);
     Ok(places)

@@ -66,7 +66,7 @@ pub fn write_report<O: Sink>(
     ensures { Reported (O.log sink.old) (O.log sink.new) (report plan.now tree.now.nodes (outcome_at found.now)) result }
 {
     let nodes = found.told_in_order(alloc, tree)?;
-    let locator = Locator::of_nodes(alloc, tree, nodes.as_slice())?;
+    let locator = Locator::new(alloc, tree, nodes.as_slice())?;
     tree.laws();
     let printer = Printer {
         alloc,
