@@ -4,7 +4,7 @@ ghost use Rattle.std.specs.Prelude.{IfOk};
 ghost use Rattle.sch_compiled.specs.Findings.{ToldInOrder};
 
 use crate::findings::Findings;
-use doc_axes::in_document_order;
+use doc_axes::into_document_order;
 use doc_tree::{NodeList, Tree};
 use std::alloc::{AllocError, Global};
 
@@ -23,6 +23,6 @@ impl Findings {
         if told.len() > tree.live_nodes() as usize / FEW {
             return tree.nodes_in_order(alloc);
         }
-        in_document_order(alloc, tree, &told)
+        into_document_order(alloc, tree, told)
     }
 }

@@ -10,5 +10,5 @@ returns-then-len-live_nodes c = IfOk-weaker c.nodes_in_order.result _ (ToldInOrd
     (λ nodes is. all-in_order c.args.tree.now.nodes c.args.self.now nodes is) c.nodes_in_order.ensures
 
 pub returns : goal.returns
-returns c = IfOk-weaker c.in_document_order.result _ (ToldInOrder c.args.tree.now.nodes c.args.self.now)
-    (λ nodes is. record { among = λ m. mem m c.in_ok-told.told; in_order = is; all = c.in_ok-told.ensures.all }) c.in_document_order.ensures
+returns c = IfOk-weaker c.into_document_order.result _ (ToldInOrder c.args.tree.now.nodes c.args.self.now)
+    (λ nodes is. record { among = λ m. mem m c.in_ok-told.told; in_order = is; all = c.in_ok-told.ensures.all }) c.into_document_order.ensures
