@@ -1,14 +1,16 @@
 -- Where a search for a byte of a text ends.
-use Rattle.std.proofs.Common.{◌≡◌, ℕ, ◌+◌, ◌<◌, true, nat_eq, List, length, take, drop, get_or, None, Some, arith, ap}
+use Rattle.std.proofs.Common.{◌≡◌, ℕ, zero, suc, ◌+◌, ◌<◌, Bool, true, false, nat_eq, List, [], ◌∷◌, length, take, drop, get_or, None, Some, arith, refl, ap}
 use Rattle.std.specs.Prelude.{IsUtf8}
-use Rattle.std.specs.List.{list_any, position_or_len, before_first, after_first}
+use Rattle.std.specs.List.{list_all, list_any, position_or_len, before_first, after_first}
 use Rattle.std.specs.Str.{IsCharBoundary}
-use Rattle.std.proofs.lemmas.Bool.{eqb-true, false_from_ne_true}
+use Rattle.std.proofs.lemmas.Bool.{eqb-true, false_from_ne_true, and_parts}
+use Rattle.std.proofs.lemmas.Bool.Decides.{nat_tests}
 use Rattle.std.proofs.lemmas.List.Folds.{list_any_at}
 use Rattle.std.proofs.lemmas.List.Sums.{position_or_len_is}
 use Rattle.std.proofs.lemmas.Str.{IsCharBoundary-after_ascii}
 use Rattle.memchr.specs.Find.{IsFirstByte, is_byte}
 use Rattle.pyx_core.specs.Escapes.{unescaped}
+use Rattle.pyx_core.specs.inner.Plain.{is_literal}
 use Rattle.pyx_core.proofs.Undoing.{unescaped_whole}
 
 -- the byte stands nowhere
@@ -45,3 +47,23 @@ cut_behind c text at low utf8 found =
 -- a text without a backslash has no escapes
 pub no_escape : (text : List ℕ) → IsFirstByte (is_byte 92) text None → unescaped text ≡ text
 no_escape text none = unescaped_whole text (none_found 92 text none)
+
+-- nor has one of characters that stand for themselves
+no_backslash : (b : ℕ) → is_literal b ≡ true → nat_eq b 92 ≡ false
+no_backslash b h = false_from_ne_true (nat_eq b 92) (λ e. let is = eqb-true b 92 e in grind (arith, nat_tests))
+
+pub literal_unescaped : (text : List ℕ) → list_all is_literal text ≡ true → unescaped text ≡ text
+literal_unescaped [] h = refl
+literal_unescaped (b ∷ text) h =
+    let parts = and_parts (is_literal b) _ h in
+    rw (no_backslash b parts.0) (ap (λ l. b ∷ l) (literal_unescaped text parts.1))
+
+-- and what stands behind a place of these is made of such characters too
+all_behind : (p : ℕ → Bool) (xs : List ℕ) (n : ℕ) → list_all p xs ≡ true → list_all p (drop n xs) ≡ true
+all_behind p xs zero h = h
+all_behind p [] (suc n) h = refl
+all_behind p (x ∷ xs) (suc n) h = all_behind p xs n (and_parts (p x) _ h).1
+
+pub literal_after : (c : ℕ) (text after : List ℕ) → list_all is_literal text ≡ true →
+    after ≡ after_first (λ b. nat_eq b c) text → list_all is_literal after ≡ true
+literal_after c text after h is = rw is (all_behind is_literal text (position_or_len (λ b. nat_eq b c) text + 1) h)

@@ -1,16 +1,17 @@
 -- Bytes of ASCII are characters, and those of a name are NameChars.
-use Rattle.std.proofs.Common.{◌≡◌, ℕ, zero, suc, ◌<◌, Bool, true, false, ◌||◌, List, [], ◌∷◌, ◌++◌, get_or, arith, refl, ◌∙◌, ap}
+use Rattle.std.proofs.Common.{◌≡◌, ℕ, zero, suc, ◌<◌, Bool, true, false, length, take, ◌||◌, List, [], ◌∷◌, ◌++◌, get_or, arith, refl, ◌∙◌, ap}
 use Rattle.std.specs.List.{list_all}
 use Rattle.std.specs.Option.{is_some}
+use Rattle.std.specs.Prelude.{IsUtf8}
 use Rattle.std.specs.Str.{chars}
 use Rattle.std.proofs.lemmas.Bool.{and_parts, and_from, or_left}
 use Rattle.std.proofs.lemmas.Bool.Decides.{nat_tests}
-use Rattle.std.proofs.lemmas.Str.{chars-IsAscii, IsUtf8-from_ascii}
+use Rattle.std.proofs.lemmas.Str.{chars-IsAscii, IsUtf8-from_ascii, is_utf8-from_IsUtf8}
 use Rattle.sch_base.specs.Characters.{lies_in, is_xml_char, is_name_start, is_name_char}
 use Rattle.sch_base.specs.Names.{is_ncname, is_ncname_of}
 use Rattle.sch_base.proofs.NameLemmas.{qname_splits}
-use Rattle.pyx_core.specs.LineTable.{is_qname}
-use Rattle.pyx_core.specs.inner.Plain.{is_plain, is_plain_start, is_plain_part, is_plain_name}
+use Rattle.pyx_core.specs.LineTable.{is_qname, read_text, line_of}
+use Rattle.pyx_core.specs.inner.Plain.{is_plain, is_literal, is_plain_start, is_plain_part, is_plain_name}
 
 -- bytes that pass a test of ASCII are ASCII
 all_low : (p : ℕ → Bool) → ((b : ℕ) → p b ≡ true → b < 128) → (bytes : List ℕ) → list_all p bytes ≡ true →
@@ -47,6 +48,38 @@ plain_char b h = grind (arith, nat_tests)
 pub plain_text : (text : List ℕ) → list_all is_plain text ≡ true → list_all is_xml_char (chars text) ≡ true
 plain_text text h =
     ap (list_all is_xml_char) (chars-IsAscii text (all_low is_plain plain_low text h)) ∙ all_pass is_plain is_xml_char plain_char text h
+
+-- so are those that stand for themselves, and none of them ends a line
+literal_low : (b : ℕ) → is_literal b ≡ true → b < 128
+literal_low b h = grind (arith, nat_tests)
+
+literal_char : (b : ℕ) → is_literal b ≡ true → is_xml_char b ≡ true
+unfolding is_xml_char
+literal_char b h = grind (arith, nat_tests)
+
+literal_inside : (b : ℕ) → is_literal b ≡ true → b ≡ 10 → ⊥
+literal_inside b h is = grind (arith, nat_tests)
+
+pub literal_utf8 : (bytes : List ℕ) → list_all is_literal bytes ≡ true → IsUtf8 bytes
+literal_utf8 bytes h = IsUtf8-from_ascii bytes (all_low is_literal literal_low bytes h)
+
+-- a line of such characters is a text of Chars
+pub literal_line : (bytes : List ℕ) → list_all is_literal bytes ≡ true → line_of bytes ≡ read_text bytes
+literal_line bytes h =
+    let text = is_utf8-from_IsUtf8 bytes (literal_utf8 bytes h) in
+    let good : list_all is_xml_char (chars bytes) ≡ true =
+    ap (list_all is_xml_char) (chars-IsAscii bytes (all_low is_literal literal_low bytes h))
+    ∙ all_pass is_literal is_xml_char literal_char bytes h in
+    rw (text, good) refl
+
+-- no line ends within such characters
+pub literal_front : (bytes : List ℕ) (len k : ℕ) → list_all is_literal (take len bytes) ≡ true → k < len →
+    k < length bytes → get_or bytes k 0 ≡ 10 → ⊥
+literal_front [] len k h less within is = absurd (omega arith)
+literal_front (b ∷ bytes) zero k h less within is = absurd (omega arith)
+literal_front (b ∷ bytes) (suc len) zero h less within is = literal_inside b (and_parts (is_literal b) _ h).0 is
+literal_front (b ∷ bytes) (suc len) (suc k) h less within is =
+    literal_front bytes len k (and_parts (is_literal b) _ h).1 (omega arith) (omega arith) is
 
 -- those of names are NameChars
 part_low : (b : ℕ) → is_plain_part b ≡ true → b < 128

@@ -1,6 +1,6 @@
 //! The events that wait to be taken, and the one that the newest lines have begun.
 
-ghost use Rattle.std.specs.Prelude.{◌≡◌, ◌++◌, ◌∷◌, [], List, Option, None, Some, IfOk};
+ghost use Rattle.std.specs.Prelude.{◌≡◌, ◌++◌, ◌∷◌, [], List, Option, None, Some, IfOk, string_bytes};
 ghost use Rattle.std.specs.Option.{option_to_list};
 ghost use Rattle.pyx_core.specs.declared.begun.Begun.TheVariants as begun_of;
 ghost use Rattle.pyx_core.specs.declared.event.Event.TheVariants as event;
@@ -23,7 +23,13 @@ pub enum Begun {
         name: Text,
         attrs: AttrList,
     },
+    /// The characters of one line.
     Text {
+        line: u64,
+        text: Text,
+    },
+    /// The characters of several lines.
+    Joined {
         line: u64,
         text: String,
     },
@@ -53,7 +59,8 @@ fn complete(waiting: &mut VecDeque<Located>, begun: Begun) -> Result<(), AllocEr
     match begun {
         Begun::Nothing => Ok(()),
         Begun::Element { line, name, attrs } => put(waiting, line, Event::Start { name, attrs }),
-        Begun::Text { line, text } => {
+        Begun::Text { line, text } => put(waiting, line, Event::Chars { text }),
+        Begun::Joined { line, text } => {
             let text = Text::from(text);
             put(waiting, line, Event::Chars { text })
         }
@@ -61,14 +68,22 @@ fn complete(waiting: &mut VecDeque<Located>, begun: Begun) -> Result<(), AllocEr
 }
 
 /// Characters that begin in a line, where there are any.
-fn begin_text(alloc: Global, line: u64, text: &str) -> Result<Begun, AllocError>
-    ensures { IfOk result (λ begun. shown begun ≡ begin_text line text.now) }
+fn begin_text(line: u64, text: Text) -> Begun
+    ensures { shown result ≡ begin_text line text }
 {
-    if text.is_empty() {
-        return Ok(Begun::Nothing);
+    if text.as_str().is_empty() {
+        return Begun::Nothing;
     }
-    let text = String::from_str(alloc, text)?;
-    Ok(Begun::Text { line, text })
+    Begun::Text { line, text }
+}
+
+/// The characters of two lines.
+fn joined(alloc: Global, text: &str, more: &str) -> Result<String, AllocError>
+    ensures { IfOk result (λ joined. string_bytes joined ≡ text.now ++ more.now) }
+{
+    let mut joined = String::from_str(alloc, text)?;
+    joined.push_str(more)?;
+    Ok(joined)
 }
 
 impl Events {
@@ -106,36 +121,34 @@ impl Events {
         ensures { (taken done : List Located) (begun : Option Located) → Collected self.old taken done begun →
             Goes self.new taken done [] (with_attr attr begun) result }
     {
-        match mem::replace(&mut self.begun, Begun::Nothing) {
-            Begun::Nothing => Ok(()),
-            Begun::Element {
-                line,
-                name,
-                mut attrs,
-            } => {
-                attrs.push(attr)?;
-                self.begun = Begun::Element { line, name, attrs };
-                Ok(())
-            }
-            Begun::Text { line, text } => {
-                self.begun = Begun::Text { line, text };
-                Ok(())
-            }
+        if let Begun::Element { attrs, .. } = &mut self.begun {
+            attrs.push(attr)?;
         }
+        Ok(())
     }
 
     /// Takes characters: they go on with those that are begun, or complete another event and begin.
-    pub fn text(&mut self, alloc: Global, line: u64, text: &str) -> Result<(), AllocError>
+    ///
+    /// The characters of one line are not copied.
+    pub fn text(&mut self, alloc: Global, line: u64, text: Text) -> Result<(), AllocError>
         ensures { (taken done : List Located) (begun : Option Located) → Collected self.old taken done begun →
-            Goes self.new taken done (but_text begun) (with_text line text.now begun) result }
+            Goes self.new taken done (but_text begun) (with_text line text begun) result }
     {
         match mem::replace(&mut self.begun, Begun::Nothing) {
             Begun::Text {
                 line: first,
+                text: begun,
+            } => {
+                let text = joined(alloc, begun.as_str(), text.as_str())?;
+                self.begun = Begun::Joined { line: first, text };
+                Ok(())
+            }
+            Begun::Joined {
+                line: first,
                 text: mut joined,
             } => {
-                joined.push_str(text)?;
-                self.begun = Begun::Text {
+                joined.push_str(text.as_str())?;
+                self.begun = Begun::Joined {
                     line: first,
                     text: joined,
                 };
@@ -143,7 +156,7 @@ impl Events {
             }
             begun => {
                 complete(&mut self.waiting, begun)?;
-                self.begun = begin_text(alloc, line, text)?;
+                self.begun = begin_text(line, text);
                 Ok(())
             }
         }

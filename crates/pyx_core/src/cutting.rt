@@ -1,13 +1,16 @@
 //! Texts that come in pieces, cut into their lines.
 
-ghost use Rattle.std.specs.Prelude.{◌≡◌, ◌++◌, ◌<◌, ◌+◌, ◌-◌, ◌^◌, List, ℕ, suc, length, take, drop, [], OnOk};
+ghost use Rattle.std.specs.Prelude.{◌≡◌, ◌++◌, ◌<◌, ◌+◌, ◌-◌, ◌^◌, List, ℕ, suc, length, take, drop, [], None, Some, OnOk, MatchOption};
+ghost use Rattle.memchr.specs.Find.{IsFirstByte, is_byte};
 ghost use Rattle.pyx_core.specs.declared.event.Located.{Located};
 ghost use Rattle.pyx_core.specs.declared.line_table.Line.{Line};
 ghost use Rattle.pyx_core.specs.declared.mode.Mode.{Mode};
 ghost use Rattle.pyx_core.specs.Reading.{judge};
+ghost use Rattle.pyx_core.specs.inner.Plain.{AreLiteral};
 ghost use Rattle.pyx_core.specs.inner.Standing.{HasRead, TakesLine};
 ghost use Rattle.pyx_core.specs.inner.Cutting.{StandsAt, Cuts, Keeps, Fed, Finished, fault_if};
 
+use crate::plain::literal_len;
 use crate::standing::Standing;
 use crate::{Mode, PyxFault, PyxKind};
 use std::alloc::{AllocError, Global};
@@ -20,6 +23,39 @@ pub struct Cutting {
     /// How many lines have ended.
     pub count: u64,
     pub standing: Standing,
+}
+
+/// Where a line ends, and what is known of its bytes.
+#[derive(Clone, Copy)]
+struct LineEnd {
+    /// The place of the line end.
+    at: usize,
+    /// Whether the bytes before it are known to be literal: characters of ASCII that stand for themselves.
+    is_literal: bool,
+}
+
+/// The end of the first line.
+///
+/// Most lines are short and literal, and one look at each byte finds their end; where other bytes stand in a line, its
+/// end is searched for.
+fn line_end(bytes: &[u8]) -> Option<LineEnd>
+    ensures { MatchOption result (IsFirstByte (is_byte 10) bytes.now None)
+        (λ end. IsFirstByte (is_byte 10) bytes.now (Some end.at) × AreLiteral end.is_literal (take end.at bytes.now)) }
+{
+    let front = literal_len(bytes);
+    if matches!(bytes.get(front), Some(b'\n')) {
+        return Some(LineEnd {
+            at: front,
+            is_literal: true,
+        });
+    }
+    match memchr::memchr(b'\n', bytes) {
+        Some(at) => Some(LineEnd {
+            at,
+            is_literal: false,
+        }),
+        None => None,
+    }
 }
 
 /// The bytes before a place and those after it.
@@ -59,13 +95,16 @@ impl Cutting {
         }
     }
 
-    /// Judges and takes the line that is kept so far and ends with these bytes. A whole line is not copied.
+    /// Judges and takes the line that is kept so far and ends with these bytes, which may be known to be literal. A
+    /// whole line is not copied.
     fn take_joined(
         &mut self,
         alloc: Global,
         number: u64,
         bytes: &[u8],
+        is_literal: bool,
     ) -> Result<Option<PyxKind>, AllocError>
+        requires literal { AreLiteral is_literal bytes.now }
         ensures reads { (mode : Mode) (taken : List Located) (before : List Line) → HasRead self.old.standing mode taken before →
             number ≡ suc (length before) →
             TakesLine self.new.standing mode taken before (judge mode before (self.old.half.items ++ bytes.now)) result }
@@ -73,21 +112,29 @@ impl Cutting {
         ensures count { self.new.count ≡ self.old.count }
     {
         if self.half.is_empty() {
-            return self.standing.take(alloc, number, bytes);
+            return self.standing.take(alloc, number, bytes, is_literal);
         }
         self.half.extend_from_slice(bytes)?;
-        let found = self.standing.take(alloc, number, self.half.as_slice())?;
+        let found = self
+            .standing
+            .take(alloc, number, self.half.as_slice(), false)?;
         self.half.clear();
         Ok(found)
     }
 
-    /// Takes the line that ends with these bytes.
-    fn take_line(&mut self, alloc: Global, bytes: &[u8]) -> Result<Option<PyxFault>, AllocError>
+    /// Takes the line that ends with these bytes, which may be known to be literal.
+    fn take_line(
+        &mut self,
+        alloc: Global,
+        bytes: &[u8],
+        is_literal: bool,
+    ) -> Result<Option<PyxFault>, AllocError>
+        requires literal { AreLiteral is_literal bytes.now }
         ensures { (mode : Mode) (taken : List Located) (before : List Line) (half : List ℕ) → StandsAt self.old mode taken before half →
             length before < 2 ^ 64 - 1 → Cuts self.new mode taken before (judge mode before (half ++ bytes.now)) result }
     {
         let number = self.count.saturating_add(1);
-        let kind = self.take_joined(alloc, number, bytes)?;
+        let kind = self.take_joined(alloc, number, bytes, is_literal)?;
         self.count = number;
         Ok(fault_in(number, kind))
     }
@@ -98,9 +145,9 @@ impl Cutting {
             length (fed ++ piece.now) < 2 ^ 64 - 1 → Fed self.new mode (fed ++ piece.now) taken result }
     {
         let mut rest = piece;
-        while let Some(end) = memchr::memchr(b'\n', rest) {
-            let (line, after) = split_line(rest, end);
-            if let Some(fault) = self.take_line(alloc, line)? {
+        while let Some(end) = line_end(rest) {
+            let (line, after) = split_line(rest, end.at);
+            if let Some(fault) = self.take_line(alloc, line, end.is_literal)? {
                 return Ok(Some(fault));
             }
             rest = after;

@@ -2,6 +2,7 @@
 
 ghost use Rattle.std.specs.Prelude.{◌≡◌, ◌<◌, ◌≤◌, ◌++◌, ◌∷◌, [], length, true, IfOk, MatchOption};
 ghost use Rattle.pyx_core.specs.Escapes.{undone, unescaped, unescaped_after};
+ghost use Rattle.pyx_core.specs.inner.Plain.{AreLiteral};
 
 use sch_base::Text;
 use std::alloc::{AllocError, Global};
@@ -16,6 +17,18 @@ pub fn unescape(alloc: Global, text: &str) -> Result<Text, AllocError>
         Some(_) => undo_all(alloc, text),
         None => Text::copy(alloc, text),
     }
+}
+
+/// The text with its escapes undone, for which a text that is known to be literal is not searched.
+#[tactic(auto, using(crate::proofs::ByteLemmas::literal_unescaped))]
+pub fn unescape_line(alloc: Global, text: &str, is_literal: bool) -> Result<Text, AllocError>
+    requires { AreLiteral is_literal text.now }
+    ensures { IfOk result (λ plain. plain ≡ unescaped text.now) }
+{
+    if is_literal {
+        return Text::copy(alloc, text);
+    }
+    unescape(alloc, text)
 }
 
 /// The text with its escapes undone, run by run.

@@ -4,10 +4,11 @@ ghost use Rattle.std.specs.Prelude.{◌≡◌, true, false, IfOk, MatchOption};
 ghost use Rattle.std.specs.List.{list_all, after_first};
 ghost use Rattle.std.specs.Str.{chars, is_utf8};
 ghost use Rattle.sch_base.specs.Characters.{is_xml_char};
+ghost use Rattle.pyx_core.specs.inner.Plain.{is_literal, AreLiteral};
 ghost use Rattle.pyx_core.specs.LineTable.{is_space, is_qname, is_target, name_part, read_start, read_end, read_chars, read_comment, read_attribute, read_pi, read_marked, read_text, line_of};
 
-use crate::escapes::unescape;
-use crate::plain::{is_plain_name, is_plain_text};
+use crate::escapes::unescape_line;
+use crate::plain::{is_plain_name, is_plain_text, literal_text};
 use crate::{Attr, PyxKind};
 use sch_base::{Text, is_ncname, is_xml_char, split_qname};
 use std::alloc::{AllocError, Global};
@@ -27,10 +28,18 @@ pub enum Line {
 
 /// What the line with these bytes is by itself, or the first rule that it breaks.
 ///
-/// The time grows with its length.
-pub fn line_of(alloc: Global, bytes: &[u8]) -> Result<Result<Line, PyxKind>, AllocError>
+/// The time grows with its length. Bytes that are known to be literal are a text of Chars, and are not tested.
+pub fn line_of(
+    alloc: Global,
+    bytes: &[u8],
+    is_literal: bool,
+) -> Result<Result<Line, PyxKind>, AllocError>
+    requires literal { AreLiteral is_literal bytes.now }
     ensures { IfOk result (λ found. found ≡ line_of bytes.now) }
 {
+    if is_literal {
+        return read_literal(alloc, bytes);
+    }
     let Some(text) = utf8_text(bytes) else {
         return Ok(Err(PyxKind::NotUtf8));
     };
@@ -38,6 +47,18 @@ pub fn line_of(alloc: Global, bytes: &[u8]) -> Result<Result<Line, PyxKind>, All
         return Ok(Err(PyxKind::BadChar));
     }
     read_text(alloc, text)
+}
+
+/// A line of literal bytes.
+#[tactic(auto, using(crate::proofs::PlainLemmas::literal_line))]
+fn read_literal(alloc: Global, bytes: &[u8]) -> Result<Result<Line, PyxKind>, AllocError>
+    requires literal { list_all is_literal bytes.now ≡ true }
+    ensures { IfOk result (λ found. found ≡ line_of bytes.now) }
+{
+    match bytes.split_first() {
+        Some((mark, body)) => read_marked(alloc, char::from(*mark), literal_text(body), true),
+        None => Ok(Ok(Line::Skipped)),
+    }
 }
 
 /// The bytes as a text, where they are UTF-8.
@@ -74,22 +95,28 @@ fn read_text(alloc: Global, text: &str) -> Result<Result<Line, PyxKind>, AllocEr
 {
     let mut chars = text.chars();
     match chars.next() {
-        Some(mark) => read_marked(alloc, mark, chars.as_str()),
+        Some(mark) => read_marked(alloc, mark, chars.as_str(), false),
         None => Ok(Ok(Line::Skipped)),
     }
 }
 
-/// A line after its mark.
-fn read_marked(alloc: Global, mark: char, body: &str) -> Result<Result<Line, PyxKind>, AllocError>
+/// A line after its mark, which may be known to be literal there.
+fn read_marked(
+    alloc: Global,
+    mark: char,
+    body: &str,
+    is_literal: bool,
+) -> Result<Result<Line, PyxKind>, AllocError>
+    requires literal { AreLiteral is_literal body.now }
     ensures { IfOk result (λ found. found ≡ read_marked mark body.now) }
 {
     match mark {
         '(' => read_start(alloc, body),
-        'A' => read_attribute(alloc, body),
+        'A' => read_attribute(alloc, body, is_literal),
         ')' => read_end(alloc, body),
-        '-' | '[' => read_chars(alloc, body),
-        '?' => read_pi(alloc, body),
-        'C' => read_comment(alloc, body),
+        '-' | '[' => read_chars(alloc, body, is_literal),
+        '?' => read_pi(alloc, body, is_literal),
+        'C' => read_comment(alloc, body, is_literal),
         'D' | 'N' | 'U' => Ok(Ok(Line::Skipped)),
         '&' => Ok(Err(PyxKind::EntityLine)),
         _ => Ok(Err(PyxKind::UnknownLine)),
@@ -133,17 +160,27 @@ fn read_end(alloc: Global, body: &str) -> Result<Result<Line, PyxKind>, AllocErr
     Ok(Ok(Line::End { name }))
 }
 
-fn read_chars(alloc: Global, body: &str) -> Result<Result<Line, PyxKind>, AllocError>
+fn read_chars(
+    alloc: Global,
+    body: &str,
+    is_literal: bool,
+) -> Result<Result<Line, PyxKind>, AllocError>
+    requires literal { AreLiteral is_literal body.now }
     ensures { IfOk result (λ found. found ≡ read_chars body.now) }
 {
-    let text = unescape(alloc, body)?;
+    let text = unescape_line(alloc, body, is_literal)?;
     Ok(Ok(Line::Chars { text }))
 }
 
-fn read_comment(alloc: Global, body: &str) -> Result<Result<Line, PyxKind>, AllocError>
+fn read_comment(
+    alloc: Global,
+    body: &str,
+    is_literal: bool,
+) -> Result<Result<Line, PyxKind>, AllocError>
+    requires literal { AreLiteral is_literal body.now }
     ensures { IfOk result (λ found. found ≡ read_comment body.now) }
 {
-    let text = unescape(alloc, body)?;
+    let text = unescape_line(alloc, body, is_literal)?;
     Ok(Ok(Line::Comment { text }))
 }
 
@@ -158,7 +195,12 @@ fn parts(body: &str) -> (&str, &str)
     }
 }
 
-fn read_attribute(alloc: Global, body: &str) -> Result<Result<Line, PyxKind>, AllocError>
+fn read_attribute(
+    alloc: Global,
+    body: &str,
+    is_literal: bool,
+) -> Result<Result<Line, PyxKind>, AllocError>
+    requires literal { AreLiteral is_literal body.now }
     ensures { IfOk result (λ found. found ≡ read_attribute body.now) }
 {
     let (name, value) = parts(body);
@@ -166,13 +208,14 @@ fn read_attribute(alloc: Global, body: &str) -> Result<Result<Line, PyxKind>, Al
         return Ok(Err(PyxKind::BadName));
     }
     let name = Text::copy(alloc, name)?;
-    let value = unescape(alloc, value)?;
+    let value = unescape_line(alloc, value, is_literal)?;
     Ok(Ok(Line::Attribute {
         attr: Attr { name, value },
     }))
 }
 
-fn read_pi(alloc: Global, body: &str) -> Result<Result<Line, PyxKind>, AllocError>
+fn read_pi(alloc: Global, body: &str, is_literal: bool) -> Result<Result<Line, PyxKind>, AllocError>
+    requires literal { AreLiteral is_literal body.now }
     ensures { IfOk result (λ found. found ≡ read_pi body.now) }
 {
     let (target, text) = parts(body);
@@ -180,6 +223,6 @@ fn read_pi(alloc: Global, body: &str) -> Result<Result<Line, PyxKind>, AllocErro
         return Ok(Err(PyxKind::BadName));
     }
     let target = Text::copy(alloc, target)?;
-    let body = unescape(alloc, text)?;
+    let body = unescape_line(alloc, text, is_literal)?;
     Ok(Ok(Line::Pi { target, body }))
 }

@@ -2,7 +2,7 @@
 
 ghost use Rattle.std.specs.Prelude.{◌≡◌, ◌&&◌, not, ◌++◌, ◌∷◌, [], List, ℕ, suc, length, None, Some, IfOk, OnOk, OnErr};
 ghost use Rattle.std.specs.List.{list_all};
-ghost use Rattle.std.specs.Str.{chars};
+ghost use Rattle.std.specs.Str.{bytes_eq, chars};
 ghost use Rattle.sch_base.specs.Characters.{is_whitespace};
 ghost use Rattle.pyx_core.specs.declared.line_table.Line.TheVariants as line_of;
 ghost use Rattle.pyx_core.specs.declared.event.Located.{Located};
@@ -11,10 +11,12 @@ ghost use Rattle.pyx_core.specs.declared.mode.Mode.{Mode};
 ghost use Rattle.pyx_core.specs.declared.mode.Mode.TheVariants.{Fragment};
 ghost use Rattle.pyx_core.specs.Before.{is_fragment, is_second, has_item, makes_item, misplaced, lacking, kept, is_outside, at_top, open_names, outer, is_innermost, takes_attribute, is_text, pending};
 ghost use Rattle.pyx_core.specs.Reading.{judge};
+ghost use Rattle.pyx_core.specs.inner.Plain.{AreLiteral};
 ghost use Rattle.pyx_core.specs.inner.Standing.{AreNamed, ends_innermost, HasRead, Settles, TakesLine, TakesLast};
 
 use crate::begun::{Begun, Events};
 use crate::line_table::{Line, line_of};
+use crate::plain::literal_text;
 use crate::{Event, Mode, PyxKind};
 use sch_base::{Text, is_whitespace};
 use std::alloc::{AllocError, Global};
@@ -57,6 +59,17 @@ fn is_whitespace_alone(text: &str) -> bool
     text.chars().all(|c| is_whitespace(c))
 }
 
+/// Whether the text has these bytes. Where they are known to be literal they are compared as a text, which is faster.
+fn has_bytes(text: &Text, bytes: &[u8], is_literal: bool) -> bool
+    requires literal { AreLiteral is_literal bytes.now }
+    ensures { result ≡ bytes_eq text.now bytes.now }
+{
+    if is_literal {
+        return text.as_str() == literal_text(bytes);
+    }
+    text.as_str().as_bytes() == bytes
+}
+
 /// Puts a name to those of the open elements.
 fn open_name(alloc: Global, opened: &mut Vec<Text>, name: &Text) -> Result<(), AllocError>
     ensures opened { OnOk result (opened.new.items ≡ opened.old.items ++ name.now ∷ []) }
@@ -68,10 +81,14 @@ fn open_name(alloc: Global, opened: &mut Vec<Text>, name: &Text) -> Result<(), A
 }
 
 /// The text of a character line, of which nothing is kept outside the document element.
-fn kept(is_outside: bool, text: &str) -> &str
-    ensures { result.now ≡ kept is_outside text.now }
+fn kept(alloc: Global, is_outside: bool, text: Text) -> Text
+    ensures { result ≡ kept is_outside text }
 {
-    if is_outside { "" } else { text }
+    if is_outside {
+        Text::from(String::new(alloc))
+    } else {
+        text
+    }
 }
 
 impl Standing {
@@ -99,7 +116,7 @@ impl Standing {
         ensures { (mode : Mode) (taken : List Located) (before : List Line) → HasRead self.now mode taken before →
             result ≡ is_text (pending mode before) }
     {
-        matches!(self.events.begun, Begun::Text { .. })
+        matches!(self.events.begun, Begun::Text { .. } | Begun::Joined { .. })
     }
 
     fn at_top(&self) -> bool
@@ -109,24 +126,27 @@ impl Standing {
         self.opened.is_empty()
     }
 
-    /// Whether the innermost open element has the name with these bytes.
-    fn is_innermost(&self, name: &[u8]) -> bool
+    /// Whether the innermost open element has the name with these bytes, which may be known to be literal.
+    fn is_innermost(&self, name: &[u8], is_literal: bool) -> bool
+        requires literal { AreLiteral is_literal name.now }
         ensures { (mode : Mode) (taken : List Located) (before : List Line) → HasRead self.now mode taken before →
             result ≡ is_innermost name.now (open_names before) }
     {
         match self.opened.last() {
-            Some(top) => top.as_str().as_bytes() == name,
+            Some(top) => has_bytes(top, name, is_literal),
             None => false,
         }
     }
 
-    /// Whether the line with these bytes is `)` and the name of the innermost open element.
-    fn ends_innermost(&self, bytes: &[u8]) -> bool
+    /// Whether the line with these bytes, which may be known to be literal, is `)` and the name of the innermost open
+    /// element.
+    fn ends_innermost(&self, bytes: &[u8], is_literal: bool) -> bool
+        requires literal { AreLiteral is_literal bytes.now }
         ensures { (mode : Mode) (taken : List Located) (before : List Line) → HasRead self.now mode taken before →
             result ≡ ends_innermost bytes.now (open_names before) }
     {
         match bytes.split_first() {
-            Some((mark, name)) => *mark == b')' && self.is_innermost(name),
+            Some((mark, name)) => *mark == b')' && self.is_innermost(name, is_literal),
             None => false,
         }
     }
@@ -163,7 +183,7 @@ impl Standing {
         match line {
             Line::Skipped => None,
             Line::Attribute { .. } => (!self.takes_attribute()).then_some(PyxKind::AttributePlace),
-            Line::End { name } => (!self.is_innermost(name.as_str().as_bytes())).then_some(
+            Line::End { name } => (!self.is_innermost(name.as_str().as_bytes(), false)).then_some(
                 PyxKind::WrongEnd,
             ),
             Line::Chars { text } => self.misplaced_text(text),
@@ -236,7 +256,7 @@ impl Standing {
                 self.events.whole(number, Event::End { name })
             }
             Line::Chars { text } => {
-                let kept = kept(is_outside, text.as_str());
+                let kept = kept(alloc, is_outside, text);
                 self.events.text(alloc, number, kept)
             }
             Line::Pi { target, body } => self.events.whole(number, Event::Pi { target, body }),
@@ -256,12 +276,19 @@ impl Standing {
         }
     }
 
-    /// The line with these bytes, or the first rule that it breaks after the lines before it.
-    fn judge(&self, alloc: Global, bytes: &[u8]) -> Result<Result<Line, PyxKind>, AllocError>
+    /// The line with these bytes, which may be known to be literal, or the first rule that it breaks after the lines
+    /// before it.
+    fn judge(
+        &self,
+        alloc: Global,
+        bytes: &[u8],
+        is_literal: bool,
+    ) -> Result<Result<Line, PyxKind>, AllocError>
+        requires literal { AreLiteral is_literal bytes.now }
         ensures { (mode : Mode) (taken : List Located) (before : List Line) → HasRead self.now mode taken before →
             IfOk result (λ found. found ≡ judge mode before bytes.now) }
     {
-        let line = match line_of(alloc, bytes)? {
+        let line = match line_of(alloc, bytes, is_literal)? {
             Ok(line) => line,
             Err(kind) => return Ok(Err(kind)),
         };
@@ -271,7 +298,8 @@ impl Standing {
         }
     }
 
-    /// Judges the line with these bytes, and takes it if it is good; else the answer is the rule that it breaks.
+    /// Judges the line with these bytes, which may be known to be literal, and takes it if it is good; else the answer is
+    /// the rule that it breaks.
     ///
     /// A line that ends the innermost open element, as nearly each end does, is compared with the open name alone.
     pub fn take(
@@ -279,15 +307,17 @@ impl Standing {
         alloc: Global,
         number: u64,
         bytes: &[u8],
+        is_literal: bool,
     ) -> Result<Option<PyxKind>, AllocError>
+        requires literal { AreLiteral is_literal bytes.now }
         ensures { (mode : Mode) (taken : List Located) (before : List Line) → HasRead self.old mode taken before →
             number ≡ suc (length before) → TakesLine self.new mode taken before (judge mode before bytes.now) result }
     {
-        if self.ends_innermost(bytes) {
+        if self.ends_innermost(bytes, is_literal) {
             self.end_innermost(number)?;
             return Ok(None);
         }
-        let line = match self.judge(alloc, bytes)? {
+        let line = match self.judge(alloc, bytes, is_literal)? {
             Ok(line) => line,
             Err(kind) => return Ok(Some(kind)),
         };
@@ -306,7 +336,7 @@ impl Standing {
         ensures { (mode : Mode) (taken : List Located) (before : List Line) → HasRead self.old mode taken before →
             number ≡ suc (length before) → TakesLast self.new mode taken before (judge mode before bytes.now) result }
     {
-        let line = match self.judge(alloc, bytes)? {
+        let line = match self.judge(alloc, bytes, false)? {
             Ok(line) => line,
             Err(kind) => return Ok(Some(kind)),
         };

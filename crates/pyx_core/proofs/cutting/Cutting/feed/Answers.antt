@@ -10,8 +10,8 @@ loop-end-init c = λ mode fed taken keeps few. feeds_start c.args.self.now mode 
 pub returns-in_err-fault : goal.returns-in_err-fault
 returns-in_err-fault c = λ mode fed taken keeps few.
     let on = c.loop-end.invariant mode fed taken keeps few in
-    let cut = c.in-Some.ensures in
-    let first : FirstLine c.loop-end.rest.now c.in-Some.end c.split_line.result.0.now c.split_line.result.1.now = record {
+    let cut = c.in-Some.ensures.0 in
+    let first : FirstLine c.loop-end.rest.now c.in-Some.end.at c.split_line.result.0.now c.split_line.result.1.now = record {
       less = cut.0.high;
       none = λ k less. cut.0.before k (omega arith) less;
       is = cut.1;
@@ -26,8 +26,8 @@ returns-in_err-fault c = λ mode fed taken keeps few.
 pub returns-in-Some-2 : goal.returns-in-Some-2
 returns-in-Some-2 c = λ mode fed taken keeps few.
     let on = c.loop-end.invariant mode fed taken keeps few in
-    let cut = c.in-Some.ensures in
-    let first : FirstLine c.loop-end.rest.now c.in-Some.end c.split_line.result.0.now c.split_line.result.1.now = record {
+    let cut = c.in-Some.ensures.0 in
+    let first : FirstLine c.loop-end.rest.now c.in-Some.end.at c.split_line.result.0.now c.split_line.result.1.now = record {
       less = cut.0.high;
       none = λ k less. cut.0.before k (omega arith) less;
       is = cut.1;
@@ -41,8 +41,8 @@ returns-in-Some-2 c = λ mode fed taken keeps few.
 pub loop-end-preserved : goal.loop-end-preserved
 loop-end-preserved c = λ mode fed taken keeps few.
     let on = c.loop-end.invariant mode fed taken keeps few in
-    let cut = c.in-Some.ensures in
-    let first : FirstLine c.loop-end.rest.now c.in-Some.end c.split_line.result.0.now c.split_line.result.1.now = record {
+    let cut = c.in-Some.ensures.0 in
+    let first : FirstLine c.loop-end.rest.now c.in-Some.end.at c.split_line.result.0.now c.split_line.result.1.now = record {
       less = cut.0.high;
       none = λ k less. cut.0.before k (omega arith) less;
       is = cut.1;

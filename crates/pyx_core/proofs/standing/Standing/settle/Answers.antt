@@ -29,9 +29,9 @@ pub returns-in-Chars : goal.returns-in-Chars
 returns-in-Chars c = λ mode taken before reads number named.
     let item = c.has_item_after-self.ensures mode taken before reads in
     let outside = c.is_outside-is_outside.ensures mode taken before reads in
-    let text = c.kept-kept.ensures ∙ rw (outside, c.as_str.ensures) refl in
-    rw c.in-Chars.is (settles _ mode taken before _ c.text-in-Chars.result reads.mode_is reads.opened
-    (rw c.in-Chars.is at named) (rw c.in-Chars.is at item) (rw (number, text) at (c.text-in-Chars.ensures taken _ _ reads.told)))
+    let text = c.kept-kept.ensures ∙ rw outside refl in
+    rw c.in-Chars.is (settles _ mode taken before _ c.text.result reads.mode_is reads.opened
+    (rw c.in-Chars.is at named) (rw c.in-Chars.is at item) (rw (number, text) at (c.text.ensures taken _ _ reads.told)))
 
 pub returns-in-Pi : goal.returns-in-Pi
 returns-in-Pi c = λ mode taken before reads number named.
