@@ -135,15 +135,15 @@ impl Bare {
         let place = self.next_place(parent, is_attribute);
         let content = kept_content(self.alloc, label, text)?;
         let number = NodeId::from_number(self.nodes.len() as u32);
-        let added = Node {
+        link(&mut self.nodes, parent, number, is_attribute)?;
+        self.nodes.push_reserved(Some(Node {
             parent: Some(parent),
             depth,
             place,
             kids: ItemList::new(self.alloc),
             attributes: ItemList::new(self.alloc),
             content,
-        };
-        attach(&mut self.nodes, parent, number, is_attribute, added)?;
+        }));
         self.live += 1;
         self.text_bytes += text.len();
         Ok(number)
@@ -177,7 +177,7 @@ impl Node {
     }
 }
 
-/// Puts a number at the end of the kids, or of the attributes, of a node.
+/// Puts a number at the end of the kids, or of the attributes, of a node, and makes room for one node more.
 fn link(
     nodes: &mut Vec<Option<Node>>,
     parent: NodeId,
@@ -187,9 +187,9 @@ fn link(
     requires { parent < vec_len nodes.old }
     ensures linked { OnOk result (nodes.new.items ≡ slice_set nodes.old.items parent (kept_link number is_attribute (slice_index_or nodes.old.items parent None))) }
     ensures unchanged { OnErr result (nodes.new.items ≡ nodes.old.items) }
-    ensures len { vec_len nodes.new ≡ vec_len nodes.old }
-    ensures capacity { vec_capacity nodes.new ≡ vec_capacity nodes.old }
+    ensures room { OnOk result (vec_len nodes.new < vec_capacity nodes.new) }
 {
+    nodes.reserve(1)?;
     let slot = &mut nodes[parent.index()];
     match slot {
         Some(node) => node.link(number, is_attribute),
@@ -209,10 +209,7 @@ pub fn attach(
     ensures attached { OnOk result (nodes.new.items ≡ slice_set nodes.old.items parent (kept_link number is_attribute (slice_index_or nodes.old.items parent None)) ++ Some node ∷ []) }
     ensures unchanged { OnErr result (nodes.new.items ≡ nodes.old.items) }
 {
-    nodes.reserve(1)?;
     link(nodes, parent, number, is_attribute)?;
-    match nodes.push(Some(node)) {
-        Ok(()) => Ok(()),
-        Err(_) => unreachable!(),
-    }
+    nodes.push_reserved(Some(node));
+    Ok(())
 }
