@@ -13,4 +13,4 @@ pub use axes::axis_nodes;
 pub use laws::{axes_by_cells, axes_partition};
 pub use node_test::passes;
 pub use passing::push_passing;
-pub use sets::{in_document_order, into_document_order, union_in_order};
+pub use sets::{into_document_order, union_in_order};

@@ -10,19 +10,6 @@ use std::alloc::{AllocError, Global};
 
 /// The live ones of some nodes in any order, put in document order and each once.
 ///
-/// Costs a comparison and a copy for each node where they come in order, and otherwise what `into_document_order` costs.
-pub fn in_document_order(
-    alloc: Global,
-    tree: &Tree,
-    nodes: &NodeList,
-) -> Result<NodeList, AllocError>
-    ensures { IfOk result (λ v. v ≡ in_order tree.now.nodes nodes.now) }
-{
-    ordered(alloc, tree, nodes.as_slice())
-}
-
-/// The live ones of some nodes in any order, put in document order and each once.
-///
 /// Where they come in order, the list itself is handed back: it costs a comparison for each node and takes no memory.
 /// Otherwise it costs about k log k comparisons at most for k nodes, and at most k log k numbers are copied; a comparison
 /// costs the depth of the two nodes.
@@ -41,7 +28,7 @@ pub fn into_document_order(
 
 /// The union of two node-sets in document order, each node once (XPath 1.0, section 3.3).
 ///
-/// Costs as much as `in_document_order` of both.
+/// Costs as much as `into_document_order` of both.
 #[tactic(auto, using(crate::proofs::NodeSets::union_of_both))]
 pub fn union_in_order(
     alloc: Global,
