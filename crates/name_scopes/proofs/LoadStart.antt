@@ -1,5 +1,5 @@
 -- A loader in front of all events.
-use Rattle.std.proofs.Common.{◌≡◌, ℕ, suc, zero, List, [], refl, sym, subst, arith}
+use Rattle.std.proofs.Common.{◌≡◌, suc, zero, List, [], refl, sym, subst, arith}
 use Rattle.pyx_core.specs.Nesting.{start}
 use Rattle.doc_tree.specs.Table.{Contents, AllLive, root_alone}
 use Rattle.doc_tree.specs.Scope.{Decl}

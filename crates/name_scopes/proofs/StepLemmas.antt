@@ -1,6 +1,6 @@
 -- Events taken by a tree under way, one by one.
 use Rattle.std.proofs.Common.{◌≡◌, ◌≢◌, ℕ, ◌+◌, ◌≤◌, suc, Bool, true, false, ◌&&◌, List, [], ◌∷◌, ◌++◌, length, map, sum_by, Option, None, Some, refl, sym, ap, ap₂, ◌∙◌, subst, true≢false, arith, append-nil, nat_lt}
-use Rattle.std.specs.Prelude.{if◌then◌else◌, Err}
+use Rattle.std.specs.Prelude.{if◌then◌else◌, Result, Ok, Err, IfErr, OnOk, is_none}
 use Rattle.std.specs.List.{flat_map}
 use Rattle.std.specs.Option.{option_or}
 use Rattle.std.proofs.lemmas.Bool.{le-ltb}
@@ -20,16 +20,17 @@ use Rattle.doc_tree.specs.Walks.{above, order, text_bytes}
 use Rattle.doc_tree.specs.Lines.{Line, starts, declares}
 use Rattle.doc_tree.specs.Growth.{ends_in_text}
 use Rattle.doc_tree.specs.Laws.{HasWaysUp, WellFormed}
-use Rattle.doc_tree.specs.Scope.{Decl, scope_at, HasScopes}
+use Rattle.doc_tree.specs.Scope.{Decl, namespace_in, scope_at, HasScopes}
 use Rattle.name_scopes.specs.declared.build.Loader.{Loader}
 use Rattle.name_scopes.specs.declared.fault.DocKind.{DocKind}
 use Rattle.name_scopes.specs.declared.fault.EventError.{EventError}
 use Rattle.name_scopes.specs.declared.fault.EventError.TheVariants.{Kind, Memory}
-use Rattle.name_scopes.specs.declared.fault.DocKind.TheVariants.{TooManyNodes, TooDeep}
+use Rattle.name_scopes.specs.declared.fault.DocKind.TheVariants.{NoPrefix, TooManyNodes, TooDeep}
+use Rattle.name_scopes.specs.QNames.{prefix_part}
 use Rattle.name_scopes.specs.Declarations.{declarations, plain_attrs}
 use Rattle.name_scopes.specs.ScopedTree.{written, attribute_line, said_by, unscoped}
 use Rattle.name_scopes.specs.DocFaults.{Standing, in_scope, tag_fault, tag_nodes, event_fault, moved}
-use Rattle.name_scopes.specs.inner.Build.{Receives, IsTooDeep, TakesEvent, Says, Builds, Loads, AreOpen, Begins, room_fault, scoped_line, start_lines, event_text}
+use Rattle.name_scopes.specs.inner.Build.{Receives, IsTooDeep, TakesEvent, Says, Builds, Loads, AreOpen, Begins, attrs_fault, room_fault, scoped_line, start_lines, event_text}
 use Rattle.name_scopes.proofs.OpenElements.{open-apart, open-root, open-scope, open-depth}
 use Rattle.name_scopes.proofs.TellLemmas.{tells-receives}
 
@@ -85,15 +86,19 @@ start-faulty standing name attrs nodes what same h =
     by None true h = sym h
     by None false h = absurd (cc)
 
--- what a check that finds nothing says
+-- a start tag whose own prefix is in scope breaks what its attributes break
+known-fault : (scope : List Decl) (name : List ℕ) (attrs : List Attr) → is_none (namespace_in scope (prefix_part name)) ≡ false → tag_fault scope name attrs ≡ attrs_fault scope attrs
+known-fault scope name attrs known = rw known refl
+
+-- what a check that finds nothing says of a start tag whose own prefix is in scope
 pub record Passes (scope : List Decl) (name : List ℕ) (attrs : List Attr) (nodes : ℕ) : Type 0 where
   pub good : tag_fault scope name attrs ≡ None
   pub room : nodes + tag_nodes attrs ≤ MAX_LIVE_NODES
 
-pub passes : (scope : List Decl) (name : List ℕ) (attrs : List Attr) (nodes : ℕ) → None ≡ option_or (tag_fault scope name attrs) (room_fault (nodes + tag_nodes attrs)) → Passes scope name attrs nodes
-passes scope name attrs nodes h =
-    let both = or-none (tag_fault scope name attrs) (room_fault (nodes + tag_nodes attrs)) (sym h) in
-    record { good = both.0; room = ltb-false MAX_LIVE_NODES (nodes + tag_nodes attrs) (room-none (nodes + tag_nodes attrs) both.1) }
+pub passes : (scope : List Decl) (name : List ℕ) (attrs : List Attr) (nodes : ℕ) → is_none (namespace_in scope (prefix_part name)) ≡ false → None ≡ option_or (attrs_fault scope attrs) (room_fault (nodes + tag_nodes attrs)) → Passes scope name attrs nodes
+passes scope name attrs nodes known h =
+    let both = or-none (attrs_fault scope attrs) (room_fault (nodes + tag_nodes attrs)) (sym h) in
+    record { good = known-fault scope name attrs known ∙ both.0; room = ltb-false MAX_LIVE_NODES (nodes + tag_nodes attrs) (room-none (nodes + tag_nodes attrs) both.1) }
 
 start-limit : (standing : Standing) (name : List ℕ) (attrs : List Attr) (deep : Bool) → tag_fault (in_scope (declarations attrs ∷ standing.scopes)) name attrs ≡ None → standing.nodes + tag_nodes attrs ≤ MAX_LIVE_NODES →
     nat_lt MAX_DEPTH (suc (length standing.scopes)) ≡ deep → event_fault standing (event.Start name attrs) ≡ (if deep then Some TooDeep else None)
@@ -173,16 +178,35 @@ module _ (taken : List Event) (place : Place) (standing : Standing) (old : Loade
   pub tag-scope : scope ≡ in_scope (declarations attrs ∷ standing.scopes)
   tag-scope = scope_is ∙ ap (λ (l : List Decl). declarations attrs ++ l) loads.scope_is
 
-  pub check-faulty : (what : DocKind) → Some what ≡ option_or (tag_fault scope name attrs) (room_fault (length (order old.tree.nodes) + tag_nodes attrs)) → event_fault standing (event.Start name attrs) ≡ Some what
-  check-faulty what h =
-      start-faulty standing name attrs (length (order old.tree.nodes)) what loads.builds.count
-      (h ∙ ap (λ (s : List Decl). option_or (tag_fault s name attrs) (room_fault (length (order old.tree.nodes) + tag_nodes attrs))) tag-scope)
+  pub prefix-faulty : is_none (namespace_in scope (prefix_part name)) ≡ true → event_fault standing (event.Start name attrs) ≡ Some NoPrefix
+  prefix-faulty unknown =
+      let here : is_none (namespace_in (in_scope (declarations attrs ∷ standing.scopes)) (prefix_part name)) ≡ true =
+      ap (λ (s : List Decl). is_none (namespace_in s (prefix_part name))) (sym tag-scope) ∙ unknown in
+      rw here refl
 
-  pub check-passes : HasWaysUp old.tree.nodes → Passes scope name attrs (length (order old.tree.nodes)) → nat_lt MAX_DEPTH (length (above old.tree.nodes old.place)) ≡ false → event_fault standing (event.Start name attrs) ≡ None
+  pub check-faulty : (what : DocKind) → is_none (namespace_in scope (prefix_part name)) ≡ false → Some what ≡ option_or (attrs_fault scope attrs) (room_fault (length (order old.tree.nodes) + tag_nodes attrs)) → event_fault standing (event.Start name attrs) ≡ Some what
+  check-faulty what known h =
+      start-faulty standing name attrs (length (order old.tree.nodes)) what loads.builds.count
+      (h ∙ ap (λ (o : Option DocKind). option_or o (room_fault (length (order old.tree.nodes) + tag_nodes attrs))) (sym (known-fault scope name attrs known)) ∙ ap (λ (s : List Decl). option_or (tag_fault s name attrs) (room_fault (length (order old.tree.nodes) + tag_nodes attrs))) tag-scope)
+
+  check-passes : HasWaysUp old.tree.nodes → Passes scope name attrs (length (order old.tree.nodes)) → nat_lt MAX_DEPTH (length (above old.tree.nodes old.place)) ≡ false → event_fault standing (event.Start name attrs) ≡ None
   check-passes ways p shallow =
       start-passes [] taken place standing old.tree.nodes old.place loads.builds name attrs ways (ap (λ (s : List Decl). tag_fault s name attrs) (sym tag-scope) ∙ p.good) p.room shallow
 
-  pub start-refused : (new : Loader) (err : EventError) → HasWaysUp old.tree.nodes → Passes scope name attrs (length (order old.tree.nodes)) → IsTooDeep old.tree.nodes old.place err → TakesEvent taken place standing (event.Start name attrs) new (Err err)
+  start-refused : (new : Loader) (err : EventError) → HasWaysUp old.tree.nodes → Passes scope name attrs (length (order old.tree.nodes)) → IsTooDeep old.tree.nodes old.place err → TakesEvent taken place standing (event.Start name attrs) new (Err err)
   start-refused new (Kind what) ways p deep =
       start-deep [] taken place standing old.tree.nodes old.place loads.builds name attrs ways (ap (λ (s : List Decl). tag_fault s name attrs) (sym tag-scope) ∙ p.good) p.room deep.1 ∙ ap Some (sym deep.0)
   start-refused new Memory ways p deep = tt
+
+  -- the answer to a start tag that passes
+  pub start-taken : (new : Loader) (result : Result (Unit {0}) EventError) → HasWaysUp old.tree.nodes → HasScopes old.tree.nodes → WellFormed old.tree.nodes → StartFits place name attrs → Passes scope name attrs (length (order old.tree.nodes)) →
+      new.scope ≡ scope → (T : Table) → T ≡ old.tree.nodes → OnOk result (Begins T new.tree.nodes old.place new.place scope name attrs) → OnOk result (nat_lt MAX_DEPTH (length (above T old.place)) ≡ false) → IfErr result (IsTooDeep T old.place) →
+      TakesEvent taken place standing (event.Start name attrs) new result
+  start-taken new (Ok done) ways scopes formed fits p same T is begins shallow deep = (
+    check-passes ways p (subst (λ (T : Table). nat_lt MAX_DEPTH (length (above T old.place)) ≡ false) is shallow),
+    loads-start taken place standing old new new.place name attrs scopes formed fits (same ∙ scope_is)
+        (subst (λ (s : List Decl). Begins old.tree.nodes new.tree.nodes old.place new.place s name attrs) (sym same)
+        (subst (λ (T : Table). Begins T new.tree.nodes old.place new.place scope name attrs) is begins)) refl loads,
+  )
+  start-taken new (Err error) ways scopes formed fits p same T is begins shallow deep =
+      start-refused new error ways p (subst (λ (T : Table). IsTooDeep T old.place error) is deep)

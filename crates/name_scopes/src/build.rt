@@ -1,6 +1,6 @@
 //! A tree under way: events are taken one by one.
 
-ghost use Rattle.std.specs.Prelude.{◌≡◌, ◌≢◌, ◌∷◌, ◌+◌, ◌≤◌, [], ◌++◌, List, ℕ, true, false, None, Some, sum_by, length, drop, nat_lt, is_none, IfOk, OnOk, IfErr};
+ghost use Rattle.std.specs.Prelude.{◌≡◌, ◌≢◌, ◌∷◌, ◌+◌, ◌≤◌, ◌<◌, [], ◌++◌, List, ℕ, true, false, None, Some, sum_by, length, drop, nat_lt, is_none, IfOk, OnOk, IfErr};
 ghost use Rattle.std.specs.List.{list_all, list_any};
 ghost use Rattle.std.specs.Option.{option_or, option_to_list};
 ghost use Rattle.pyx_core.specs.declared.event.Event.{Event};
@@ -8,24 +8,22 @@ ghost use Rattle.pyx_core.specs.declared.event.Event.TheVariants as event_kind;
 ghost use Rattle.pyx_core.specs.declared.mode.Mode.TheVariants.{Document};
 ghost use Rattle.pyx_core.specs.Nesting.{Place, after, is_attr, is_name, start};
 ghost use Rattle.doc_tree.specs.kind.Kind.TheVariants.{Element};
-ghost use Rattle.doc_tree.specs.Table.{element, attribute, value_in, kind_of, kids_of, attrs_of, decls_of, parent_of};
+ghost use Rattle.doc_tree.specs.Table.{element, attribute, numbered, value_in, kind_of, kids_of, attrs_of, decls_of, parent_of};
 ghost use Rattle.doc_tree.specs.Walks.{above, order, text_bytes};
 ghost use Rattle.doc_tree.specs.Growth.{AttributeFits, FitsUnder, Grew, has_too_many};
-ghost use Rattle.doc_tree.specs.Scope.{namespace_in};
-ghost use Rattle.name_scopes.specs.QNames.{prefix_part};
 ghost use Rattle.name_scopes.specs.Declarations.{declaration_of, declarations, plain_attrs};
 ghost use Rattle.name_scopes.specs.Scoping.{declares_twice};
 ghost use Rattle.name_scopes.specs.DocFaults.{Standing, begin, has_pair, lacks_prefix, moved, same_expanded, tag_fault, tag_nodes};
-ghost use Rattle.name_scopes.specs.inner.Build.{AttributesAll, Begins, Comes, DeclaresAll, IsFull, IsLeaf, IsReady, IsTooDeep, Loads, Receives, TakesEvent, attribute_name, element_name, leaf_of, room_fault, value_bytes};
+ghost use Rattle.name_scopes.specs.inner.Build.{AttributesAll, Begins, Comes, DeclaresAll, IsFull, IsLeaf, IsNamed, IsReady, IsTooDeep, Loads, Receives, TakesEvent, attribute_name, attrs_fault, leaf_of, room_fault, value_bytes};
 
 use crate::declarations::{declared_prefix, is_plain};
 use crate::fault::{DocKind, EventError};
 use crate::qnames::split;
 use crate::recent_names::RecentNames;
 use crate::scope::Scope;
-use crate::tag::{attribute_namespace, check_tag};
+use crate::tag::{check_attrs, known_uri};
 use doc_tree::{
-    AppendError, MAX_DEPTH, MAX_LIVE_NODES, MAX_LIVE_TEXT_BYTES, NewNode, NodeId, Tree,
+    AppendError, MAX_DEPTH, MAX_LIVE_NODES, MAX_LIVE_TEXT_BYTES, NameId, NewNode, NodeId, Tree,
 };
 use pyx_core::{Attr, Event};
 use std::alloc::{AllocError, Global};
@@ -111,32 +109,23 @@ impl Loader {
     {
         self.tree.laws();
         declare(&mut self.scope, attrs)?;
-        if let Some(kind) = self.check(name, attrs)? {
+        let id = match self.recent.element(&mut self.tree, &self.scope, name)? {
+            Some(id) => id,
+            None => return Err(EventError::Kind(DocKind::NoPrefix)),
+        };
+        if let Some(kind) = self.check(attrs)? {
             return Err(EventError::Kind(kind));
         }
-        match begin(
-            &mut self.tree,
-            &mut self.recent,
-            self.place,
-            &self.scope,
-            name,
-            attrs,
-        ) {
-            Ok(element) => {
-                self.place = element;
-                Ok(())
-            }
-            Err(error) => Err(error),
-        }
+        self.begin(id, name, attrs)
     }
 
-    /// Tests the names of a start tag, whose declarations are in scope, and whether there is room for its nodes.
-    fn check(&self, name: &str, attrs: &[Attr]) -> Result<Option<DocKind>, AllocError>
-        ensures { IfOk result (λ found. found ≡ option_or (tag_fault self.now.scope name.now attrs.now)
+    /// Tests the attributes of a start tag, whose declarations are in scope, and whether there is room for its nodes.
+    fn check(&self, attrs: &[Attr]) -> Result<Option<DocKind>, AllocError>
+        ensures { IfOk result (λ found. found ≡ option_or (attrs_fault self.now.scope attrs.now)
             (room_fault (length (order self.now.tree.nodes) + tag_nodes attrs.now))) }
     {
         self.tree.laws();
-        if let Some(kind) = check_tag(self.alloc, &self.scope, name, attrs)? {
+        if let Some(kind) = check_attrs(self.alloc, &self.scope, attrs)? {
             return Ok(Some(kind));
         }
         let left = MAX_LIVE_NODES - self.tree.live_nodes();
@@ -144,6 +133,36 @@ impl Loader {
             return Ok(Some(DocKind::TooManyNodes));
         }
         Ok(None)
+    }
+
+    /// Puts the element of a start tag under the innermost one, with what it declares and its attributes; its name has
+    /// this number.
+    pub(crate) fn begin(&mut self, id: NameId, name: &str, attrs: &[Attr]) -> Result<(), EventError>
+        requires receives { Receives self.old.tree.nodes self.old.place }
+        requires numbered { IsNamed self.old.tree.names self.old.scope name.now id }
+        requires named { is_name name.now ≡ true }
+        requires all_named { list_all is_attr attrs.now ≡ true }
+        requires good { tag_fault self.old.scope name.now attrs.now ≡ None }
+        requires room { length (order self.old.tree.nodes) + tag_nodes attrs.now ≤ MAX_LIVE_NODES }
+        requires little { text_bytes self.old.tree.nodes + sum_by value_bytes (plain_attrs attrs.now) ≤ MAX_LIVE_TEXT_BYTES }
+        ensures begins { OnOk result (Begins self.old.tree.nodes self.new.tree.nodes self.old.place self.new.place self.old.scope name.now attrs.now) }
+        ensures scope { self.new.scope ≡ self.old.scope }
+        ensures shallow { OnOk result (nat_lt MAX_DEPTH (length (above self.old.tree.nodes self.old.place)) ≡ false) }
+        ensures deep { IfErr result (IsTooDeep self.old.tree.nodes self.old.place) }
+    {
+        self.tree.laws();
+        let element = append_element(&mut self.tree, self.place, id)?;
+        self.recent.note(name, element);
+        append_decls(&mut self.tree, element, attrs)?;
+        append_attributes(
+            &mut self.tree,
+            &mut self.recent,
+            element,
+            &self.scope,
+            attrs,
+        )?;
+        self.place = element;
+        Ok(())
     }
 }
 
@@ -200,59 +219,18 @@ pub(crate) fn append_leaf(
     }
 }
 
-/// Puts the element of a start tag under a node, with what it declares and its attributes.
-pub(crate) fn begin(
-    tree: &mut Tree,
-    recent: &mut RecentNames,
-    parent: NodeId,
-    scope: &Scope,
-    name: &str,
-    attrs: &[Attr],
-) -> Result<NodeId, EventError>
+/// Puts an element under a node; its name has this number.
+fn append_element(tree: &mut Tree, parent: NodeId, id: NameId) -> Result<NodeId, EventError>
     requires receives { Receives tree.old.nodes parent }
-    requires named { is_name name.now ≡ true }
-    requires all_named { list_all is_attr attrs.now ≡ true }
-    requires good { tag_fault scope.now name.now attrs.now ≡ None }
-    requires room { length (order tree.old.nodes) + tag_nodes attrs.now ≤ MAX_LIVE_NODES }
-    requires little { text_bytes tree.old.nodes + sum_by value_bytes (plain_attrs attrs.now) ≤ MAX_LIVE_TEXT_BYTES }
-    ensures begins { IfOk result (λ n. Begins tree.old.nodes tree.new.nodes parent n scope.now name.now attrs.now) }
-    ensures shallow { OnOk result (nat_lt MAX_DEPTH (length (above tree.old.nodes parent)) ≡ false) }
-    ensures deep { IfErr result (IsTooDeep tree.old.nodes parent) }
-{
-    tree.laws();
-    let element = append_element(tree, recent, parent, scope, name)?;
-    append_decls(tree, element, attrs)?;
-    append_attributes(tree, recent, element, scope, attrs)?;
-    Ok(element)
-}
-
-/// Puts an element under a node.
-fn append_element(
-    tree: &mut Tree,
-    recent: &mut RecentNames,
-    parent: NodeId,
-    scope: &Scope,
-    name: &str,
-) -> Result<NodeId, EventError>
-    requires receives { Receives tree.old.nodes parent }
-    requires known { is_none (namespace_in scope.now (prefix_part name.now)) ≡ false }
+    requires numbered { id < length tree.old.names }
     requires room { has_too_many tree.old.nodes ≡ false }
-    ensures grew { IfOk result (λ n. Grew tree.old.nodes tree.new.nodes parent n (element (element_name scope.now name.now) [])) }
+    ensures grew { IfOk result (λ n. Grew tree.old.nodes tree.new.nodes parent n (element (numbered tree.old.names id) [])) }
     ensures shallow { OnOk result (nat_lt MAX_DEPTH (length (above tree.old.nodes parent)) ≡ false) }
     ensures deep { IfErr result (IsTooDeep tree.old.nodes parent) }
 {
     tree.laws();
-    let parts = split(name);
-    let uri = match scope.namespace(parts.prefix) {
-        Some(uri) => uri,
-        None => unreachable!(),
-    };
-    let id = recent.number(tree, parts, uri)?;
     match tree.append_node(parent, NewNode::Element(id)) {
-        Ok(n) => {
-            recent.note(parts.local, n);
-            Ok(n)
-        }
+        Ok(n) => Ok(n),
         Err(AppendError::TooDeep) => Err(EventError::Kind(DocKind::TooDeep)),
         Err(AppendError::Memory) => Err(EventError::Memory),
         Err(AppendError::TooManyNodes) => unreachable!(),
@@ -316,20 +294,16 @@ fn append_attribute(
 ) -> Result<NodeId, AllocError>
     requires receives { Receives tree.old.nodes element }
     requires fits { AttributeFits tree.old.nodes element (attribute_name scope.now attr.now.name) }
-    requires known { lacks_prefix scope.now attr.now ≡ false }
     requires room { has_too_many tree.old.nodes ≡ false }
     requires little { text_bytes tree.old.nodes + length attr.now.value ≤ MAX_LIVE_TEXT_BYTES }
     ensures { IfOk result (λ n. Grew tree.old.nodes tree.new.nodes element n (attribute (attribute_name scope.now attr.now.name) attr.now.value)) }
 {
-    let parts = split(attr.name.as_str());
-    let uri = match attribute_namespace(scope, parts.prefix) {
-        Some(uri) => uri,
-        None => unreachable!(),
-    };
-    let id = recent.number(tree, parts, uri)?;
+    let name = attr.name.as_str();
+    let parts = split(name);
+    let id = recent.number(tree, name, parts, known_uri(scope, parts.prefix))?;
     match tree.append_node(element, NewNode::Attribute(id, attr.value.as_str())) {
         Ok(n) => {
-            recent.note(parts.local, n);
+            recent.note(name, n);
             Ok(n)
         }
         Err(AppendError::Memory) => Err(AllocError),

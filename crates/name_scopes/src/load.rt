@@ -71,12 +71,21 @@ fn split_piece(bytes: &[u8]) -> (&[u8], &[u8])
     ensures parts { bytes.now ≡ result.0.now ++ result.1.now }
     ensures shorter { length result.1.now < length bytes.now }
 {
+    let end = piece_end(bytes);
+    (&bytes[..end], &bytes[end..])
+}
+
+/// Where the next piece of a document ends: behind the first line end past its least length, or with the document.
+fn piece_end(bytes: &[u8]) -> usize
+    requires { bytes.now ≢ [] }
+    ensures within { result ≤ length bytes.now }
+    ensures some { 0 < result }
+{
     let least = bytes.len().min(PIECE);
-    let end = match bytes[least..].iter().position(|b| *b == b'\n') {
+    match memchr::memchr(b'\n', &bytes[least..]) {
         Some(more) => least + more + 1,
         None => bytes.len(),
-    };
-    (&bytes[..end], &bytes[end..])
+    }
 }
 
 /// Why a document isn't loaded whose text a reader refuses.

@@ -10,7 +10,7 @@ ghost use Rattle.name_scopes.specs.DocFaults.{Standing, begin, moved};
 ghost use Rattle.name_scopes.specs.inner.Build.{IsLeaf};
 ghost use Rattle.name_scopes.specs.inner.Piece.{PieceComes, PieceIsReady, PieceLoads};
 
-use crate::build::{Loader, append_leaf, begin, declare};
+use crate::build::{Loader, append_leaf, declare};
 use crate::fault::EventError;
 use crate::recent_names::RecentNames;
 use crate::scope::Scope;
@@ -61,18 +61,12 @@ impl Loader {
     {
         self.tree.laws();
         declare(&mut self.scope, attrs)?;
-        match begin(
-            &mut self.tree,
-            &mut self.recent,
-            self.place,
-            &self.scope,
-            name,
-            attrs,
-        ) {
-            Ok(element) => {
-                self.place = element;
-                Ok(())
-            }
+        let id = match self.recent.element(&mut self.tree, &self.scope, name)? {
+            Some(id) => id,
+            None => unreachable!(),
+        };
+        match self.begin(id, name, attrs) {
+            Ok(()) => Ok(()),
             Err(EventError::Memory) => Err(AllocError),
             Err(EventError::Kind(_)) => unreachable!(),
         }

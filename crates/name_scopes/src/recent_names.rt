@@ -1,9 +1,13 @@
 //! The numbers of names that came lately.
 
-ghost use Rattle.std.specs.Prelude.{◌≡◌, ◌<◌, IfOk, IfSome};
+ghost use Rattle.std.specs.Prelude.{◌≡◌, ◌<◌, true, is_none, IfOk, IfSome, MatchOption};
 ghost use Rattle.doc_tree.specs.Numbering.{Numbered};
+ghost use Rattle.doc_tree.specs.Scope.{namespace_in};
+ghost use Rattle.name_scopes.specs.QNames.{prefix_part};
+ghost use Rattle.name_scopes.specs.inner.Build.{IsNamed};
 
-use crate::qnames::QName;
+use crate::qnames::{QName, split};
+use crate::scope::Scope;
 use doc_tree::{NameId, NodeId, Tree};
 use std::alloc::AllocError;
 
@@ -25,26 +29,44 @@ impl RecentNames {
         }
     }
 
-    /// The number of a name.
+    /// The number of an element's name, by the declarations in scope; None where its prefix isn't in scope.
+    pub(crate) fn element(
+        &self,
+        tree: &mut Tree,
+        scope: &Scope,
+        name: &str,
+    ) -> Result<Option<NameId>, AllocError>
+        ensures named { IfOk result (λ found. MatchOption found (is_none (namespace_in scope.now (prefix_part name.now)) ≡ true) (IsNamed tree.new.names scope.now name.now)) }
+        ensures nodes { tree.new.nodes ≡ tree.old.nodes }
+    {
+        let parts = split(name);
+        match scope.namespace(parts.prefix) {
+            Some(uri) => Ok(Some(self.number(tree, name, parts, uri)?)),
+            None => Ok(None),
+        }
+    }
+
+    /// The number of the name that a QName in two parts is in a namespace.
     pub(crate) fn number(
         &self,
         tree: &mut Tree,
-        name: QName,
+        name: &str,
+        parts: QName,
         uri: &str,
     ) -> Result<NameId, AllocError>
-        ensures numbered { IfOk result (λ id. Numbered tree.old.names tree.new.names (record { prefix = name.entry.prefix.now; local = name.entry.local.now; uri = uri.now }) id) }
+        ensures numbered { IfOk result (λ id. Numbered tree.old.names tree.new.names (record { prefix = parts.entry.prefix.now; local = parts.entry.local.now; uri = uri.now }) id) }
         ensures nodes { tree.new.nodes ≡ tree.old.nodes }
     {
-        let node = self.nodes[slot(name.local)];
-        if let Some(id) = number_at(tree, node, name, uri) {
+        let node = self.nodes[slot(name)];
+        if let Some(id) = number_at(tree, node, parts, uri) {
             return Ok(id);
         }
-        tree.name_id(name.prefix, name.local, uri)
+        tree.name_id(parts.prefix, parts.local, uri)
     }
 
-    /// Keeps a node with a name of this local part.
-    pub(crate) fn note(&mut self, local: &str, node: NodeId) {
-        self.nodes[slot(local)] = node;
+    /// Keeps a node whose name has this QName.
+    pub(crate) fn note(&mut self, name: &str, node: NodeId) {
+        self.nodes[slot(name)] = node;
     }
 }
 
@@ -62,11 +84,11 @@ fn number_at(tree: &Tree, node: NodeId, name: QName, uri: &str) -> Option<NameId
     None
 }
 
-/// The slot of the names with a local part, by its length and its last byte.
-fn slot(local: &str) -> usize
+/// The slot of a QName, by its length and its last byte.
+fn slot(name: &str) -> usize
     ensures { result < SLOTS }
 {
-    let bytes = local.as_bytes();
+    let bytes = name.as_bytes();
     match bytes.last() {
         Some(last) => bytes.len() % 4 * 16 + usize::from(*last) % 16,
         None => 0,

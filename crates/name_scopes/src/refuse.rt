@@ -1,6 +1,6 @@
 //! The reasons for which the names and the nodes of a fragment keep it from coming under a node.
 
-ghost use Rattle.std.specs.Prelude.{◌≡◌, ◌≤◌, ◌<◌, ◌+◌, ◌∷◌, List, false, nat_le, sum_by, IfOk, MatchOption};
+ghost use Rattle.std.specs.Prelude.{◌≡◌, ◌≤◌, ◌<◌, ◌+◌, ◌∷◌, List, nat_le, sum_by, IfOk, MatchOption};
 ghost use Rattle.pyx_core.specs.declared.event.Event.{Event};
 ghost use Rattle.doc_tree.specs.limits.TheConstants.{MAX_DEPTH};
 ghost use Rattle.name_scopes.specs.Fragments.{event_nodes, is_too_deep, piece_refusal, tag_doubles, tag_lacks_prefix};
@@ -83,7 +83,6 @@ fn lacks_prefix(scope: &Scope, event: &Event) -> bool
 
 /// Whether two attributes of an event, whose own declarations are in scope, have one expanded name.
 fn doubles(alloc: Global, scope: &Scope, event: &Event) -> Result<bool, AllocError>
-    requires { holds_of_tag tag_lacks_prefix scope.now event.now ≡ false }
     ensures { IfOk result (λ found. found ≡ holds_of_tag tag_doubles scope.now event.now) }
 {
     match event {

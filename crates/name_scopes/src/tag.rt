@@ -1,6 +1,6 @@
 //! The rules of names that a start tag can break (Namespaces in XML 1.0).
 
-ghost use Rattle.std.specs.Prelude.{◌≡◌, ◌==◌, [], false, ◌&&◌, ◌||◌, is_none, unwrap_or, IfOk};
+ghost use Rattle.std.specs.Prelude.{◌≡◌, ◌==◌, [], ◌&&◌, ◌||◌, is_none, unwrap_or, IfOk};
 ghost use Rattle.std.specs.Option.{option_copied, option_to_list};
 ghost use Rattle.std.specs.List.{list_any};
 ghost use Rattle.std.specs.Str.{bytes_eq};
@@ -9,7 +9,8 @@ ghost use Rattle.doc_tree.specs.Scope.{namespace_in};
 ghost use Rattle.name_scopes.specs.QNames.{prefix_part};
 ghost use Rattle.name_scopes.specs.Scoping.{attribute_namespace};
 ghost use Rattle.name_scopes.specs.Declarations.{declarations, declaration_of, plain_attrs, is_bad_declaration, has_both_quotes, xmlns_namespace};
-ghost use Rattle.name_scopes.specs.DocFaults.{tag_fault, lacks_prefix, has_pair, same_qname, same_expanded, expanded_attr};
+ghost use Rattle.name_scopes.specs.inner.Build.{attrs_fault};
+ghost use Rattle.name_scopes.specs.DocFaults.{lacks_prefix, has_pair, same_qname, same_expanded, expanded_attr};
 
 use crate::declarations::{declared_prefix, is_plain};
 use crate::fault::DocKind;
@@ -23,18 +24,17 @@ use std::alloc::{AllocError, Global};
 /// So many attributes are compared each with each, which takes no memory.
 const FEW: usize = 8;
 
-/// Tests the names of a start tag, whose own declarations are in scope.
+/// Tests the attributes of a start tag, whose own declarations are in scope.
 ///
-/// Costs time linear in the names, the values of declarations, and the namespaces of the attributes.
-pub(crate) fn check_tag(
+/// Costs time linear in their names, the values of declarations, and their namespaces.
+pub(crate) fn check_attrs(
     alloc: Global,
     scope: &Scope,
-    name: &str,
     attrs: &[Attr],
 ) -> Result<Option<DocKind>, AllocError>
-    ensures { IfOk result (λ found. found ≡ tag_fault scope.now name.now attrs.now) }
+    ensures { IfOk result (λ found. found ≡ attrs_fault scope.now attrs.now) }
 {
-    if is_unknown(scope, name) || lack_prefix(scope, attrs) {
+    if lack_prefix(scope, attrs) {
         return Ok(Some(DocKind::NoPrefix));
     }
     if repeat_name(alloc, scope, attrs)? {
@@ -57,7 +57,7 @@ pub(crate) fn is_unknown(scope: &Scope, name: &str) -> bool
 }
 
 /// The namespace of an attribute's prefix; an attribute without a prefix has none.
-pub(crate) fn attribute_namespace<'a>(scope: &'a Scope, prefix: &str) -> Option<&'a str>
+fn attribute_namespace<'a>(scope: &'a Scope, prefix: &str) -> Option<&'a str>
     ensures { option_copied result ≡ attribute_namespace scope.now prefix.now }
 {
     if prefix.is_empty() {
@@ -89,7 +89,6 @@ fn lacks_prefix(scope: &Scope, attr: &Attr) -> bool
 ///
 /// Costs time linear in their names and namespaces, and for a few attributes no memory.
 fn repeat_name(alloc: Global, scope: &Scope, attrs: &[Attr]) -> Result<bool, AllocError>
-    requires { list_any (lacks_prefix scope.now) (plain_attrs attrs.now) ≡ false }
     ensures { IfOk result (λ repeats. repeats ≡ (has_pair same_qname attrs.now || has_pair (same_expanded scope.now) (plain_attrs attrs.now))) }
 {
     if attrs.len() <= FEW {
@@ -136,7 +135,7 @@ fn same_expanded(scope: &Scope, a: &Attr, b: &Attr) -> bool
 }
 
 /// The namespace of an attribute's prefix, empty where it isn't in scope.
-fn known_uri<'a>(scope: &'a Scope, prefix: &str) -> &'a str
+pub(crate) fn known_uri<'a>(scope: &'a Scope, prefix: &str) -> &'a str
     ensures { result.now ≡ unwrap_or (attribute_namespace scope.now prefix.now) [] }
 {
     match attribute_namespace(scope, prefix) {
@@ -172,7 +171,6 @@ pub(crate) fn repeat_expanded(
     scope: &Scope,
     attrs: &[Attr],
 ) -> Result<bool, AllocError>
-    requires { list_any (lacks_prefix scope.now) (plain_attrs attrs.now) ≡ false }
     ensures { IfOk result (λ repeats. repeats ≡ has_pair (same_expanded scope.now) (plain_attrs attrs.now)) }
 {
     let mut names = NameTable::new(alloc);
@@ -197,14 +195,10 @@ fn number_expanded(
     scope: &Scope,
     attr: &Attr,
 ) -> Result<NameId, AllocError>
-    requires { lacks_prefix scope.now attr.now ≡ false }
     ensures { IfOk result (λ id. Numbered names.old names.new (expanded_attr scope.now attr.now) id) }
 {
     let parts = split(attr.name.as_str());
-    match attribute_namespace(scope, parts.prefix) {
-        Some(uri) => names.number(alloc, "", parts.local, uri),
-        None => unreachable!(),
-    }
+    names.number(alloc, "", parts.local, known_uri(scope, parts.prefix))
 }
 
 /// Whether a declaration among the attributes may not be.

@@ -3,9 +3,6 @@ use Rattle.std.proofs.Common.{length, sym, ◌∙◌, arith}
 use Rattle.std.proofs.lemmas.Bool.{lt-leb}
 use Rattle.doc_tree.specs.limits.TheConstants.{MAX_LIVE_NODES}
 use Rattle.doc_tree.specs.Walks.{order}
-use Rattle.name_scopes.specs.Declarations.{is_plain}
-use Rattle.name_scopes.specs.DocFaults.{lacks_prefix}
-use Rattle.name_scopes.proofs.TagLemmas.{kept-fails}
 use Rattle.name_scopes.proofs.StartLemmas.{attributing-none, attributing-more, attributing-same, fits-next, kept-room, bytes-room}
 use Rattle.name_scopes.proofs.build.append_attributes.Goals as goal
 use Rattle.name_scopes.proofs.build.append_attributes.Goals.{then-is_plain+in_ok-append_attribute, else-is_plain}
@@ -17,11 +14,6 @@ pub append_attribute-requires-clause-fits : goal.append_attribute-requires-claus
 append_attribute-requires-clause-fits c =
     fits-next c.args.tree.now.nodes c.loop-attr.tree.nodes c.args.element c.args.scope.now c.args.attrs.now c.loop-attr.attr-index c.attr-item.result c.loop-attr-test.true c.attr-item.is
     (sym c.is_plain.ensures ∙ c.if-is_plain.true) c.requires.differ c.loop-attr.invariant
-
-pub append_attribute-requires-clause-known : goal.append_attribute-requires-clause-known
-append_attribute-requires-clause-known c =
-    kept-fails is_plain c.args.attrs.now c.loop-attr.attr-index c.attr-item.result c.loop-attr-test.true c.attr-item.is (lacks_prefix c.args.scope.now) c.requires.known
-    (sym c.is_plain.ensures ∙ c.if-is_plain.true)
 
 pub append_attribute-requires-clause-room : goal.append_attribute-requires-clause-room
 append_attribute-requires-clause-room c =

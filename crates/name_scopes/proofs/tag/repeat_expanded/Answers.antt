@@ -4,15 +4,10 @@ use Rattle.pyx_core.specs.declared.event.Attr.{Attr}
 use Rattle.doc_tree.specs.Numbering.{Numbered}
 use Rattle.doc_tree.specs.Table.{Name}
 use Rattle.name_scopes.specs.Declarations.{is_plain, plain_attrs}
-use Rattle.name_scopes.specs.DocFaults.{has_pair, same_expanded, expanded_attr, lacks_prefix}
-use Rattle.name_scopes.proofs.TagLemmas.{expanded-sound, expanded-complete, new-again, new-once, pair-kept, kept-more, kept-same, kept-fails, IsNew}
+use Rattle.name_scopes.specs.DocFaults.{has_pair, same_expanded, expanded_attr}
+use Rattle.name_scopes.proofs.TagLemmas.{expanded-sound, expanded-complete, new-again, new-once, pair-kept, kept-more, kept-same, IsNew}
 use Rattle.name_scopes.proofs.tag.repeat_expanded.Goals as goal
 use Rattle.name_scopes.proofs.tag.repeat_expanded.Goals.{then-is_plain+in_ok-number+else-index-count, else-is_plain}
-
-pub number_expanded-requires : goal.number_expanded-requires
-number_expanded-requires c =
-    kept-fails is_plain c.args.attrs.now c.loop-attr.attr-index c.attr-item.result c.loop-attr-test.true c.attr-item.is (lacks_prefix c.args.scope.now) c.requires
-    (sym c.is_plain.ensures ∙ c.if-is_plain.true)
 
 pub returns-then-index-count : goal.returns-then-index-count
 returns-then-index-count c =
