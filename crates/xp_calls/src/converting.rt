@@ -136,6 +136,22 @@ impl Caller<'_> {
         xp_values::compare_text(self.alloc, self.tree, operator, left, text)
     }
 
+    /// Compares some nodes with a text, as `compare_in` does where they are a node-set and the text is a value. Neither is
+    /// copied.
+    pub fn compare_nodes_in<L: Ledger>(
+        &self,
+        operator: Comparison,
+        nodes: &[NodeId],
+        text: &str,
+        reads: &mut Recorder,
+        steps: &mut Steps<L>,
+    ) -> Result<bool, EvalError>
+        ensures { Ran (compare_in self.now.tree.now.nodes operator (value_kinds.NodeSet nodes.now) (value_kinds.Chars text.now)) (shown result) reads.old reads.new steps.old steps.new }
+    {
+        take_texts(self.tree, nodes, reads, steps)?;
+        xp_values::compare_nodes(self.alloc, self.tree, operator, nodes, text)
+    }
+
     /// The sum of the numbers of some nodes (XPath 1.0, section 4.4): their string-values are all taken, and then each is
     /// converted and added in turn.
     pub(crate) fn sum_in<L: Ledger>(

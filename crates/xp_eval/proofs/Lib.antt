@@ -4,3 +4,4 @@ pub mod Runs
 pub mod DeadNodes
 pub mod LoneLets
 pub mod OneNode
+mod OwnNode

@@ -55,12 +55,15 @@ pub(crate) fn union_of(alloc: Global, tree: &Tree, values: &[Value]) -> Result<N
     into_document_order(alloc, tree, all)
 }
 
-/// The first list and then the second; the second itself where the first is empty.
+/// The first list and then the second; the other itself where one is empty.
 pub(crate) fn joined(list: NodeList, more: NodeList) -> Result<NodeList, AllocError>
     ensures { IfOk result (λ all. all ≡ list ++ more) }
 {
     if list.is_empty() {
         return Ok(more);
+    }
+    if more.is_empty() {
+        return Ok(list);
     }
     let mut all = list;
     all.push_all(more.as_slice())?;

@@ -20,6 +20,7 @@ ghost use Rattle.xp_eval.specs.inner.Wants.{wanted_by};
 
 use crate::candidates::{is_plain, to_document_order};
 use crate::choosing::{holds_at, joined, lone, lone_slot, nodes_in, size_of, union_of, wanted_by};
+use crate::own_node::own_comparison;
 use crate::reached::Reached;
 use doc_axes::into_document_order;
 use doc_tree::{NodeId, NodeList};
@@ -40,7 +41,7 @@ pub struct Evaluator<'r> {
 }
 
 impl Evaluator<'_> {
-    /// The value of an expression in a context.
+    /// The value of an expression in a context. No list is made of a context node that is compared with a literal.
     #[cycle(evaluation)]
     pub(crate) fn evaluate<L: Ledger>(
         &self,
@@ -51,15 +52,16 @@ impl Evaluator<'_> {
     ) -> Result<Value, EvalError>
         ensures { Ran (meaning self.now.caller.tree.now.nodes self.now.lets.now (typed_tree_of expr.now) at.now) (shown result) reads.old reads.new steps.old steps.new }
     {
+        if let Some(literal) = own_comparison(self.caller.tree, expr, at.node) {
+            return self.compare_own(at.node, literal.operator, literal.text, reads, steps);
+        }
         steps.tick();
         match expr {
             TypedExpr::Or(operands) => {
-                let truth = self.some_true(operands, at, reads, steps)?;
-                Ok(Value::Truth(truth))
+                Ok(Value::Truth(self.some_true(operands, at, reads, steps)?))
             }
             TypedExpr::And(operands) => {
-                let truth = self.all_true(operands, at, reads, steps)?;
-                Ok(Value::Truth(truth))
+                Ok(Value::Truth(self.all_true(operands, at, reads, steps)?))
             }
             TypedExpr::Compare { first, rest } => {
                 let value = self.evaluate(first, at, reads, steps)?;
@@ -82,8 +84,7 @@ impl Evaluator<'_> {
             }
             TypedExpr::Filter { base, predicates } => {
                 let set = self.operand_nodes(base, at, reads, steps)?;
-                let left = self.filter(predicates, at.current, set, reads, steps)?;
-                Ok(Value::NodeSet(left))
+                Ok(Value::NodeSet(self.filter(predicates, at.current, set, reads, steps)?))
             }
             TypedExpr::Variable { slot, .. } => self.variable(*slot, reads),
             TypedExpr::Literal { value } => Ok(text_value(self.caller.alloc, value)?),
@@ -396,6 +397,9 @@ impl Evaluator<'_> {
         ensures { Ran (step_at self.now.caller.tree.now.nodes (step_meant self.now.caller.tree.now.nodes self.now.lets.now step.now) current n) (shown result) reads.old reads.new steps.old steps.new }
     {
         let nodes = self.candidates(step, n, reads, steps)?;
+        if nodes.is_empty() {
+            return Ok(nodes);
+        }
         self.filter(&step.predicates, current, nodes, reads, steps)
     }
 

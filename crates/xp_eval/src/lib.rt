@@ -6,6 +6,7 @@ mod candidates;
 mod choosing;
 mod evaluator;
 mod let_calls;
+mod own_node;
 mod reached;
 mod variables;
 

@@ -13,7 +13,7 @@ use crate::numbers::Num;
 use crate::numerals::text_to_number;
 use crate::text_comparisons::{is_unequal, some_passes, text_test, texts_compared};
 use crate::values::{EvalError, Value};
-use doc_tree::{NodeList, Tree};
+use doc_tree::{NodeId, Tree};
 use sch_base::ItemList;
 use std::alloc::Global;
 use xp_tree::Comparison;
@@ -47,9 +47,8 @@ pub fn compare(
 
 /// Compares a value with a text (XPath 1.0, section 3.4), as `compare` does where the text is a value.
 ///
-/// Faults are those of `compare`: by order the texts of the left side are all converted, then the text. By `=` and `!=` a
-/// node-set costs a test for each node up to the first that passes, and memory only for string-values that the tree does
-/// not hold as one text.
+/// Faults are those of `compare`: by order the value is converted, then the text. A node-set costs what it costs in
+/// `compare_nodes`.
 pub fn compare_text(
     alloc: Global,
     tree: &Tree,
@@ -63,10 +62,7 @@ pub fn compare_text(
         return numbers_against(alloc, tree, op, a, text);
     }
     match a {
-        Value::NodeSet(nodes) => {
-            let holds = some_passes(alloc, tree, op, nodes.as_slice(), text)?;
-            Ok(holds)
-        }
+        Value::NodeSet(nodes) => compare_nodes(alloc, tree, op, nodes.as_slice(), text),
         Value::Truth(truth) => {
             let left = truth_number(*truth);
             let right = truth_number(!text.is_empty());
@@ -78,6 +74,30 @@ pub fn compare_text(
         }
         Value::Chars(left) => Ok(text_test(op, left.as_str(), text)),
     }
+}
+
+/// Compares some nodes with a text (XPath 1.0, section 3.4), as `compare` does where they are a node-set and the text is a
+/// value.
+///
+/// Faults are those of `compare`: by order the nodes' texts are all converted, then the text. By `=` and `!=` it costs a
+/// test for each node up to the first that passes, and memory only for string-values that the tree does not hold as one
+/// text.
+pub fn compare_nodes(
+    alloc: Global,
+    tree: &Tree,
+    op: Comparison,
+    nodes: &[NodeId],
+    text: &str,
+) -> Result<bool, EvalError>
+    ensures { Gives result (compare tree.now.nodes op (value_kinds.NodeSet nodes.now) (value_kinds.Chars text.now)) }
+{
+    if is_order(op) {
+        let left = numbers_of_nodes(alloc, tree, nodes)?;
+        let right = text_to_number(text)?;
+        return Ok(some_numbers(op, left.as_slice(), &[right]));
+    }
+    let holds = some_passes(alloc, tree, op, nodes, text)?;
+    Ok(holds)
 }
 
 /// Whether two values are compared as truths: by order a node-set with a truth, else where one is a truth.
@@ -164,7 +184,7 @@ fn numbers_of(alloc: Global, tree: &Tree, v: &Value) -> Result<ItemList<Num>, Ev
     ensures { Gives result (numbers_of tree.now.nodes v.now) }
 {
     match v {
-        Value::NodeSet(nodes) => numbers_of_nodes(alloc, tree, nodes),
+        Value::NodeSet(nodes) => numbers_of_nodes(alloc, tree, nodes.as_slice()),
         Value::Truth(_) | Value::Number(_) | Value::Chars(_) => {
             let number = to_number(alloc, tree, v)?;
             let mut numbers = ItemList::new(alloc);
@@ -178,12 +198,12 @@ fn numbers_of(alloc: Global, tree: &Tree, v: &Value) -> Result<ItemList<Num>, Ev
 fn numbers_of_nodes(
     alloc: Global,
     tree: &Tree,
-    nodes: &NodeList,
+    nodes: &[NodeId],
 ) -> Result<ItemList<Num>, EvalError>
     ensures { Gives result (all_numbers (map (string_value_of tree.now.nodes) nodes.now)) }
 {
     let mut numbers = ItemList::new(alloc);
-    for n in nodes.as_slice() {
+    for n in nodes {
         let number = number_of_node(alloc, tree, *n)?;
         numbers.push(number)?;
     }

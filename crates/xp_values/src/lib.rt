@@ -14,7 +14,7 @@ mod text_comparisons;
 mod texts;
 mod values;
 
-pub use comparisons::{compare, compare_text};
+pub use comparisons::{compare, compare_nodes, compare_text};
 pub use conversions::{to_number, to_text, to_truth};
 pub use numbers::{Num, arith};
 pub use numerals::text_to_number;

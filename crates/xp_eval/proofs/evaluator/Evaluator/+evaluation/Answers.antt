@@ -1,7 +1,9 @@
 use Rattle.std.specs.Prelude.{flat_map}
-use Rattle.std.proofs.Common.{if◌then◌else◌, Bool, ℕ, ◌+◌, ◌∷◌, [], ◌++◌, List, drop, length, refl, sym, ◌∙◌, ap}
+use Rattle.std.proofs.Common.{if◌then◌else◌, Bool, ℕ, ◌+◌, ◌∷◌, [], ◌++◌, List, drop, length, eqb-true, refl, sym, ◌∙◌, ap}
+use Rattle.std.proofs.lemmas.List.{nil_from_length}
 use Rattle.doc_axes.specs.Sets.{in_order}
 use Rattle.xp_typed_tree.specs.declared.expr.Compared.{out-Compared}
+use Rattle.xp_typed_tree.specs.declared.expr.TypedStep.{out-TypedStep}
 use Rattle.xp_typed_tree.specs.TypedView.{typed_tree_of, typed_seen}
 use Rattle.xp_outcome.specs.Evaluation.{Evaluation, done, bind}
 use Rattle.xp_outcome.proofs.Runs.{next_item, no_item, ran_alike, ran_bind, ran_stop, ran_done, ran_late, onto_alike, onto_bind, onto_stop, onto_done, onto_late, onto_end}
@@ -16,7 +18,7 @@ use Rattle.xp_meaning.specs.Evaluation.{meaning, meanings}
 use Rattle.xp_eval.specs.Steps.{step_meant}
 use Rattle.xp_eval.specs.inner.Reaching.{nodes_reached}
 use Rattle.xp_eval.specs.inner.Wants.{wanted_by}
-use Rattle.xp_eval.proofs.Loops.{some_true-next, some_true-end, all_true-next, all_true-end, filtered-next, filtered-end, compared-next, compared-end, combined-next, combined-end, path-next, path-end, plain_meant}
+use Rattle.xp_eval.proofs.Loops.{some_true-next, some_true-end, all_true-next, all_true-end, filtered-next, filtered-end, compared-next, compared-end, combined-next, combined-end, path-next, path-end, plain_meant, filtered_none}
 use Rattle.xp_eval.proofs.OneNode.{from_one, turned_in_order}
 use Rattle.xp_eval.proofs.Runs.{exit_reached, onto_goes, onto_stops, chosen_yes, chosen_no, gather_goes, gather_stops, gather_ends, gather_begins, gather_begins_alone, ran_given_fault, ran_given_ok, placed_is}
 use Rattle.xp_eval.proofs.Views.{view-Or, view-And, view-Compare, view-Arith, view-Negate, view-Union, view-Path, view-Filter, view-Variable, view-Literal, literal_bound, view-Number, view-Call, view-Root, view-Here, view-From}
@@ -244,6 +246,12 @@ pub step_at-returns-in_err-nodes : goal.step_at-returns-in_err-nodes
 step_at-returns-in_err-nodes g t c =
     exit_memory _ c.from_residual.ensures.1 (ran_stop _ _ c.in_err-nodes.ensures)
 
+pub step_at-returns-then-is_empty : goal.step_at-returns-then-is_empty
+step_at-returns-then-is_empty g t c =
+    ran_bind _ c.in_ok-nodes.ensures
+    (ran_alike (filtered_none (meanings c.args.self.now.caller.tree.now.nodes c.args.self.now.lets.now (typed_seen (out-TypedStep c.args.step.now).predicates.items)) c.args.current c.in_ok-nodes.nodes
+    (nil_from_length c.in_ok-nodes.nodes (eqb-true _ 0 (sym c.is_empty.ensures ∙ c.if-is_empty.true)))) (ran_done _ _ _))
+
 pub step_at-returns : goal.step_at-returns
 step_at-returns g t c =
     ran_bind _ c.in_ok-nodes.ensures (ran_alike (ap (λ ps. filtered (meanings c.args.self.now.caller.tree.now.nodes c.args.self.now.lets.now (typed_seen ps)) c.args.current c.in_ok-nodes.nodes) (sym c.deref.ensures.value)) c.filter.ensures)
@@ -284,21 +292,25 @@ pub keep-returns : goal.keep-returns
 keep-returns g t c =
     onto_done (gather_ends (λ position n. meaning c.args.self.now.caller.tree.now.nodes c.args.self.now.lets.now (typed_tree_of c.args.predicate.now) (placed c.args.current (length c.args.nodes.now) position n)) chosen done c.loop-n.kept (c.loop-n.n-index + 1) (drop c.loop-n.n-index c.args.nodes.now) (no_item c.args.nodes.now c.loop-n.n-index c.loop-n-test.false) c.loop-n.invariant.rest)
 
-pub evaluate-returns-in_err-truth-in-Or : goal.evaluate-returns-in_err-truth-in-Or
-evaluate-returns-in_err-truth-in-Or g t c =
-    exit_same _ _ c.from_residual.ensures.1 (ran_alike (view-Or c.args.self.now.caller.tree.now.nodes c.args.self.now.lets.now c.args.expr.now c.args.at.now _ c.deref.result.now c.in-Or.is c.deref.ensures.value) (ran_ticked c.tick.ensures (ran_stop _ _ c.in_err-truth-in-Or.ensures)))
+pub evaluate-returns-in-Some : goal.evaluate-returns-in-Some
+evaluate-returns-in-Some g t c =
+    ran_alike (c.in-Some.ensures c.args.self.now.lets.now c.args.at.now refl) c.compare_own.ensures
 
-pub evaluate-returns-in_ok-truth-in-Or : goal.evaluate-returns-in_ok-truth-in-Or
-evaluate-returns-in_ok-truth-in-Or g t c =
-    ran_alike (view-Or c.args.self.now.caller.tree.now.nodes c.args.self.now.lets.now c.args.expr.now c.args.at.now _ c.deref.result.now c.in-Or.is c.deref.ensures.value) (ran_ticked c.tick.ensures (ran_bind _ c.in_ok-truth-in-Or.ensures (ran_done _ _ _)))
+pub evaluate-returns-in_err-some_true-in-Or : goal.evaluate-returns-in_err-some_true-in-Or
+evaluate-returns-in_err-some_true-in-Or g t c =
+    exit_same _ _ c.from_residual.ensures.1 (ran_alike (view-Or c.args.self.now.caller.tree.now.nodes c.args.self.now.lets.now c.args.expr.now c.args.at.now _ c.deref.result.now c.in-Or.is c.deref.ensures.value) (ran_ticked c.tick.ensures (ran_stop _ _ c.in_err-some_true-in-Or.ensures)))
 
-pub evaluate-returns-in_err-truth-in-And : goal.evaluate-returns-in_err-truth-in-And
-evaluate-returns-in_err-truth-in-And g t c =
-    exit_same _ _ c.from_residual-in_err-truth-in-And.ensures.1 (ran_alike (view-And c.args.self.now.caller.tree.now.nodes c.args.self.now.lets.now c.args.expr.now c.args.at.now _ c.deref-in-And.result.now c.in-And.is c.deref-in-And.ensures.value) (ran_ticked c.tick.ensures (ran_stop _ _ c.in_err-truth-in-And.ensures)))
+pub evaluate-returns-in_ok-some_true-in-Or : goal.evaluate-returns-in_ok-some_true-in-Or
+evaluate-returns-in_ok-some_true-in-Or g t c =
+    ran_alike (view-Or c.args.self.now.caller.tree.now.nodes c.args.self.now.lets.now c.args.expr.now c.args.at.now _ c.deref.result.now c.in-Or.is c.deref.ensures.value) (ran_ticked c.tick.ensures (ran_bind _ c.in_ok-some_true-in-Or.ensures (ran_done _ _ _)))
 
-pub evaluate-returns-in_ok-truth-in-And : goal.evaluate-returns-in_ok-truth-in-And
-evaluate-returns-in_ok-truth-in-And g t c =
-    ran_alike (view-And c.args.self.now.caller.tree.now.nodes c.args.self.now.lets.now c.args.expr.now c.args.at.now _ c.deref-in-And.result.now c.in-And.is c.deref-in-And.ensures.value) (ran_ticked c.tick.ensures (ran_bind _ c.in_ok-truth-in-And.ensures (ran_done _ _ _)))
+pub evaluate-returns-in_err-all_true-in-And : goal.evaluate-returns-in_err-all_true-in-And
+evaluate-returns-in_err-all_true-in-And g t c =
+    exit_same _ _ c.from_residual-in_err-all_true-in-And.ensures.1 (ran_alike (view-And c.args.self.now.caller.tree.now.nodes c.args.self.now.lets.now c.args.expr.now c.args.at.now _ c.deref-in-And.result.now c.in-And.is c.deref-in-And.ensures.value) (ran_ticked c.tick.ensures (ran_stop _ _ c.in_err-all_true-in-And.ensures)))
+
+pub evaluate-returns-in_ok-all_true-in-And : goal.evaluate-returns-in_ok-all_true-in-And
+evaluate-returns-in_ok-all_true-in-And g t c =
+    ran_alike (view-And c.args.self.now.caller.tree.now.nodes c.args.self.now.lets.now c.args.expr.now c.args.at.now _ c.deref-in-And.result.now c.in-And.is c.deref-in-And.ensures.value) (ran_ticked c.tick.ensures (ran_bind _ c.in_ok-all_true-in-And.ensures (ran_done _ _ _)))
 
 pub evaluate-returns-in_err-value-in-Compare : goal.evaluate-returns-in_err-value-in-Compare
 evaluate-returns-in_err-value-in-Compare g t c =
@@ -352,13 +364,13 @@ pub evaluate-returns-in_err-set-in-Filter : goal.evaluate-returns-in_err-set-in-
 evaluate-returns-in_err-set-in-Filter g t c =
     exit_same _ _ c.from_residual-in_err-set-in-Filter.ensures.1 (ran_alike (view-Filter c.args.self.now.caller.tree.now.nodes c.args.self.now.lets.now c.args.expr.now c.args.at.now _ _ c.deref-in-Filter.result.now _ c.in-Filter.is c.deref-in-Filter.ensures refl) (ran_ticked c.tick.ensures (ran_stop _ _ c.in_err-set-in-Filter.ensures)))
 
-pub evaluate-returns-in_err-left-in-Filter : goal.evaluate-returns-in_err-left-in-Filter
-evaluate-returns-in_err-left-in-Filter g t c =
-    exit_same _ _ c.from_residual-in_err-left-in-Filter.ensures.1 (ran_alike (view-Filter c.args.self.now.caller.tree.now.nodes c.args.self.now.lets.now c.args.expr.now c.args.at.now _ _ c.deref-in-Filter.result.now c.deref-in-Filter-2.result.now c.in-Filter.is c.deref-in-Filter.ensures c.deref-in-Filter-2.ensures.value) (ran_ticked c.tick.ensures (ran_bind _ c.in_ok-set-in-Filter.ensures (ran_stop _ _ c.in_err-left-in-Filter.ensures))))
+pub evaluate-returns-in_err-filter-in-Filter : goal.evaluate-returns-in_err-filter-in-Filter
+evaluate-returns-in_err-filter-in-Filter g t c =
+    exit_same _ _ c.from_residual-in_err-filter-in-Filter.ensures.1 (ran_alike (view-Filter c.args.self.now.caller.tree.now.nodes c.args.self.now.lets.now c.args.expr.now c.args.at.now _ _ c.deref-in-Filter.result.now c.deref-in-Filter-2.result.now c.in-Filter.is c.deref-in-Filter.ensures c.deref-in-Filter-2.ensures.value) (ran_ticked c.tick.ensures (ran_bind _ c.in_ok-set-in-Filter.ensures (ran_stop _ _ c.in_err-filter-in-Filter.ensures))))
 
-pub evaluate-returns-in_ok-left-in-Filter : goal.evaluate-returns-in_ok-left-in-Filter
-evaluate-returns-in_ok-left-in-Filter g t c =
-    ran_alike (view-Filter c.args.self.now.caller.tree.now.nodes c.args.self.now.lets.now c.args.expr.now c.args.at.now _ _ c.deref-in-Filter.result.now c.deref-in-Filter-2.result.now c.in-Filter.is c.deref-in-Filter.ensures c.deref-in-Filter-2.ensures.value) (ran_ticked c.tick.ensures (ran_bind _ c.in_ok-set-in-Filter.ensures (ran_bind _ c.in_ok-left-in-Filter.ensures (ran_done _ _ _))))
+pub evaluate-returns-in_ok-filter-in-Filter : goal.evaluate-returns-in_ok-filter-in-Filter
+evaluate-returns-in_ok-filter-in-Filter g t c =
+    ran_alike (view-Filter c.args.self.now.caller.tree.now.nodes c.args.self.now.lets.now c.args.expr.now c.args.at.now _ _ c.deref-in-Filter.result.now c.deref-in-Filter-2.result.now c.in-Filter.is c.deref-in-Filter.ensures c.deref-in-Filter-2.ensures.value) (ran_ticked c.tick.ensures (ran_bind _ c.in_ok-set-in-Filter.ensures (ran_bind _ c.in_ok-filter-in-Filter.ensures (ran_done _ _ _))))
 
 pub evaluate-returns-in-Variable : goal.evaluate-returns-in-Variable
 evaluate-returns-in-Variable g t c =
