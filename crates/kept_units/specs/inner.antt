@@ -3,3 +3,4 @@ pub mod KeptReads
 pub mod Marking
 pub mod Refreshing
 pub mod Scanning
+pub mod UnitReads

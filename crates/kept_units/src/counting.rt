@@ -8,8 +8,8 @@ ghost use Rattle.kept_units.specs.Keeping.{Keeps, reads_at};
 ghost use Rattle.kept_units.specs.inner.Counting.{is_stale_node};
 
 use crate::kept_units::KeptUnits;
+use crate::unit_reads::UnitReads;
 use doc_tree::{MAX_NODE_NUMBERS, NodeId, Tree};
-use rule_run::Recorder;
 use sch_compiled::Plan;
 
 impl KeptUnits {
@@ -31,7 +31,7 @@ impl KeptUnits {
 }
 
 /// How many of the first entries are those of stale units.
-fn stale_lets(entries: &[Option<Recorder>], lets: u32) -> u32
+fn stale_lets(entries: &[Option<UnitReads>], lets: u32) -> u32
     ensures { result ≡ count_by (λ slot. is_none (reads_at entries.now slot)) (range_with_len 0 lets) }
 {
     let mut count = 0;
@@ -44,7 +44,7 @@ fn stale_lets(entries: &[Option<Recorder>], lets: u32) -> u32
 }
 
 /// How many live nodes are stale under a pattern.
-fn stale_nodes(entries: &[Option<Recorder>], tree: &Tree, patterns: u32, p: u32) -> u32
+fn stale_nodes(entries: &[Option<UnitReads>], tree: &Tree, patterns: u32, p: u32) -> u32
     requires { p < patterns }
     ensures { result ≡ count_by (is_stale_node tree.now.nodes entries.now patterns p) (range_with_len 0 (length tree.now.nodes)) }
 {
@@ -60,7 +60,7 @@ fn stale_nodes(entries: &[Option<Recorder>], tree: &Tree, patterns: u32, p: u32)
 
 /// Whether a node lives and is stale under a pattern.
 fn is_stale_node(
-    entries: &[Option<Recorder>],
+    entries: &[Option<UnitReads>],
     tree: &Tree,
     patterns: u32,
     p: u32,
@@ -73,7 +73,7 @@ fn is_stale_node(
 }
 
 /// Whether the entry at a place is that of a stale unit; past the end all are.
-fn is_stale(entries: &[Option<Recorder>], place: usize) -> bool
+fn is_stale(entries: &[Option<UnitReads>], place: usize) -> bool
     ensures { result ≡ is_none (reads_at entries.now place) }
 {
     match entries.get(place) {

@@ -5,6 +5,7 @@ ghost use Rattle.unit_readers.specs.Readers.{Keeps as KeepsReaders};
 ghost use Rattle.kept_units.specs.Keeping.{IsIndexed, may_be_stale, reads_at};
 ghost use Rattle.kept_units.specs.inner.KeptReads.{HasReader, Links, Passes, Prepares, PutsReads, Reads};
 
+use crate::unit_reads::UnitReads;
 use doc_tree::Cell;
 use rule_run::Recorder;
 use std::alloc::{AllocError, Global};
@@ -22,7 +23,7 @@ const FEW_READERS: usize = 4096;
 /// Once there was an edit, the readers of each cell are known too, which takes 20 bytes a node and 8 bytes a read.
 #[derive(Drop)]
 pub(crate) struct KeptReads {
-    pub(crate) entries: Vec<Option<Recorder>>,
+    pub(crate) entries: Vec<Option<UnitReads>>,
     /// The units that read a cell, by their places; some may have read it once, and do so no more.
     pub(crate) readers: UnitReaders,
     /// Whether the readers of all cells are known.
@@ -100,7 +101,21 @@ impl KeptReads {
     }
 
     /// Keeps what the unit at a place has read.
-    pub(crate) fn put(&mut self, place: usize, reads: Recorder) -> Result<(), AllocError>
+    pub(crate) fn put(
+        &mut self,
+        alloc: Global,
+        place: usize,
+        reads: Recorder,
+    ) -> Result<(), AllocError>
+        requires { place < length self.old.entries.items }
+        ensures { OnOk result (PutsReads place reads self.old self.new) }
+    {
+        let reads = UnitReads::new(alloc, reads)?;
+        self.keep(place, reads)
+    }
+
+    /// Keeps what the unit at a place has read, and makes it a reader of the cells.
+    fn keep(&mut self, place: usize, reads: UnitReads) -> Result<(), AllocError>
         requires { place < length self.old.entries.items }
         ensures { OnOk result (PutsReads place reads self.old self.new) }
     {
@@ -139,7 +154,7 @@ impl KeptReads {
 }
 
 /// Puts empty entries at the end until there are so many.
-fn lengthen(entries: &mut Vec<Option<Recorder>>, count: usize) -> Result<(), AllocError>
+fn lengthen(entries: &mut Vec<Option<UnitReads>>, count: usize) -> Result<(), AllocError>
     ensures there { OnOk result (count ≤ length entries.new.items) }
     ensures short { OnOk result (length entries.old.items ≤ count → length entries.new.items ≤ count) }
     ensures same { OnOk result ((place : ℕ) → reads_at entries.new.items place ≡ reads_at entries.old.items place) }
@@ -163,7 +178,7 @@ fn add_reader(readers: &mut UnitReaders, cells: &[Cell], unit: u32) -> Result<()
 }
 
 /// Makes the units at all places readers of what they have read; false where there are more places than numbers of units.
-fn add_readers(readers: &mut UnitReaders, entries: &[Option<Recorder>]) -> Result<bool, AllocError>
+fn add_readers(readers: &mut UnitReaders, entries: &[Option<UnitReads>]) -> Result<bool, AllocError>
     ensures { IfOk result (λ all. all ≡ true → (place : ℕ) → HasReader readers.new place (reads_at entries.now place)) }
 {
     for (place, entry) in entries.iter().enumerate() {
@@ -178,7 +193,7 @@ fn add_readers(readers: &mut UnitReaders, entries: &[Option<Recorder>]) -> Resul
 /// Makes a unit a reader of what it has read.
 fn add_entry(
     readers: &mut UnitReaders,
-    entry: &Option<Recorder>,
+    entry: &Option<UnitReads>,
     unit: u32,
 ) -> Result<(), AllocError>
     ensures keeps { KeepsReaders readers.old readers.new }

@@ -9,6 +9,7 @@ mod marking;
 mod refreshing_lets;
 mod refreshing_pairs;
 mod scanning;
+mod unit_reads;
 
 pub use kept_units::KeptUnits;
 pub use scanning::Evaluated;

@@ -15,10 +15,10 @@ ghost use Rattle.kept_units.specs.inner.Marking.{DropsTouched, IsAbove, IsAround
 
 use crate::kept_reads::{KeptReads, ROWS};
 use crate::kept_units::KeptUnits;
+use crate::unit_reads::UnitReads;
 use doc_edit_laws::edits_leave_the_rest;
 use doc_tree::{Cell, NodeId, Tree};
 use edit_commands::Touched;
-use rule_run::Recorder;
 
 impl KeptUnits {
     /// Marks as stale the units that read a cell that a command touched. The tree is the one that the command left.
@@ -213,7 +213,7 @@ fn set_flag(blocks: &mut Vec<bool>, row: usize)
 }
 
 /// Whether the command touched a cell that a unit has read; of a stale unit none is known.
-fn is_touched(entry: &Option<Recorder>, tree: &Tree, touched: &Touched) -> bool
+fn is_touched(entry: &Option<UnitReads>, tree: &Tree, touched: &Touched) -> bool
     ensures { result ≡ reads_touched (holds_cell tree.now.nodes touched.now) entry.now }
 {
     match entry {

@@ -10,8 +10,9 @@ ghost use Rattle.kept_units.specs.Keeping.{Keeps};
 ghost use Rattle.kept_units.specs.inner.Refreshing.{LetsAlone, LetsRefreshed, RefreshesLet, RunsLet, TellsChange, TellsRun, flag_at};
 
 use crate::kept_units::KeptUnits;
+use crate::unit_reads::UnitReads;
 use edit_costs::{clean_units_stand, lets_need_those_before, same_outcomes_are_equal};
-use rule_run::{Lets, PlanRun, Recorder, run_let};
+use rule_run::{Lets, PlanRun, run_let};
 use sch_units::lets_stand_in_order;
 use std::alloc::AllocError;
 use std::sync::ledger::Ledger;
@@ -84,16 +85,14 @@ impl KeptUnits {
         let caller = run.caller;
         let kept = run_let(caller.alloc, run.plan, caller.tree, l, &self.lets, steps)?;
         let same = is_same_outcome(&self.lets, l, &kept.value);
-        let mut reads = kept.reads;
-        reads.settle();
         self.lets.set(l, kept.value)?;
-        self.let_reads.put(l as usize, reads)?;
+        self.let_reads.put(caller.alloc, l as usize, kept.reads)?;
         Ok(!same)
     }
 }
 
 /// Whether a unit is to be evaluated: nothing is kept of what it read, or it read a let whose outcome has changed.
-pub(crate) fn is_to_run(reads: &Option<Recorder>, changed: &Vec<bool>) -> bool
+pub(crate) fn is_to_run(reads: &Option<UnitReads>, changed: &Vec<bool>) -> bool
     ensures { TellsRun reads.now changed.now.items result }
 {
     match reads {
@@ -103,7 +102,7 @@ pub(crate) fn is_to_run(reads: &Option<Recorder>, changed: &Vec<bool>) -> bool
 }
 
 /// Whether a let that was read has another outcome.
-fn has_read_changed(reads: &Recorder, changed: &Vec<bool>) -> bool
+fn has_read_changed(reads: &UnitReads, changed: &Vec<bool>) -> bool
     ensures { TellsChange reads.now changed.now.items result }
 {
     let slots = reads.lets();

@@ -173,10 +173,8 @@ impl KeptUnits {
         let p = at.pattern;
         let place = self.place(at, n);
         let kept = run_pair_with(&at.run, p, n, matches, &mut self.lets, steps)?;
-        let mut reads = kept.reads;
-        reads.settle();
         self.found.put(p, n, kept.outcome)?;
-        self.reads.put(place, reads)?;
+        self.reads.put(at.run.caller.alloc, place, kept.reads)?;
         Ok(())
     }
 

@@ -2,7 +2,7 @@
 use Rattle.std.proofs.Common.{◌≡◌, Some, set, ap, refl}
 use Rattle.std.specs.Vec.{with_item}
 use Rattle.kept_units.proofs.ReaderLemmas.{indexed_put}
-use Rattle.kept_units.proofs.kept_reads.KeptReads.put.Goals as goal
+use Rattle.kept_units.proofs.kept_reads.KeptReads.keep.Goals as goal
 
 pub returns : goal.returns
 returns c =
