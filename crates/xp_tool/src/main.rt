@@ -1,15 +1,14 @@
 //! `xp_tool` answers questions about expressions of XPath 1.0 and patterns of XSLT 1.0: the rows of outside examples on standard
-//! input, or, as `xp_tool KIND TEXT`, a question about the document on standard input.
-//!
-//! It is a tool for developers and for measurements: it shows the rooms of expressions at work until the validator uses them.
+//! input, or, as `xp_tool KIND TEXT`, a question about the document on standard input. Developers measure by it.
 #![tactic(auto)]
 
 use doc_tree::{MAX_LIVE_TEXT_BYTES, NodeId, NodeList, Tree};
 use name_scopes::load_tree;
 use std::alloc::Global;
+use std::io::Read;
 use std::process::ExitCode;
 use std::test::Fail;
-use std::{env, io};
+use std::{env, mem};
 use test_rows::{Answers, hold_rows};
 use test_texts::{copy, first_word, place_of, repeated, with_words};
 use xp_asking::ask;
@@ -21,23 +20,28 @@ fn main(rt: HostRuntime) -> Result<ExitCode, Fail> {
     let words: Vec<String> = env::args(&rt)?.collect(rt.alloc())?;
     match words.as_slice() {
         [_, kind, text] => tell(&rt, kind.as_str(), text.as_str()),
-        _ => {
-            let mut sample = Sample::of(rt.alloc(), "", "(a\n)a\n")?;
-            hold_rows(&rt, '␊', &mut sample)
-        }
+        _ => hold_rows(&rt, '␊', &mut Sample::of(rt.alloc(), "", b"(a\n)a\n")?),
     }
 }
 
 /// Writes the answer to a question about the document on standard input, whose nodes have no names.
 fn tell(rt: &HostRuntime, kind: &str, text: &str) -> Result<ExitCode, Fail> {
-    let document = io::read_to_string(rt.alloc(), rt.reader())?;
-    let mut sample = Sample::of(rt.alloc(), "", document.as_str())?;
-    let answer = sample.answer(kind, text)?;
+    let mut document = Vec::new(rt.alloc());
+    rt.reader().read_to_end(&mut document)?;
+    let answer = answered(rt.alloc(), document.as_slice(), kind, text)?;
     println!(rt; "{}", answer.as_str())?;
     Ok(ExitCode::SUCCESS)
 }
 
-/// A document, its nodes in document order, their names, which stand apart by spaces, and the value of the variable x.
+/// The answer to a question about a document whose nodes have no names. With it the program ends, so no memory is given back.
+fn answered(alloc: Global, document: &[u8], kind: &str, text: &str) -> Result<String, Fail> {
+    let mut sample = Sample::of(alloc, "", document)?;
+    let answer = sample.answer(kind, text);
+    mem::forget(sample);
+    answer
+}
+
+/// A document, its nodes or the root alone, their names, which stand apart by spaces, and the value of the variable x.
 #[derive(Drop)]
 struct Sample {
     alloc: Global,
@@ -48,16 +52,11 @@ struct Sample {
 }
 
 impl Answers for Sample {
-    /// A `document` with the names of its nodes, and the node that a `variable` has, are what the later rows are about; all
-    /// else is asked of a node.
+    /// A `document` with its nodes' names and the node of a `variable` are what later rows are about; all else is asked of a node.
     fn answer(&mut self, kind: &str, input: &str) -> Result<String, Fail> {
         let (word, name) = first_word(kind);
         match word {
-            "document" => *self = Sample::of(
-                self.alloc,
-                name,
-                repeated(self.alloc, input)?.as_str(),
-            )?,
+            "document" => self.set_document(name, input)?,
             "variable" => self.set_variable(input)?,
             _ => return self.asked(word, name, input),
         }
@@ -67,13 +66,13 @@ impl Answers for Sample {
 
 impl Sample {
     /// The document of some lines, with the names of its nodes.
-    fn of(alloc: Global, names: &str, lines: &str) -> Result<Sample, Fail> {
+    fn of(alloc: Global, names: &str, lines: &[u8]) -> Result<Sample, Fail> {
         if lines.len() > MAX_LIVE_TEXT_BYTES {
             return Err("the document is too large".into());
         }
         let names = copy(alloc, names)?;
-        let tree = load_tree(alloc, lines.as_bytes())?;
-        let nodes = tree.nodes_in_order(alloc)?;
+        let tree = load_tree(alloc, lines)?;
+        let nodes = NodeList::of_one(alloc, tree.root())?;
         Ok(Sample {
             alloc,
             tree,
@@ -83,19 +82,24 @@ impl Sample {
         })
     }
 
+    /// Takes the document of some lines, repeated as they say, with the names of its nodes.
+    fn set_document(&mut self, names: &str, lines: &str) -> Result<(), Fail> {
+        let lines = repeated(self.alloc, lines)?;
+        *self = Sample::of(self.alloc, names, lines.as_bytes())?;
+        self.nodes = self.tree.nodes_in_order(self.alloc)?;
+        Ok(())
+    }
+
     /// The node with a name; where none has names, that without one is the root.
     fn node(&self, name: &str) -> Result<NodeId, Fail> {
-        match self.nodes.get(place_of(name, self.names.as_str())?) {
-            Some(node) => Ok(*node),
-            None => Err("no node has that name".into()),
-        }
+        let place = place_of(name, self.names.as_str())?;
+        Ok(*self.nodes.get(place).ok_or("no node has that name")?)
     }
 
     /// Gives the variable x the node with a name.
     fn set_variable(&mut self, name: &str) -> Result<(), Fail> {
         let node = NodeList::of_one(self.alloc, self.node(name)?)?;
-        self.lets.set(0, Ok(Value::NodeSet(node)))?;
-        Ok(())
+        Ok(self.lets.set(0, Ok(Value::NodeSet(node)))?)
     }
 
     /// The answer to a question, with the names of nodes in place of their numbers.
@@ -106,7 +110,8 @@ impl Sample {
             lets: &self.lets,
         };
         let told = if word == "nodes" {
-            ask(&scene, word, self.nodes.as_slice(), text)?
+            let nodes = self.tree.nodes_in_order(self.alloc)?;
+            ask(&scene, word, nodes.as_slice(), text)?
         } else {
             ask(&scene, word, &[self.node(name)?], text)?
         };
