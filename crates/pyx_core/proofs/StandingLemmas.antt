@@ -82,7 +82,6 @@ pub not_element : (b : Begun) → ((line : ℕ) (name : List ℕ) (attrs : List 
 not_element begun.Nothing no_start = refl
 not_element (begun.Element line name attrs) no_start = absurd (no_start line name attrs refl)
 not_element (begun.Text line text) no_start = refl
-not_element (begun.Joined line text) no_start = refl
 
 -- the names after an end
 pub popped : (items rest : List (List ℕ)) (count : ℕ) (names : List (List ℕ)) → items ≡ outermost_first names →

@@ -1,6 +1,6 @@
 //! The events that wait to be taken, and the one that the newest lines have begun.
 
-ghost use Rattle.std.specs.Prelude.{◌≡◌, ◌++◌, ◌∷◌, [], List, Option, None, Some, IfOk, string_bytes};
+ghost use Rattle.std.specs.Prelude.{◌≡◌, ◌++◌, ◌∷◌, [], List, Option, None, Some};
 ghost use Rattle.std.specs.Option.{option_to_list};
 ghost use Rattle.pyx_core.specs.declared.begun.Begun.TheVariants as begun_of;
 ghost use Rattle.pyx_core.specs.declared.event.Event.TheVariants as event;
@@ -15,7 +15,7 @@ use std::collections::VecDeque;
 use std::mem;
 
 /// An event that the next line may continue.
-#[derive(Debug, Drop)]
+#[derive(Drop)]
 pub enum Begun {
     Nothing,
     Element {
@@ -23,20 +23,15 @@ pub enum Begun {
         name: Text,
         attrs: AttrList,
     },
-    /// The characters of one line.
+    /// The characters of one line, or of several that were joined.
     Text {
         line: u64,
         text: Text,
     },
-    /// The characters of several lines.
-    Joined {
-        line: u64,
-        text: String,
-    },
 }
 
 /// The events of the lines that were read.
-#[derive(Debug, Drop)]
+#[derive(Drop)]
 pub struct Events {
     /// The event that may still be continued.
     pub begun: Begun,
@@ -60,10 +55,6 @@ fn complete(waiting: &mut VecDeque<Located>, begun: Begun) -> Result<(), AllocEr
         Begun::Nothing => Ok(()),
         Begun::Element { line, name, attrs } => put(waiting, line, Event::Start { name, attrs }),
         Begun::Text { line, text } => put(waiting, line, Event::Chars { text }),
-        Begun::Joined { line, text } => {
-            let text = Text::from(text);
-            put(waiting, line, Event::Chars { text })
-        }
     }
 }
 
@@ -77,15 +68,6 @@ fn begin_text(line: u64, text: Text) -> Begun
     Begun::Text { line, text }
 }
 
-/// The characters of two lines.
-fn joined(alloc: Global, text: &str, more: &str) -> Result<String, AllocError>
-    ensures { IfOk result (λ joined. string_bytes joined ≡ text.now ++ more.now) }
-{
-    let mut joined = String::from_str(alloc, text)?;
-    joined.push_str(more)?;
-    Ok(joined)
-}
-
 impl Events {
     pub fn new(alloc: Global) -> Events
         ensures { Collected result [] [] None }
@@ -96,13 +78,21 @@ impl Events {
         }
     }
 
+    /// Begins another event, or none, which completes the begun one.
+    fn begin(&mut self, next: Begun) -> Result<(), AllocError>
+        ensures { (taken done : List Located) (begun : Option Located) → Collected self.old taken done begun →
+            Goes self.new taken done (option_to_list begun) (shown next) result }
+    {
+        let begun = mem::replace(&mut self.begun, next);
+        complete(&mut self.waiting, begun)
+    }
+
     /// Completes the begun event.
     pub fn complete(&mut self) -> Result<(), AllocError>
         ensures { (taken done : List Located) (begun : Option Located) → Collected self.old taken done begun →
             Goes self.new taken done (option_to_list begun) None result }
     {
-        let begun = mem::replace(&mut self.begun, Begun::Nothing);
-        complete(&mut self.waiting, begun)
+        self.begin(Begun::Nothing)
     }
 
     /// Begins an element, which completes the begun event.
@@ -110,10 +100,8 @@ impl Events {
         ensures { (taken done : List Located) (begun : Option Located) → Collected self.old taken done begun →
             Goes self.new taken done (option_to_list begun) (Some (located line (event.Start name []))) result }
     {
-        self.complete()?;
         let attrs = AttrList::new(alloc);
-        self.begun = Begun::Element { line, name, attrs };
-        Ok(())
+        self.begin(Begun::Element { line, name, attrs })
     }
 
     /// Puts an attribute to the element that is begun.
@@ -121,44 +109,22 @@ impl Events {
         ensures { (taken done : List Located) (begun : Option Located) → Collected self.old taken done begun →
             Goes self.new taken done [] (with_attr attr begun) result }
     {
-        if let Begun::Element { attrs, .. } = &mut self.begun {
-            attrs.push(attr)?;
+        match &mut self.begun {
+            Begun::Element { attrs, .. } => attrs.push(attr),
+            _ => Ok(()),
         }
-        Ok(())
     }
 
     /// Takes characters: they go on with those that are begun, or complete another event and begin.
     ///
     /// The characters of one line are not copied.
-    pub fn text(&mut self, alloc: Global, line: u64, text: Text) -> Result<(), AllocError>
+    pub fn text(&mut self, line: u64, text: Text) -> Result<(), AllocError>
         ensures { (taken done : List Located) (begun : Option Located) → Collected self.old taken done begun →
             Goes self.new taken done (but_text begun) (with_text line text begun) result }
     {
-        match mem::replace(&mut self.begun, Begun::Nothing) {
-            Begun::Text {
-                line: first,
-                text: begun,
-            } => {
-                let text = joined(alloc, begun.as_str(), text.as_str())?;
-                self.begun = Begun::Joined { line: first, text };
-                Ok(())
-            }
-            Begun::Joined {
-                line: first,
-                text: mut joined,
-            } => {
-                joined.push_str(text.as_str())?;
-                self.begun = Begun::Joined {
-                    line: first,
-                    text: joined,
-                };
-                Ok(())
-            }
-            begun => {
-                complete(&mut self.waiting, begun)?;
-                self.begun = begin_text(line, text);
-                Ok(())
-            }
+        match &mut self.begun {
+            Begun::Text { text: begun, .. } => begun.push_str(text.as_str()),
+            _ => self.begin(begin_text(line, text)),
         }
     }
 

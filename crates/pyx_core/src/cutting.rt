@@ -16,7 +16,7 @@ use crate::{Mode, PyxFault, PyxKind};
 use std::alloc::{AllocError, Global};
 
 /// A text that comes in pieces, cut into its lines.
-#[derive(Debug, Drop)]
+#[derive(Drop)]
 pub struct Cutting {
     /// What came after the last line end.
     pub half: Vec<u8>,

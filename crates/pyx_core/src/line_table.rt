@@ -14,7 +14,7 @@ use sch_base::{Text, is_ncname, is_xml_char, split_qname};
 use std::alloc::{AllocError, Global};
 
 /// A good line by itself, with its escapes undone.
-#[derive(Debug, Drop)]
+#[derive(Drop)]
 pub enum Line {
     /// An empty line, or one that begins with `D`, `N` or `U`.
     Skipped,

@@ -5,8 +5,8 @@ ghost use Rattle.std.specs.List.{list_all};
 ghost use Rattle.pyx_core.specs.inner.Plain.{is_plain, is_literal, is_plain_start, is_plain_part, is_plain_name};
 
 /// Whether the byte is a character of ASCII from the space on.
-fn is_plain(b: u8) -> bool
-    ensures { result ≡ is_plain b }
+fn is_plain(b: &u8) -> bool
+    ensures { result ≡ is_plain b.now }
 {
     matches!(b, b' '..=b'~')
 }
@@ -15,7 +15,7 @@ fn is_plain(b: u8) -> bool
 pub fn is_plain_text(bytes: &[u8]) -> bool
     ensures { result ≡ list_all is_plain bytes.now }
 {
-    bytes.iter().all(|b| is_plain(*b))
+    bytes.iter().all(is_plain)
 }
 
 /// Whether the byte is literal: a character of ASCII from the space on that stands for itself, as each but the
@@ -50,15 +50,15 @@ pub fn literal_text(bytes: &[u8]) -> &str
 }
 
 /// Whether the byte is a letter of ASCII or the underscore.
-fn is_plain_start(b: u8) -> bool
-    ensures { result ≡ is_plain_start b }
+fn is_plain_start(b: &u8) -> bool
+    ensures { result ≡ is_plain_start b.now }
 {
     matches!(b, b'A'..=b'Z' | b'_' | b'a'..=b'z')
 }
 
 /// Whether the byte is a letter of ASCII, a digit, an underscore, a hyphen or a dot.
-fn is_plain_part(b: u8) -> bool
-    ensures { result ≡ is_plain_part b }
+fn is_plain_part(b: &u8) -> bool
+    ensures { result ≡ is_plain_part b.now }
 {
     is_plain_start(b) || matches!(b, b'-'..=b'.' | b'0'..=b'9')
 }
@@ -67,7 +67,7 @@ fn is_plain_part(b: u8) -> bool
 fn are_plain_parts(bytes: &[u8]) -> bool
     ensures { result ≡ list_all is_plain_part bytes.now }
 {
-    bytes.iter().all(|b| is_plain_part(*b))
+    bytes.iter().all(is_plain_part)
 }
 
 /// Whether the bytes are a name of such characters of ASCII, and so an NCName (Namespaces in XML 1.0, section 3).
@@ -75,7 +75,7 @@ pub fn is_plain_name(bytes: &[u8]) -> bool
     ensures { result ≡ is_plain_name bytes.now }
 {
     match bytes.split_first() {
-        Some((first, rest)) => is_plain_start(*first) && are_plain_parts(rest),
+        Some((first, rest)) => is_plain_start(first) && are_plain_parts(rest),
         None => false,
     }
 }

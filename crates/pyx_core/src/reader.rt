@@ -21,7 +21,7 @@ use std::marker::Model;
 /// and after want of memory that.
 ///
 /// The time grows with the bytes and not with the pieces. A line that comes whole in one piece is judged in place.
-#[derive(Debug, Drop)]
+#[derive(Drop)]
 pub struct Reader {
     alloc: Global,
     cutting: Cutting,

@@ -49,6 +49,17 @@ fn take_all(alloc: Global, reader: &mut Reader) -> Result<LocatedList, AllocErro
     Ok(events)
 }
 
+/// Feeds the whole text to a new reader, and takes the events.
+fn front_of(alloc: Global, reader: &mut Reader, bytes: &[u8]) -> Result<Front, AllocError>
+    ensures fault { (mode : Mode) → Reads reader.old mode [] [] → IfOk result (λ front. front.fault ≡ fault_of mode bytes.now) }
+    ensures events { (mode : Mode) → Reads reader.old mode [] [] →
+        IfOk result (λ front. front.events ≡ events_before_fault mode bytes.now) }
+{
+    let fault = fault_of_whole(reader, bytes)?;
+    let events = take_all(alloc, reader)?;
+    Ok(Front { events, fault })
+}
+
 /// Reads a text as far as it has no fault.
 ///
 /// The time grows with the bytes.
@@ -57,9 +68,7 @@ pub fn read_front(alloc: Global, mode: Mode, bytes: &[u8]) -> Result<Front, Allo
     ensures events { IfOk result (λ front. front.events ≡ events_before_fault mode bytes.now) }
 {
     let mut reader = Reader::new(alloc, mode);
-    let fault = fault_of_whole(&mut reader, bytes)?;
-    let events = take_all(alloc, &mut reader)?;
-    Ok(Front { events, fault })
+    front_of(alloc, &mut reader, bytes)
 }
 
 /// Reads a text that has to be a document or a fragment.

@@ -22,7 +22,7 @@ use sch_base::{Text, is_whitespace};
 use std::alloc::{AllocError, Global};
 
 /// What is kept of the lines that were read.
-#[derive(Debug, Drop)]
+#[derive(Drop)]
 pub struct Standing {
     pub mode: Mode,
     /// The names of the open elements, the innermost last.
@@ -116,7 +116,7 @@ impl Standing {
         ensures { (mode : Mode) (taken : List Located) (before : List Line) → HasRead self.now mode taken before →
             result ≡ is_text (pending mode before) }
     {
-        matches!(self.events.begun, Begun::Text { .. } | Begun::Joined { .. })
+        matches!(self.events.begun, Begun::Text { .. })
     }
 
     fn at_top(&self) -> bool
@@ -257,7 +257,7 @@ impl Standing {
             }
             Line::Chars { text } => {
                 let kept = kept(alloc, is_outside, text);
-                self.events.text(alloc, number, kept)
+                self.events.text(number, kept)
             }
             Line::Pi { target, body } => self.events.whole(number, Event::Pi { target, body }),
             Line::Comment { text } => self.events.whole(number, Event::Comment { text }),

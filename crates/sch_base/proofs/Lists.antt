@@ -4,7 +4,7 @@
 -- std has the others: `and_parts`, `or_parts`, `or_right`, `and_right`, `lt-leb` and `cases_eq` (`lemmas.Bool`),
 -- `length-map`, `drop_all` and `get_or_default` (`lemmas.List`), `split_at`, `drop-cons` and `take-suc` (`Math.Seq`),
 -- `list_any-append` (`lemmas.List.Folds`), `flat_map-append` and `reverse_onto` (`lemmas.Grind`).
-use Rattle.std.proofs.Common.{◌≡◌, ℕ, suc, ◌+◌, ◌<◌, Bool, false, List, [], ◌∷◌, ◌++◌, length, take, drop, reverse, slice_index_or, refl, ap, sym, ◌∙◌, add-one, append-nil, append_assoc, arith}
+use Rattle.std.proofs.Common.{◌≡◌, ℕ, suc, ◌+◌, ◌<◌, Bool, true, false, List, [], ◌∷◌, ◌++◌, length, take, drop, reverse, slice_index_or, refl, ap, sym, ◌∙◌, add-one, append-nil, append_assoc, arith}
 use Rattle.std.specs.List.{flat_map, list_any, position_or_len}
 use Rattle.std.proofs.Math.Seq.{split_at, take-suc, drop-cons}
 use Rattle.std.proofs.lemmas.Grind.{common_steps, flat_map-append, reverse_onto}
@@ -13,6 +13,11 @@ use Rattle.std.proofs.lemmas.Grind.{common_steps, flat_map-append, reverse_onto}
 pub none_passes : {X : Type 0} (p : X → Bool) (xs : List X) → position_or_len p xs ≡ length xs → list_any p xs ≡ false
 none_passes p [] e = refl
 none_passes p (x ∷ xs) e = grind (arith, common_steps, none_passes p xs)
+
+-- where it is not past the end, one passes
+pub one_passes : {X : Type 0} (p : X → Bool) (xs : List X) → position_or_len p xs < length xs → list_any p xs ≡ true
+one_passes p [] less = absurd (omega arith)
+one_passes p (x ∷ xs) less = grind (arith, common_steps, one_passes p xs)
 
 -- the first item goes to the end
 pub reverse-cons : {X : Type 0} (x : X) (xs : List X) → reverse (x ∷ xs) ≡ reverse xs ++ x ∷ []

@@ -4,7 +4,7 @@ ghost use Rattle.std.specs.Prelude.{◌≡◌};
 ghost use Rattle.std.specs.List.{list_all};
 ghost use Rattle.std.specs.Str.{chars};
 ghost use Rattle.sch_base.specs.Characters.{is_name_char};
-ghost use Rattle.sch_base.specs.Names.{is_ncname, split_qname};
+ghost use Rattle.sch_base.specs.Names.{is_ncname, split_at_colon, split_qname};
 
 use crate::characters::{is_name_char, is_name_start};
 
@@ -12,7 +12,7 @@ use crate::characters::{is_name_char, is_name_start};
 fn are_name_chars(s: &str) -> bool
     ensures { result ≡ list_all is_name_char (chars s.now) }
 {
-    s.chars().all(|c| is_name_char(c))
+    s.chars().all(is_name_char)
 }
 
 /// Whether the text is an NCName, a name without a colon: Namespaces in XML 1.0, section 3.
@@ -26,20 +26,25 @@ pub fn is_ncname(s: &str) -> bool
     }
 }
 
+/// How a text with a colon is split, by what stands before its first colon and what is after it.
+fn split_at_colon(prefix: &str, local: &str) -> Option<(usize, usize)>
+    ensures { result ≡ split_at_colon prefix.now local.now }
+{
+    if is_ncname(prefix) && is_ncname(local) {
+        return Some((prefix.len(), prefix.len() + 1));
+    }
+    None
+}
+
 /// Splits a QName, an NCName or two joined by one colon: Namespaces in XML 1.0, section 4.
 ///
 /// The answer is the length of the prefix and the place where the local part begins, both in bytes: `(0, 0)` for
 /// `a`, `(1, 2)` for `p:a`. It is None exactly where the text is no QName.
-#[tactic(auto, using(crate::proofs::Lists::none_passes))]
 pub fn split_qname(s: &str) -> Option<(usize, usize)>
     ensures { result ≡ split_qname s.now }
 {
     match s.split_once(':') {
-        Some((prefix, local)) if is_ncname(prefix) && is_ncname(local) => Some((
-            prefix.len(),
-            prefix.len() + 1,
-        )),
-        None if is_ncname(s) => Some((0, 0)),
-        _ => None,
+        Some((prefix, local)) => split_at_colon(prefix, local),
+        None => is_ncname(s).then_some((0, 0)),
     }
 }

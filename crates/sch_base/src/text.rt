@@ -1,6 +1,6 @@
 //! Texts: strings that contracts see as their UTF-8 bytes.
 
-ghost use Rattle.std.specs.Prelude.{◌≡◌, IfOk};
+ghost use Rattle.std.specs.Prelude.{◌≡◌, ◌++◌, IfOk, OnOk, OnErr};
 
 use std::alloc::{AllocError, Global};
 use std::marker::Model;
@@ -30,6 +30,14 @@ impl Text {
     {
         let inner = String::from_str(alloc, s)?;
         Ok(Text { inner })
+    }
+
+    /// Puts characters at the end; without memory the text stays as it was.
+    pub fn push_str(&mut self, more: &str) -> Result<(), AllocError>
+        ensures pushed { OnOk result (self.new ≡ self.old ++ more.now) }
+        ensures unchanged { OnErr result (self.new ≡ self.old) }
+    {
+        self.inner.push_str(more)
     }
 
     /// The text itself, lent.

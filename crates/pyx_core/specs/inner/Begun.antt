@@ -1,7 +1,7 @@
 -- What the events that are kept tell of the lines that were read.
-use Rattle.std.specs.Prelude.{◌≡◌, List, ◌++◌, Option, None, Some, Result, MatchResult, string_bytes}
+use Rattle.std.specs.Prelude.{◌≡◌, List, ◌++◌, Option, None, Some, Result, MatchResult}
 use Rattle.pyx_core.specs.declared.begun.Begun.{Begun}
-use Rattle.pyx_core.specs.declared.begun.Begun.TheVariants.{Nothing, Element, Text, Joined}
+use Rattle.pyx_core.specs.declared.begun.Begun.TheVariants.{Nothing, Element, Text}
 use Rattle.pyx_core.specs.declared.begun.Events.{Events}
 use Rattle.pyx_core.specs.declared.event.Event.TheVariants as event
 use Rattle.pyx_core.specs.declared.event.Located.{Located}
@@ -13,7 +13,6 @@ abbrev pub shown : Begun → Option Located
 shown Nothing = None
 shown (Element line name attrs) = Some (located line (event.Start name attrs))
 shown (Text line text) = Some (located line (event.Chars text))
-shown (Joined line text) = Some (located line (event.Chars (string_bytes text)))
 
 -- the items came after the old ones, or the list stayed as it was
 abbrev pub Puts : {T E : Type 0} → List Located → List Located → List Located → Result T E → Type 0
