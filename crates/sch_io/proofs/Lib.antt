@@ -1,4 +1,5 @@
 pub mod Counting
 pub mod Fronts
 pub mod Places
+pub mod Rest
 pub mod Writes

@@ -8,7 +8,7 @@ use std::marker::Model;
 
 /// How many calls were made, and the numbers of those that fail, the first call being 1. Calls after number 2^64 - 1
 /// have no number and never fail. To ask costs a look at each number given.
-#[derive(Debug, Drop)]
+#[derive(Drop)]
 pub(crate) struct Calls {
     made: u64,
     failing: Vec<u64>,

@@ -3,8 +3,6 @@
 ghost use Rattle.std.specs.Prelude.{◌≡◌, ℕ, Bool, false, true, List, [], ◌∷◌, ◌++◌};
 ghost use Rattle.std.specs.Borrow.{ftrue};
 
-use std::fmt;
-use std::fmt::{Debug, Formatter, Write};
 use std::marker::{Model, PhantomData};
 
 /// The names that were opened, and whether the end of the open file was told. It has no bytes, and its calls do nothing
@@ -39,10 +37,4 @@ impl History {
     pub(crate) fn end(&mut self)
         ensures { (self.new.opened ≡ self.old.opened) × (self.new.ended ≡ true) }
     {}
-}
-
-impl Debug for History {
-    fn fmt<W: Write>(&self, f: &mut Formatter<W>) -> fmt::Result {
-        f.write_str("History")
-    }
 }

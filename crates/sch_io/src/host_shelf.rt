@@ -5,6 +5,7 @@ ghost use Rattle.std.specs.Io.{ReadsAtMost};
 ghost use Rattle.std.specs.Io.KnownBytes.{ReadConsumes};
 ghost use Rattle.sch_io.specs.inner.Sources.{rest_of_source};
 
+use crate::counts::one_more;
 use crate::error::{Failed, OpenError};
 use crate::history::History;
 use crate::shelf::Shelf;
@@ -67,33 +68,26 @@ impl<'a, R: Files + Input> HostShelf<'a, R> {
 impl<'a, R: Files + Input> Shelf for HostShelf<'a, R> {
     ghost state = { λ s. record { files = None; rest = s.rest; taken = s.taken; ended = s.ended; opened = s.opened; faults = s.faults; misses = s.misses } };
 
-    #[tactic(auto, unfolding(crate::specs::Counts::one_more))]
     fn open(&mut self, name: &str) -> Result<(), OpenError> {
         self.history.open(name.as_bytes());
         self.taken = 0;
         self.source = Source::Nothing;
-        if name == STANDARD_INPUT {
-            self.source = Source::StandardInput(self.rt.reader());
-            return Ok(());
-        }
-        match fs::open(self.rt, name) {
-            Ok(file) => {
-                self.source = Source::File(file);
+        match open_source(self.rt, name) {
+            Ok(source) => {
+                self.source = source;
                 Ok(())
             }
-            Err(error) => {
-                if error.kind() == ErrorKind::NotFound {
-                    self.misses = self.misses.saturating_add(1);
-                    Err(OpenError::Missing)
-                } else {
-                    self.faults = self.faults.saturating_add(1);
-                    Err(OpenError::Failed)
-                }
+            Err(OpenError::Missing) => {
+                self.misses = one_more(self.misses);
+                Err(OpenError::Missing)
+            }
+            Err(OpenError::Failed) => {
+                self.faults = one_more(self.faults);
+                Err(OpenError::Failed)
             }
         }
     }
 
-    #[tactic(auto, unfolding(crate::specs::Counts::one_more))]
     fn read(&mut self, buf: &mut [u8]) -> Result<usize, Failed> {
         match read_source(&mut self.source, buf) {
             Ok(n) => {
@@ -104,10 +98,25 @@ impl<'a, R: Files + Input> Shelf for HostShelf<'a, R> {
                 Ok(n)
             }
             Err(_) => {
-                self.faults = self.faults.saturating_add(1);
+                self.faults = one_more(self.faults);
                 Err(Failed)
             }
         }
+    }
+}
+
+/// Opens the file of that path, or standard input under its name.
+fn open_source<R: Files + Input>(
+    rt: &R,
+    name: &str,
+) -> Result<Source<R::File, R::Reader>, OpenError> {
+    if name == STANDARD_INPUT {
+        return Ok(Source::StandardInput(rt.reader()));
+    }
+    match fs::open(rt, name) {
+        Ok(file) => Ok(Source::File(file)),
+        Err(error) if error.kind() == ErrorKind::NotFound => Err(OpenError::Missing),
+        Err(_) => Err(OpenError::Failed),
     }
 }
 

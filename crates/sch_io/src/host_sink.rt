@@ -2,6 +2,7 @@
 
 ghost use Rattle.std.specs.Prelude.{◌≡◌};
 
+use crate::counts::one_more;
 use crate::error::Failed;
 use crate::sink::Sink;
 use std::io::Write;
@@ -37,17 +38,16 @@ impl<W: Write> HostSink<W> {
 impl<W: Write> Sink for HostSink<W> {
     ghost log = { λ s. s };
 
-    #[tactic(auto, unfolding(crate::specs::Counts::one_more))]
     fn write(&mut self, piece: &[u8]) -> Result<usize, Failed> {
         match self.writer.write(piece) {
             Ok(n) => {
                 if n == 0 && !piece.is_empty() {
-                    self.faults = self.faults.saturating_add(1);
+                    self.faults = one_more(self.faults);
                 }
                 Ok(n)
             }
             Err(_) => {
-                self.faults = self.faults.saturating_add(1);
+                self.faults = one_more(self.faults);
                 Err(Failed)
             }
         }

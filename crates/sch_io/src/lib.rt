@@ -4,6 +4,7 @@
 
 mod bytes;
 mod calls;
+mod counts;
 mod error;
 mod history;
 mod host_shelf;

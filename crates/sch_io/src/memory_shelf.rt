@@ -12,6 +12,7 @@ ghost use Rattle.sch_io.specs.Calls.{fails_next, made_next};
 ghost use Rattle.sch_io.specs.inner.NamedFiles.{IsWithin, content_at, entry_of, rest_of, taken_of};
 
 use crate::calls::Calls;
+use crate::counts::one_more;
 use crate::error::{Failed, OpenError};
 use crate::history::History;
 use crate::shelf::Shelf;
@@ -19,14 +20,14 @@ use std::alloc::{AllocError, Global};
 use std::marker::Model;
 
 /// A file and its name.
-#[derive(Debug, Drop)]
+#[derive(Drop)]
 struct NamedFile {
     name: String,
     content: Vec<u8>,
 }
 
 /// The place of the open file and how many of its bytes were read.
-#[derive(Clone, Copy, Debug)]
+#[derive(Clone, Copy)]
 struct OpenFile {
     place: usize,
     at: usize,
@@ -36,7 +37,7 @@ struct OpenFile {
 ///
 /// It keeps the files newest first, and an old content of a name after the new one, so that `open` looks through
 /// all that were put.
-#[derive(Debug, Drop)]
+#[derive(Drop)]
 pub struct MemoryShelf {
     alloc: Global,
     files: Vec<NamedFile>,
@@ -102,7 +103,6 @@ impl Shelf for MemoryShelf {
     ghost state = { λ s. record { files = Some s.files; rest = Some s.rest; taken = s.taken; ended = s.ended; opened = s.opened; faults = s.faults; misses = s.misses } };
 
     /// Fails exactly at the calls given to `fail_at`.
-    #[tactic(auto, unfolding(crate::specs::Counts::one_more))]
     fn open(&mut self, name: &str) -> Result<(), OpenError>
         ensures opened { Opens (Some self.new.files) (Some self.new.rest) name.now result }
         ensures fresh { self.new.taken ≡ 0 }
@@ -117,7 +117,7 @@ impl Shelf for MemoryShelf {
         self.history.open(name.as_bytes());
         self.open_file = None;
         if self.calls.next() {
-            self.faults = self.faults.saturating_add(1);
+            self.faults = one_more(self.faults);
             return Err(OpenError::Failed);
         }
         match place_of(self.files.as_slice(), name) {
@@ -126,14 +126,13 @@ impl Shelf for MemoryShelf {
                 Ok(())
             }
             None => {
-                self.misses = self.misses.saturating_add(1);
+                self.misses = one_more(self.misses);
                 Err(OpenError::Missing)
             }
         }
     }
 
     /// Fails exactly at the calls given to `fail_at`; otherwise gives what is left, as far as `buf` goes.
-    #[tactic(auto, unfolding(crate::specs::Counts::one_more))]
     fn read(&mut self, buf: &mut [u8]) -> Result<usize, Failed>
         requires { 0 < length buf.old }
         ensures bound { ReadsAtMost result buf.new }
@@ -149,7 +148,7 @@ impl Shelf for MemoryShelf {
         ensures counted { self.new.calls ≡ made_next self.old.calls }
     {
         if self.calls.next() {
-            self.faults = self.faults.saturating_add(1);
+            self.faults = one_more(self.faults);
             return Err(Failed);
         }
         let n = read_open(self.files.as_slice(), &mut self.open_file, buf);
@@ -169,14 +168,17 @@ fn read_open(files: &[NamedFile], open_file: &mut Option<OpenFile>, buf: &mut [u
     ensures taken { taken_of open_file.new ≡ taken_of open_file.old + result }
     ensures still_within { IsWithin files.now open_file.new }
 {
-    let Some(OpenFile { place, at }) = *open_file else {
+    let Some(open) = *open_file else {
         return 0;
     };
-    let Some(file) = files.get(place) else {
+    let Some(file) = files.get(open.place) else {
         return 0;
     };
-    let n = copy_front(&file.content.as_slice()[at..], buf);
-    *open_file = Some(OpenFile { place, at: at + n });
+    let n = copy_front(&file.content.as_slice()[open.at..], buf);
+    *open_file = Some(OpenFile {
+        place: open.place,
+        at: open.at + n,
+    });
     n
 }
 

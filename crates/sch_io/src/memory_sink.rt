@@ -7,13 +7,14 @@ ghost use Rattle.sch_io.specs.Counts.{one_more};
 ghost use Rattle.sch_io.specs.Calls.{fails_next, made_next};
 
 use crate::calls::Calls;
+use crate::counts::one_more;
 use crate::error::Failed;
 use crate::sink::Sink;
 use std::alloc::{AllocError, Global};
 use std::marker::Model;
 
 /// A sink in memory with room for a number of bytes, of whose calls chosen ones fail.
-#[derive(Debug, Drop)]
+#[derive(Drop)]
 pub struct MemorySink {
     written: Vec<u8>,
     room: usize,
@@ -66,7 +67,6 @@ impl Sink for MemorySink {
     ghost log = { λ s. record { written = Some s.written; faults = s.faults } };
 
     /// Fails exactly at the calls given to `fail_at`; otherwise takes what still fits in the room.
-    #[tactic(auto, unfolding(crate::specs::Counts::one_more))]
     fn write(&mut self, piece: &[u8]) -> Result<usize, Failed>
         ensures bound { WritesAtMost result piece.now }
         ensures appended { WriteAppends (Some self.old.written) (Some self.new.written) result piece.now }
@@ -80,12 +80,12 @@ impl Sink for MemorySink {
         ensures counted { self.new.calls ≡ made_next self.old.calls }
     {
         if self.calls.next() {
-            self.faults = self.faults.saturating_add(1);
+            self.faults = one_more(self.faults);
             return Err(Failed);
         }
         let n = piece.len().min(self.room - self.written.len());
         if n == 0 && !piece.is_empty() {
-            self.faults = self.faults.saturating_add(1);
+            self.faults = one_more(self.faults);
         }
         self.written.extend_from_slice(&piece[..n]).unwrap();
         Ok(n)
