@@ -1,14 +1,23 @@
 -- Names spelled by the words of a table: they stay when words are added, and each stands once.
-use Rattle.std.proofs.Common.{◌≡◌, ℕ, ◌<◌, ◌≤◌, suc, zero, Bool, true, false, List, [], ◌∷◌, ◌++◌, map, length, get_or, slice_get, Some, refl, sym, ap, ap₂, ◌∙◌, inl, inr, ⊎_elim, arith, length-append}
+use Rattle.std.proofs.Common.{◌≡◌, ℕ, ◌<◌, ◌≤◌, suc, zero, Bool, true, false, List, [], ◌∷◌, ◌++◌, map, length, get_or, slice_get, None, Some, refl, sym, ap, ap₂, ◌∙◌, inl, inr, ⊎_elim, arith, length-append}
 use Rattle.std.specs.Prelude.{Result, Ok, Err, OnErr}
 use Rattle.std.specs.List.{list_any}
 use Rattle.indexmap.specs.IndexSet.{insert_key}
 use Rattle.doc_names.specs.declared.names.NameKey.{NameKey}
-use Rattle.doc_names.specs.Name.{Name}
+use Rattle.doc_names.specs.Name.{Name, no_name, numbered}
 use Rattle.doc_names.specs.inner.Keys.{spelled, KeyIsBelow, KeysAreBelow, Extends, KeyOf}
 use Rattle.doc_names.specs.Numbering.{EachOnce, Numbered}
 use Rattle.doc_names.proofs.NumberLemmas.{get-front}
-use Rattle.doc_names.proofs.NumberLemmas.{map-push, map-length}
+use Rattle.doc_names.proofs.NumberLemmas.{map-push, map-length, map-some, map-none}
+
+-- the name with a number is the one that its key spells; a number past the end has none
+pub numbered-some : (words : List (List ℕ)) (keys : List NameKey) (id : ℕ) (key : NameKey) → slice_get keys id ≡ Some key →
+    numbered (map (spelled words) keys) id ≡ spelled words key
+numbered-some words keys id key h = map-some (spelled words) keys id no_name key h
+
+pub numbered-none : (words : List (List ℕ)) (keys : List NameKey) (id : ℕ) → slice_get keys id ≡ None →
+    numbered (map (spelled words) keys) id ≡ no_name
+numbered-none words keys id h = map-none (spelled words) keys id no_name h
 
 pub extends-same : (before after : List (List ℕ)) → after ≡ before → Extends before after
 extends-same before after e = record { kept = λ i h. ap (λ ws. get_or ws i []) e; longer = omega (arith, ap length e) }

@@ -40,6 +40,18 @@ pub map-length : {A B : Type 0} (f : A → B) (xs : List A) → length (map f xs
 map-length f [] = refl
 map-length f (y ∷ xs) = ap suc (map-length f xs)
 
+-- what stands at a place of a list, each item of which was turned into another
+pub map-some : {A B : Type 0} (f : A → B) (xs : List A) (i : ℕ) (d : B) (x : A) → slice_get xs i ≡ Some x → get_or (map f xs) i d ≡ f x
+map-some f [] i d x h = absurd (cc)
+map-some f (y ∷ xs) zero d x h = let e : y ≡ x = (cc) in ap f e
+map-some f (y ∷ xs) (suc i) d x h = map-some f xs i d x h
+
+pub map-none : {A B : Type 0} (f : A → B) (xs : List A) (i : ℕ) (d : B) → slice_get xs i ≡ None → get_or (map f xs) i d ≡ d
+map-none f [] zero d h = refl
+map-none f [] (suc i) d h = refl
+map-none f (y ∷ xs) zero d h = absurd (cc)
+map-none f (y ∷ xs) (suc i) d h = map-none f xs i d h
+
 module _ {A B : Type 0} (test : A → Bool) (f : A → B) (b : B) (sound : (x : A) → test x ≡ true → f x ≡ b) (complete : (x : A) → f x ≡ b → test x ≡ true) where
   -- where the test passes somewhere, the item stands at the first such place
   pub found : (xs : List A) → list_any test xs ≡ true → slice_get (map f xs) (position_or_len test xs) ≡ Some b
