@@ -9,7 +9,7 @@ ghost use Rattle.doc_table.specs.inner.Labels.{LabelIsBelow, content_labelled, k
 ghost use Rattle.doc_table.specs.inner.Kept.{kept_link, linked};
 ghost use Rattle.doc_table.specs.inner.Parts.{IsSound, table_of};
 
-use crate::bare::{Bare, node_at};
+use crate::bare::Bare;
 use crate::ids::NodeId;
 use crate::limits::{MAX_DEPTH, MAX_LIVE_NODES, MAX_LIVE_TEXT_BYTES};
 use crate::new_node::AppendError;
@@ -45,8 +45,7 @@ impl Bare {
     {
         let depth = self.depth_under(parent);
         self.check_limits(parent, depth, label, text)?;
-        let number = self.add(parent, depth, label, text)?;
-        Ok(number)
+        self.add(parent, depth, label, text)
     }
 
     /// How many ancestors a node under this one has.
@@ -55,7 +54,7 @@ impl Bare {
         requires holder { holds_kids (kind_of (table_of self.now) parent) ≡ true }
         ensures { result ≡ length (above (table_of self.now) parent) }
     {
-        match node_at(self.nodes.as_slice(), parent) {
+        match self.node(parent) {
             Some(node) => node.depth + 1,
             None => 1,
         }
@@ -115,7 +114,7 @@ impl Bare {
         depth: u32,
         label: &Label,
         text: &str,
-    ) -> Result<NodeId, AllocError>
+    ) -> Result<NodeId, AppendError>
         requires sound { IsSound self.old }
         requires holder { holds_kids (kind_of (table_of self.old) parent) ≡ true }
         requires fits { FitsUnder (table_of self.old) parent (content_labelled self.old.names label.now text.now) }
@@ -129,12 +128,13 @@ impl Bare {
         ensures grew { IfOk result (λ n. Grew (table_of self.old) (table_of self.new) parent n (content_labelled self.old.names label.now text.now)) }
         ensures names { self.new.names ≡ self.old.names }
         ensures cap { self.new.pair_cap ≡ self.old.pair_cap }
+        ensures refused { IfErr result (Refuses (passed_limit (table_of self.old) parent (content_labelled self.old.names label.now text.now))) }
         ensures unchanged { OnErr result (self.new ≡ self.old) }
     {
         let is_attribute = label.is_attribute();
         let place = self.next_place(parent, is_attribute);
-        let content = kept_content(self.alloc, label, text)?;
         let number = NodeId::from_number(self.nodes.len() as u32);
+        let kept_text = Text::copy(self.alloc, text)?;
         link(&mut self.nodes, parent, number, is_attribute)?;
         self.nodes.push_reserved(Some(Node {
             parent: Some(parent),
@@ -142,7 +142,7 @@ impl Bare {
             place,
             kids: ItemList::new(self.alloc),
             attributes: ItemList::new(self.alloc),
-            content,
+            content: kept_content(self.alloc, label, kept_text),
         }));
         self.live += 1;
         self.text_bytes += text.len();
@@ -151,16 +151,16 @@ impl Bare {
 }
 
 /// What the tree keeps of a new node.
-fn kept_content(alloc: Global, label: &Label, text: &str) -> Result<NodeContent, AllocError>
-    ensures { IfOk result (λ content. content ≡ kept_labelled label.now text.now) }
+fn kept_content(alloc: Global, label: &Label, text: Text) -> NodeContent
+    ensures { result ≡ kept_labelled label.now text }
 {
-    Ok(match label {
+    match label {
         Label::Element(name) => NodeContent::Element(*name, ItemList::new(alloc)),
-        Label::Attribute(name) => NodeContent::Attribute(*name, Text::copy(alloc, text)?),
-        Label::Text => NodeContent::Text(Text::copy(alloc, text)?),
-        Label::Comment => NodeContent::Comment(Text::copy(alloc, text)?),
-        Label::Pi(name) => NodeContent::Pi(*name, Text::copy(alloc, text)?),
-    })
+        Label::Attribute(name) => NodeContent::Attribute(*name, text),
+        Label::Text => NodeContent::Text(text),
+        Label::Comment => NodeContent::Comment(text),
+        Label::Pi(name) => NodeContent::Pi(*name, text),
+    }
 }
 
 impl Node {

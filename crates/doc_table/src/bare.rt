@@ -101,11 +101,18 @@ impl Bare {
         NodeId::from_number(0)
     }
 
+    /// The node with a number, None where it was deleted or never made.
+    pub(crate) fn node(&self, n: NodeId) -> Option<&Node>
+        ensures { option_copied result ≡ slice_index_or self.now.nodes n None }
+    {
+        node_at(self.nodes.as_slice(), n)
+    }
+
     /// Whether a node with this number lives.
     pub fn contains(&self, n: NodeId) -> bool
         ensures { result ≡ is_live (table_of self.now) n }
     {
-        node_at(self.nodes.as_slice(), n).is_some()
+        self.node(n).is_some()
     }
 
     /// How many node numbers were ever made.
@@ -146,7 +153,7 @@ impl Bare {
     pub fn kind_of(&self, n: NodeId) -> Option<Kind>
         ensures { result ≡ kind_of (table_of self.now) n }
     {
-        Some(node_at(self.nodes.as_slice(), n)?.content.kind())
+        Some(self.node(n)?.content.kind())
     }
 
     /// The name of an element, an attribute or a processing instruction.
@@ -154,7 +161,7 @@ impl Bare {
         ensures name { option_map (numbered self.now.names) result ≡ name_of (table_of self.now) n }
         ensures known { IsSound self.now → IfSome result (λ id. id < length self.now.names) }
     {
-        node_at(self.nodes.as_slice(), n)?.content.name()
+        self.node(n)?.content.name()
     }
 
     /// The prefix of a name, empty where it has none.
@@ -182,14 +189,14 @@ impl Bare {
     pub fn parent(&self, n: NodeId) -> Option<NodeId>
         ensures { result ≡ parent_of (table_of self.now) n }
     {
-        node_at(self.nodes.as_slice(), n)?.parent
+        self.node(n)?.parent
     }
 
     /// The node's kids, in document order.
     pub fn kids(&self, n: NodeId) -> &[NodeId]
         ensures { result.now ≡ kids_of (table_of self.now) n }
     {
-        match node_at(self.nodes.as_slice(), n) {
+        match self.node(n) {
             Some(node) => node.kids.as_slice(),
             None => &[],
         }
@@ -199,7 +206,7 @@ impl Bare {
     pub fn attrs(&self, n: NodeId) -> &[NodeId]
         ensures { result.now ≡ attrs_of (table_of self.now) n }
     {
-        match node_at(self.nodes.as_slice(), n) {
+        match self.node(n) {
             Some(node) => node.attributes.as_slice(),
             None => &[],
         }
@@ -210,7 +217,7 @@ impl Bare {
     pub fn value(&self, n: NodeId) -> &str
         ensures { result.now ≡ value_of (table_of self.now) n }
     {
-        match node_at(self.nodes.as_slice(), n) {
+        match self.node(n) {
             Some(node) => node.content.value(),
             None => "",
         }
@@ -220,7 +227,7 @@ impl Bare {
     pub fn characters(&self, n: NodeId) -> &str
         ensures { result.now ≡ characters_in (content_of (table_of self.now) n) }
     {
-        match node_at(self.nodes.as_slice(), n) {
+        match self.node(n) {
             Some(node) => node.content.characters(),
             None => "",
         }
@@ -230,7 +237,7 @@ impl Bare {
     pub fn decls(&self, n: NodeId) -> &[Decl]
         ensures { result.now ≡ decls_of (table_of self.now) n }
     {
-        match node_at(self.nodes.as_slice(), n) {
+        match self.node(n) {
             Some(node) => node.content.decls(),
             None => &[],
         }
@@ -242,7 +249,7 @@ impl Bare {
         requires lives { is_live (table_of self.now) n ≡ true }
         ensures { result ≡ length (ancestors (table_of self.now) n) }
     {
-        match node_at(self.nodes.as_slice(), n) {
+        match self.node(n) {
             Some(node) => node.depth,
             None => 0,
         }
@@ -253,7 +260,7 @@ impl Bare {
         requires { IsSound self.now }
         ensures { IsPlace (table_of self.now) n result }
     {
-        match node_at(self.nodes.as_slice(), n) {
+        match self.node(n) {
             Some(node) => node.place,
             None => 0,
         }

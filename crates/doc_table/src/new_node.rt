@@ -8,7 +8,7 @@ use std::alloc::AllocError;
 use thiserror::Error;
 
 /// A node to be appended: its name where it has one, and its value, characters or data.
-#[derive(Clone, Copy, Debug)]
+#[derive(Clone, Copy)]
 pub enum NewNode<'a> {
     Element(NameId),
     Attribute(NameId, &'a str),

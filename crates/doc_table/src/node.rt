@@ -15,7 +15,7 @@ use sch_base::{ItemList, Text};
 use std::marker::Model;
 
 /// A namespace declaration, seen by contracts as the pair of its prefix and its namespace.
-#[derive(Debug, Drop)]
+#[derive(Drop)]
 pub struct Decl {
     pub prefix: Text,
     pub uri: Text,
@@ -46,7 +46,7 @@ impl Decl {
 }
 
 /// What a node holds by its kind.
-#[derive(Debug, Drop)]
+#[derive(Drop)]
 pub enum NodeContent {
     Root,
     Element(NameId, ItemList<Decl>),
@@ -57,7 +57,7 @@ pub enum NodeContent {
 }
 
 /// The kind of a node to be made, and its name where it has one.
-#[derive(Clone, Copy, Debug)]
+#[derive(Clone, Copy)]
 pub enum Label {
     Element(NameId),
     Attribute(NameId),
@@ -68,7 +68,7 @@ pub enum Label {
 
 /// A node: its parent, how many ancestors it has, its place among its parent's attributes or else kids, its own kids
 /// and attributes, and what it holds.
-#[derive(Debug, Drop)]
+#[derive(Drop)]
 pub struct Node {
     pub parent: Option<NodeId>,
     pub depth: u32,

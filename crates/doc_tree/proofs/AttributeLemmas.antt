@@ -1,6 +1,5 @@
 -- An attribute against which nothing speaks may come, or get its value.
-use Rattle.std.proofs.Common.{◌≡◌, ◌≢◌, ℕ, suc, zero, ◌+◌, ◌<◌, ◌≤◌, Bool, true, false, cond, not, ◌&&◌, List, [], ◌∷◌, ◌++◌, length, Option, None, Some, refl, sym, ap, ap₂, ◌∙◌, subst, true≢false, arith, inl, inr, ⊎_elim, eqb, eqb-true, eq-eqb, ltb-false, is_none, is_some, unwrap_or}
-use Rattle.std.specs.List.{list_any}
+use Rattle.std.proofs.Common.{◌≡◌, ℕ, suc, zero, ◌+◌, ◌≤◌, Bool, true, false, cond, not, ◌&&◌, List, [], ◌∷◌, ◌++◌, length, Option, None, Some, refl, sym, ap, ap₂, ◌∙◌, subst, true≢false, arith, ⊎_elim, eqb, eqb-true, eq-eqb, ltb-false, is_none, is_some, unwrap_or}
 use Rattle.std.specs.Option.{option_or}
 use Rattle.std.specs.Prelude.{nat_lt, slice_get, slice_index_or}
 use Rattle.std.specs.Str.{bytes_eq}
@@ -162,6 +161,14 @@ pub nothing-against-value : (tree : Contents) (n : ℕ) (prefix local value uri 
 nothing-against-value tree n prefix local value uri attribute first second is_first no_first is_uri is_found is_second no_second =
     ap₂ option_or (sym is_first ∙ no_first)
     (ap (λ o. value_refusal tree o value) (ap (λ u. attribute_named tree.nodes n u local) (sym is_uri) ∙ sym is_found) ∙ (sym is_second ∙ no_second))
+
+-- something speaks against the value
+pub against-value : (tree : Contents) (n : ℕ) (prefix local value uri : List ℕ) (attribute : Option ℕ) (first second : Option EditRefusal) (reason : EditRefusal) →
+    first ≡ name_refusal tree.nodes n prefix local → first ≡ None → uri ≡ namespace_or_none tree.nodes n prefix → attribute ≡ attribute_named tree.nodes n uri local →
+    second ≡ value_refusal tree attribute value → second ≡ Some reason → setting_refusal tree n prefix local value ≡ Some reason
+against-value tree n prefix local value uri attribute first second reason is_first no_first is_uri is_found is_second is_reason =
+    ap₂ option_or (sym is_first ∙ no_first)
+    (ap (λ o. value_refusal tree o value) (ap (λ u. attribute_named tree.nodes n u local) (sym is_uri) ∙ sym is_found) ∙ (sym is_second ∙ is_reason))
 
 -- an attribute that was found is one of the element's
 pub found-member : (T : Table) (n a : ℕ) (uri local : List ℕ) → attribute_named T n uri local ≡ Some a → mem a (attrs_of T n) ≡ true

@@ -1,17 +1,16 @@
 -- A piece for which nothing speaks against its place may come there, and the document stays one.
-use Rattle.std.proofs.Common.{◌≡◌, ◌≢◌, ℕ, suc, ◌+◌, ◌-◌, ◌<◌, ◌≤◌, Bool, true, false, cond, not, ◌&&◌, ◌||◌, List, [], ◌∷◌, ◌++◌, length, take, drop, Option, None, Some, refl, sym, ap, ap₂, ◌∙◌, subst, true≢false, arith, ◌==◌, eqb, eq-eqb, ltb, ltb-false}
+use Rattle.std.proofs.Common.{◌≡◌, ℕ, ◌+◌, ◌-◌, ◌≤◌, true, false, not, ◌&&◌, ◌||◌, List, [], ◌∷◌, ◌++◌, length, take, drop, Option, None, Some, refl, sym, ap, ap₂, ◌∙◌, subst, true≢false, arith, ◌==◌, eq-eqb, ltb-false}
 use Rattle.std.specs.List.{flat_map, list_any}
 use Rattle.std.specs.Option.{option_or}
 use Rattle.std.specs.Prelude.{nat_lt, slice_index_or}
-use Rattle.std.proofs.lemmas.Bool.{and_parts}
 use Rattle.doc_table.specs.declared.kind.Kind.{Kind}
-use Rattle.doc_table.specs.declared.kind.Kind.TheVariants.{Root, Element, Attribute, Text, Comment, Pi}
+use Rattle.doc_table.specs.declared.kind.Kind.TheVariants.{Root, Element}
 use Rattle.doc_table.specs.declared.limits.TheConstants.{MAX_DEPTH, MAX_LIVE_NODES, MAX_LIVE_TEXT_BYTES, MAX_NODE_NUMBERS}
 use Rattle.doc_table.specs.Growth.{ends_in_text}
 use Rattle.doc_table.specs.Kinds.{can_be_kid, holds_kids, is_document, is_element, is_text}
 use Rattle.doc_table.specs.Laws.{Ordered, WellFormed}
 use Rattle.doc_table.specs.Lists.{mem}
-use Rattle.doc_table.specs.Table.{Contents, Table, attrs_of, is_live, kids_of, kind_of}
+use Rattle.doc_table.specs.Table.{Contents, Table, attrs_of, kids_of, kind_of}
 use Rattle.doc_table.specs.Walks.{above, ancestors, below, order, text_bytes}
 use Rattle.doc_table.specs.inner.Sound.{Formed}
 use Rattle.doc_table.proofs.TreeLaws.{ordered}

@@ -6,3 +6,4 @@ pub mod RefusalLemmas
 pub mod InsertLemmas
 pub mod AttributeLemmas
 pub mod DeleteLemmas
+pub mod Outcomes

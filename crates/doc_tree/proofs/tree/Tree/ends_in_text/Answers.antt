@@ -1,5 +1,5 @@
 -- The last of the nodes by its place.
-use Rattle.std.proofs.Common.{◌≡◌, ◌-◌, ℕ, List, length, Some, sym, ap, ◌∙◌}
+use Rattle.std.proofs.Common.{sym, ap, ◌∙◌}
 use Rattle.std.specs.Option.{option_copied}
 use Rattle.doc_tree.proofs.RefusalLemmas.{last-text}
 use Rattle.doc_tree.proofs.tree.Tree.ends_in_text.Goals as goal

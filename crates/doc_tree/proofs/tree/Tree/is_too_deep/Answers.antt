@@ -1,5 +1,5 @@
 -- Each live number is below the count of numbers made, so that the loop comes to each.
-use Rattle.std.proofs.Common.{◌≡◌, ℕ, ◌<◌, Bool, true, false, length, sym, ap, ◌∙◌, subst, arith}
+use Rattle.std.proofs.Common.{◌≡◌, ℕ, true, false, length, sym, ap, ◌∙◌, subst, arith}
 use Rattle.std.proofs.lemmas.Bool.{and_parts}
 use Rattle.doc_table.specs.Kinds.{is_element}
 use Rattle.doc_table.specs.Table.{kind_of}

@@ -1,5 +1,5 @@
 -- The root stands outside the piece, and has no attributes.
-use Rattle.std.proofs.Common.{length, arith}
+use Rattle.std.proofs.Common.{arith}
 use Rattle.doc_tree.proofs.InsertLemmas.{nodes-brought}
 use Rattle.doc_tree.proofs.tree.Tree.nodes_brought.Goals as goal
 

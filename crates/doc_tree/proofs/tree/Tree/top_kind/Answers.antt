@@ -1,5 +1,5 @@
 -- A kid lives, and is of a kind that can be one.
-use Rattle.std.proofs.Common.{◌≡◌, true, ap, sym, ◌∙◌}
+use Rattle.std.proofs.Common.{ap, sym, ◌∙◌}
 use Rattle.doc_table.specs.Kinds.{can_be_kid}
 use Rattle.doc_table.specs.Lists.{mem}
 use Rattle.doc_table.specs.Table.{kids_of, kind_of}

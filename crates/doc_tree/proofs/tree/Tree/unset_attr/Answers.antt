@@ -1,8 +1,7 @@
 -- An attribute of the element may go, and the document stays one.
-use Rattle.std.proofs.Common.{◌≡◌, true, ap, ◌∙◌, sym, subst}
+use Rattle.std.proofs.Common.{ap, ◌∙◌, sym, subst}
 use Rattle.doc_table.specs.Kinds.{is_document}
 use Rattle.doc_table.specs.Table.{Contents}
-use Rattle.doc_table.specs.inner.Parts.{table_of}
 use Rattle.doc_table.specs.inner.Sound.{Formed}
 use Rattle.doc_edits.specs.Changes.{removed}
 use Rattle.doc_edits.specs.Fitting.{MayGo}
