@@ -1,3 +1,4 @@
+pub mod Chains
 pub mod NumberLemmas
 pub mod BindingLemmas
 pub mod TagLemmas

@@ -1,5 +1,5 @@
 -- A document that is read piece by piece: its events so far are in the tree.
-use Rattle.std.proofs.Common.{◌≡◌, ◌≤◌, ℕ, List, [], ◌∷◌, ◌++◌, length, Option, None, Some, Result, Ok, Err, refl, sym, ap, ◌∙◌, subst, append-nil, length-append, ◌<◌, arith}
+use Rattle.std.proofs.Common.{◌≡◌, ◌≤◌, ℕ, List, [], ◌∷◌, ◌++◌, ◌+◌, length, Option, None, Some, Result, Ok, Err, refl, sym, ap, ◌∙◌, subst, append-nil, length-append, ◌<◌, arith}
 use Rattle.std.proofs.lemmas.List.{append_assoc, append_cancel_left}
 use Rattle.pyx_core.specs.declared.event.Located.{Located}
 use Rattle.pyx_core.specs.declared.fault.FeedError.{FeedError}
@@ -7,26 +7,19 @@ use Rattle.pyx_core.specs.declared.fault.FeedError.TheVariants as feed_error
 use Rattle.pyx_core.specs.declared.fault.PyxFault.{PyxFault}
 use Rattle.pyx_core.specs.declared.mode.Mode.TheVariants.{Document}
 use Rattle.pyx_core.specs.Fronts.{IsFront}
-use Rattle.pyx_core.specs.Nesting.{EventsNest, start}
+use Rattle.pyx_core.specs.Nesting.{EventsNest, bare, start}
 use Rattle.pyx_core.specs.Reader.{ReaderState, Reads, Feeds, Finishes}
-use Rattle.pyx_core.specs.Reading.{completed, events_before_fault, events_unless, fault_of, CompletedEventsStay, FaultsStay}
+use Rattle.pyx_core.specs.Reading.{completed, events_before_fault, events_of, events_unless, fault_of, CompletedEventsStay, FaultsStay}
 use Rattle.doc_tree.specs.limits.TheConstants.{MAX_LIVE_TEXT_BYTES}
+use Rattle.doc_tree.specs.Laws.{HasWaysUp, WellFormed}
+use Rattle.doc_tree.specs.Table.{Contents}
 use Rattle.name_scopes.specs.declared.build.Loader.{Loader}
+use Rattle.name_scopes.specs.ScopedTree.{Scoped}
 use Rattle.name_scopes.specs.DocFaults.{Refuses, begin, doc_fault, line_fault}
 use Rattle.name_scopes.specs.inner.Build.{Loads}
-use Rattle.name_scopes.specs.inner.Load.{AreDue, Going, line_error}
+use Rattle.name_scopes.specs.inner.Load.{AreDue, Going, HasTakenAll, Stands, line_error}
 use Rattle.name_scopes.proofs.TextBound.{front-text}
-use Rattle.name_scopes.proofs.WholeLemmas.{doc-fault-is, front-nests, going-first, going-good}
-
--- all bytes but the rest were read, and the events that they complete were taken
-pub record Stands (bytes rest : List ℕ) (reader : ReaderState) (loader : Loader) : Type 0 where
-  pub fed : List ℕ
-  pub taken : List Located
-  pub later : List Located
-  pub parts : bytes ≡ fed ++ rest
-  pub reads : Reads reader Document fed taken
-  pub none : reader.waiting ≡ []
-  pub going : Going (events_before_fault Document bytes) taken later loader
+use Rattle.name_scopes.proofs.WholeLemmas.{doc-fault-is, front-nests, going-first, going-good, loaded}
 
 -- these events were taken, and those that wait come next
 pub record Waits (bytes : List ℕ) (taken waiting : List Located) (loader : Loader) : Type 0 where
@@ -147,16 +140,29 @@ ended-refused bytes reader next loader grown feed_error.Memory stands waits told
 ended-refused bytes reader next loader grown (feed_error.Fault fault) stands waits told going =
     refused-line bytes (stands.taken ++ next.waiting) waits.later grown fault going (sym told.1.events_are) told.0
 
-pub ended-good : (bytes : List ℕ) (next : ReaderState) (taken later : List Located) (grown : Loader) → Finishes next Document bytes taken (Ok tt) → Going (events_before_fault Document bytes) (taken ++ next.waiting) later grown →
-    doc_fault bytes ≡ None
-ended-good bytes next taken later grown told going =
-    let all : events_before_fault Document bytes ≡ taken ++ next.waiting = ap (events_unless Document bytes) told.good ∙ sym told.events in
-    doc-fault-is bytes None (going-good (events_before_fault Document bytes) later (taken ++ next.waiting) grown going all) told.good
+pub ended-all : (bytes : List ℕ) (next : ReaderState) (taken later : List Located) (grown : Loader) → Finishes next Document bytes taken (Ok tt) → Going (events_before_fault Document bytes) (taken ++ next.waiting) later grown →
+    HasTakenAll bytes grown
+ended-all bytes next taken later grown told going = record { good = told.good; taken = taken ++ next.waiting; later = later; all = told.events; going = going }
+
+-- a document whose events were all taken has no fault, and the tree is that of its events
+pub taken-good : (bytes : List ℕ) (loader : Loader) → HasTakenAll bytes loader → doc_fault bytes ≡ None
+taken-good bytes loader has =
+    let all : events_before_fault Document bytes ≡ has.taken = ap (events_unless Document bytes) has.good ∙ sym has.all in
+    doc-fault-is bytes None (going-good (events_before_fault Document bytes) has.later has.taken loader has.going all) has.good
+
+pub taken-loaded : (bytes : List ℕ) (loader : Loader) (tree : Contents) → EventsNest → tree ≡ loader.tree → HasWaysUp tree.nodes → WellFormed tree.nodes → HasTakenAll bytes loader → Scoped (bare (events_of Document bytes)) tree.nodes
+taken-loaded bytes loader tree laws is ways formed has =
+    subst (λ (t : Contents). Scoped (bare (events_of Document bytes)) t.nodes) (sym is)
+    (loaded bytes has.taken has.later loader laws has.good (subst (λ (t : Contents). HasWaysUp t.nodes) is ways) (subst (λ (t : Contents). WellFormed t.nodes) is formed) has.going has.all)
 
 -- fewer bytes than 2^64 - 1 were read
-pub few-fed : (bytes piece rest : List ℕ) (reader : ReaderState) (loader : Loader) → length bytes < 18446744073709551615 → (stands : Stands bytes (piece ++ rest) reader loader) → length (stands.fed ++ piece) < 18446744073709551615
+pub few-fed : (bytes piece rest : List ℕ) (reader : ReaderState) (loader : Loader) → length bytes ≤ MAX_LIVE_TEXT_BYTES → (stands : Stands bytes (piece ++ rest) reader loader) → length (stands.fed ++ piece) < 18446744073709551615
 few-fed bytes piece rest reader loader short stands =
-    omega (arith, short, ap length stands.parts, length-append stands.fed (piece ++ rest), length-append piece rest, length-append stands.fed piece)
+    fewer (length stands.fed) (length piece) (length rest) (length bytes) (length (stands.fed ++ piece)) short
+    (ap length stands.parts ∙ (length-append stands.fed (piece ++ rest) ∙ ap (λ (k : ℕ). length stands.fed + k) (length-append piece rest))) (length-append stands.fed piece)
+  where
+    fewer : (f p r n k : ℕ) → n ≤ MAX_LIVE_TEXT_BYTES → n ≡ f + (p + r) → k ≡ f + p → k < 18446744073709551615
+    fewer f p r n k short parts is = omega arith
 
 -- no byte is left
 pub stands-end : (bytes rest : List ℕ) (reader : ReaderState) (loader : Loader) → length rest ≡ 0 → Stands bytes rest reader loader → Stands bytes [] reader loader

@@ -20,11 +20,12 @@ use Rattle.doc_tree.specs.Laws.{HasWaysUp}
 use Rattle.doc_tree.specs.Scope.{Decl, scope_at}
 use Rattle.name_scopes.specs.declared.build.Loader.{Loader}
 use Rattle.name_scopes.specs.declared.fault.DocKind.TheVariants as kind
-use Rattle.name_scopes.specs.Declarations.{declarations, plain_attrs, is_bad_declaration, has_both_quotes}
-use Rattle.name_scopes.specs.DocFaults.{Standing, begin, has_pair, in_scope, outer_scopes, same_expanded, same_qname, tag_fault, moved}
+use Rattle.name_scopes.specs.Declarations.{declarations, is_bad_declaration, has_both_quotes}
+use Rattle.name_scopes.specs.DocFaults.{Standing, begin, has_pair, in_scope, outer_scopes, same_qname, tag_fault, moved}
 use Rattle.name_scopes.specs.Fragments.{IsFragment, event_nodes, is_too_deep, names_fault, own_fault, own_tag_fault, piece_refusal, plain_text, some_tag, tag_doubles, tag_lacks_prefix}
 use Rattle.name_scopes.specs.inner.Build.{AreOpen, IsLeaf}
 use Rattle.name_scopes.specs.inner.Piece.{IsAcceptable, IsPiece, NamesFit, PieceComes, PieceIsReady, PieceLoads, begins_element, is_start, scopes_after}
+use Rattle.name_scopes.proofs.Chains.{none-of-four}
 use Rattle.name_scopes.proofs.StepLemmas.{or-none}
 use Rattle.name_scopes.proofs.PieceTests.{tested-next}
 use Rattle.name_scopes.proofs.WholeLemmas.{closed-lines}
@@ -74,17 +75,16 @@ same-after place (event.Comment text) begun = ap (λ (b : Bool). record { opened
 scopes-around : (scopes : List (List Decl)) (around : List Decl) → in_scope (scopes ++ around ∷ []) ≡ in_scope scopes ++ around
 scopes-around scopes around = flat_map-append (λ (decls : List Decl). decls) scopes (around ∷ []) ∙ ap (λ (s : List Decl). in_scope scopes ++ s) (append-nil around)
 
+none-left : (lacks same doubles bad quoted : Bool) → (if same then Some kind.SameAttribute else if bad then Some kind.BadDeclaration else if quoted then Some kind.BothQuotes else None) ≡ None → lacks ≡ false → doubles ≡ false →
+    (if lacks then Some kind.NoPrefix else if same || doubles then Some kind.SameAttribute else if bad then Some kind.BadDeclaration else if quoted then Some kind.BothQuotes else None) ≡ None
+none-left true same doubles bad quoted own has apart = absurd (true≢false has)
+none-left false true doubles bad quoted own has apart = absurd (cc)
+none-left false false true bad quoted own has apart = absurd (true≢false apart)
+none-left false false false bad quoted own has apart = own
+
 -- what breaks no rule by itself, lacks no prefix and has no two attributes of one name has no fault
 tag-none : (scope : List Decl) (name : List ℕ) (attrs : List Attr) → own_tag_fault attrs ≡ None → tag_lacks_prefix scope name attrs ≡ false → tag_doubles scope name attrs ≡ false → tag_fault scope name attrs ≡ None
-tag-none scope name attrs own has apart =
-    ap (λ (b : Bool). if b then Some kind.NoPrefix else if has_pair same_qname attrs || has_pair (same_expanded scope) (plain_attrs attrs) then Some kind.SameAttribute else if list_any is_bad_declaration (declarations attrs) then Some kind.BadDeclaration else if list_any has_both_quotes (declarations attrs) then Some kind.BothQuotes else None) has
-    ∙ (ap (λ (b : Bool). if has_pair same_qname attrs || b then Some kind.SameAttribute else if list_any is_bad_declaration (declarations attrs) then Some kind.BadDeclaration else if list_any has_both_quotes (declarations attrs) then Some kind.BothQuotes else None) apart
-    ∙ by (has_pair same_qname attrs) (list_any is_bad_declaration (declarations attrs)) (list_any has_both_quotes (declarations attrs)) own)
-  where
-    by : (a b c : Bool) → (if a then Some kind.SameAttribute else if b then Some kind.BadDeclaration else if c then Some kind.BothQuotes else None) ≡ None →
-        (if a || false then Some kind.SameAttribute else if b then Some kind.BadDeclaration else if c then Some kind.BothQuotes else None) ≡ None
-    by true b c h = absurd (cc)
-    by false b c h = h
+tag-none scope name attrs own has apart = none-left (tag_lacks_prefix scope name attrs) (has_pair same_qname attrs) (tag_doubles scope name attrs) (list_any is_bad_declaration (declarations attrs)) (list_any has_both_quotes (declarations attrs)) own has apart
 
 names-fit : (scopes : List (List Decl)) (around : List Decl) (e : Event) (rest : List Event) → own_fault e ≡ None → some_tag tag_lacks_prefix (scopes ++ around ∷ []) (e ∷ rest) ≡ false →
     some_tag tag_doubles (scopes ++ around ∷ []) (e ∷ rest) ≡ false → NamesFit (in_scope scopes ++ around) e
@@ -310,34 +310,22 @@ piece-all around events i loader past fragment ways going =
     }
 
 -- no reason to refuse a fragment is left
-module _ (T : Table) (p : ℕ) (events : List Event) (none : piece_refusal T p events ≡ None) where
-  record NoReason : Type 0 where
-    pub lacks : some_tag tag_lacks_prefix (scope_at T p ∷ []) events ≡ false
-    pub doubles : some_tag tag_doubles (scope_at T p ∷ []) events ≡ false
-    pub few : nat_lt MAX_LIVE_NODES (length (order T) + sum_by event_nodes events) ≡ false
-    pub shallow : is_too_deep (length (above T p)) events ≡ false
-
-  no-reason : NoReason
-  no-reason = by (some_tag tag_lacks_prefix (scope_at T p ∷ []) events) (some_tag tag_doubles (scope_at T p ∷ []) events) (nat_lt MAX_LIVE_NODES (length (order T) + sum_by event_nodes events)) (is_too_deep (length (above T p)) events) refl refl refl refl none
-    where
-      by : (a b c d : Bool) → some_tag tag_lacks_prefix (scope_at T p ∷ []) events ≡ a → some_tag tag_doubles (scope_at T p ∷ []) events ≡ b → nat_lt MAX_LIVE_NODES (length (order T) + sum_by event_nodes events) ≡ c → is_too_deep (length (above T p)) events ≡ d →
-          (if a then Some refusal.NoPrefix else if b then Some refusal.SameAttribute else if c then Some refusal.TooManyNodes else if d then Some refusal.TooDeep else None) ≡ None → NoReason
-      by true b c d ea eb ec ed h = absurd (cc)
-      by false true c d ea eb ec ed h = absurd (cc)
-      by false false true d ea eb ec ed h = absurd (cc)
-      by false false false true ea eb ec ed h = absurd (cc)
-      by false false false false ea eb ec ed h = record { lacks = ea; doubles = eb; few = ec; shallow = ed }
-
-  pub acceptable : (rest : List ℕ) → order T ≡ 0 ∷ rest → IsFragment events → names_fault events ≡ None → sum_by plain_text events ≤ MAX_LIVE_TEXT_BYTES → IsAcceptable (scope_at T p) events
-  acceptable rest ordered fragment names little =
-      let some : length (order T) ≡ suc (length rest) = ap (λ (l : List ℕ). length l) ordered in
-      let few : length (order T) + sum_by event_nodes events ≤ MAX_LIVE_NODES = ltb-false MAX_LIVE_NODES (length (order T) + sum_by event_nodes events) no-reason.few in
-      record {
-        fragment = fragment;
-        names = names;
-        lacks = no-reason.lacks;
-        doubles = no-reason.doubles;
-        room = omega (arith, few, some);
-        shallow = shallow-higher 1 (length (above T p)) events (omega arith) no-reason.shallow;
-        little = little;
-      }
+pub acceptable : (T : Table) (p : ℕ) (events : List Event) → piece_refusal T p events ≡ None → (rest : List ℕ) → order T ≡ 0 ∷ rest → IsFragment events → names_fault events ≡ None → sum_by plain_text events ≤ MAX_LIVE_TEXT_BYTES →
+    IsAcceptable (scope_at T p) events
+acceptable T p events none rest ordered fragment names little =
+    let nodes : ℕ = length (order T) + sum_by event_nodes events in
+    let no_reason = none-of-four refusal.NoPrefix refusal.SameAttribute refusal.TooManyNodes refusal.TooDeep
+    (some_tag tag_lacks_prefix (scope_at T p ∷ []) events) (some_tag tag_doubles (scope_at T p ∷ []) events) (nat_lt MAX_LIVE_NODES nodes) (is_too_deep (length (above T p)) events) none in
+    record {
+      fragment = fragment;
+      names = names;
+      lacks = no_reason.first;
+      doubles = no_reason.second;
+      room = fewer (length rest) (sum_by event_nodes events) (length (order T)) (ap (λ (l : List ℕ). length l) ordered) (ltb-false MAX_LIVE_NODES nodes no_reason.third);
+      shallow = shallow-higher 1 (length (above T p)) events (omega arith) no_reason.fourth;
+      little = little;
+    }
+  where
+    -- the root is one of the nodes
+    fewer : (k m n : ℕ) → n ≡ suc k → n + m ≤ MAX_LIVE_NODES → 1 + m ≤ MAX_LIVE_NODES
+    fewer k m n is few = omega arith

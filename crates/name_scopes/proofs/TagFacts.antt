@@ -1,13 +1,12 @@
 -- What holds of a start tag whose names break no rule.
-use Rattle.std.proofs.Common.{◌≡◌, ◌≢◌, ℕ, ◌+◌, Bool, true, false, not, ◌&&◌, ◌||◌, List, [], ◌∷◌, ◌++◌, length, Option, None, Some, is_some, refl, sym, ap, ap₂, ◌∙◌, true≢false, arith}
+use Rattle.std.proofs.Common.{◌≡◌, ◌≢◌, ℕ, ◌+◌, ◌==◌, suc, Bool, true, false, not, ◌&&◌, ◌||◌, List, [], ◌∷◌, ◌++◌, length, take, drop, Option, None, Some, is_some, refl, sym, ap, ap₂, ◌∙◌, true≢false, arith}
 use Rattle.std.proofs.lemmas.List.Folds.{list_any-append}
-use Rattle.std.proofs.lemmas.Bool.{and_parts, or_parts}
+use Rattle.std.proofs.lemmas.Bool.{and_parts, or_parts, eqb-true}
 use Rattle.std.specs.Prelude.{if◌then◌else◌, is_none, unwrap_or}
-use Rattle.std.specs.List.{list_any, list_all, before_first, after_first}
+use Rattle.std.specs.List.{list_any, list_all, before_first, after_first, position_or_len}
 use Rattle.std.specs.Option.{option_to_list}
 use Rattle.std.specs.Str.{bytes_eq}
 use Rattle.std.proofs.lemmas.Slice.Eq.{bytes_eq-Decides}
-use Rattle.std.proofs.lemmas.Grind.{common_steps}
 use Rattle.std.proofs.lemmas.Str.{chars-nil}
 use Rattle.sch_base.specs.Names.{is_colon, is_ncname, is_ncname_of, split_at_colon}
 use Rattle.pyx_core.specs.declared.event.Attr.{Attr}
@@ -21,6 +20,7 @@ use Rattle.name_scopes.specs.Declarations.{is_empty, declaration_of, declaration
 use Rattle.name_scopes.specs.Scoping.{attribute_namespace, is_part, declares_twice, is_good_declaration, ElementInScope, AttributeInScope}
 use Rattle.name_scopes.specs.DocFaults.{tag_fault, lacks_prefix, has_pair, same_qname, same_expanded}
 use Rattle.name_scopes.specs.inner.Build.{element_name, attribute_name}
+use Rattle.name_scopes.proofs.Chains.{none-of-four}
 use Rattle.pyx_core.proofs.TextLemmas.{front_ascii, behind_front}
 
 -- a start tag that breaks no rule of names
@@ -34,26 +34,27 @@ pub record TagIsGood (scope : List Decl) (name : List ℕ) (attrs : List Attr) :
 
 pub tag-good : (scope : List Decl) (name : List ℕ) (attrs : List Attr) → tag_fault scope name attrs ≡ None → TagIsGood scope name attrs
 tag-good scope name attrs h =
-    by (is_none (namespace_in scope (prefix_part name)) || list_any (lacks_prefix scope) (plain_attrs attrs)) (has_pair same_qname attrs || has_pair (same_expanded scope) (plain_attrs attrs))
-    (list_any is_bad_declaration (declarations attrs)) (list_any has_both_quotes (declarations attrs)) refl refl refl refl h
-  where
-    by : (a b c d : Bool) → (is_none (namespace_in scope (prefix_part name)) || list_any (lacks_prefix scope) (plain_attrs attrs)) ≡ a → (has_pair same_qname attrs || has_pair (same_expanded scope) (plain_attrs attrs)) ≡ b
-        → list_any is_bad_declaration (declarations attrs) ≡ c → list_any has_both_quotes (declarations attrs) ≡ d
-        → (if a then Some NoPrefix else if b then Some SameAttribute else if c then Some BadDeclaration else if d then Some BothQuotes else None) ≡ None → TagIsGood scope name attrs
-    by true b c d ea eb ec ed h = absurd (cc)
-    by false true c d ea eb ec ed h = absurd (cc)
-    by false false true d ea eb ec ed h = absurd (cc)
-    by false false false true ea eb ec ed h = absurd (cc)
-    by false false false false ea eb ec ed h =
-        let names = or_parts (is_none (namespace_in scope (prefix_part name))) (list_any (lacks_prefix scope) (plain_attrs attrs)) ea in
-        let pairs = or_parts (has_pair same_qname attrs) (has_pair (same_expanded scope) (plain_attrs attrs)) eb in
-        record { known = names.0; all_known = names.1; qnames = pairs.0; expanded = pairs.1; may_be = ec; quoted = ed }
+    let parts = none-of-four NoPrefix SameAttribute BadDeclaration BothQuotes
+    (is_none (namespace_in scope (prefix_part name)) || list_any (lacks_prefix scope) (plain_attrs attrs)) (has_pair same_qname attrs || has_pair (same_expanded scope) (plain_attrs attrs))
+    (list_any is_bad_declaration (declarations attrs)) (list_any has_both_quotes (declarations attrs)) h in
+    let names = or_parts (is_none (namespace_in scope (prefix_part name))) (list_any (lacks_prefix scope) (plain_attrs attrs)) parts.first in
+    let pairs = or_parts (has_pair same_qname attrs) (has_pair (same_expanded scope) (plain_attrs attrs)) parts.second in
+    record { known = names.0; all_known = names.1; qnames = pairs.0; expanded = pairs.1; may_be = parts.third; quoted = parts.fourth }
 
 -- the parts of a QName
 
 at-colon : (q : List ℕ) → list_any is_colon q ≡ true → q ≡ before_first is_colon q ++ 58 ∷ after_first is_colon q
 at-colon [] h = absurd (true≢false (sym h))
-at-colon (b ∷ q) h = grind (arith, common_steps, at-colon q)
+at-colon (b ∷ q) h = by (b == 58) refl h (at-colon q)
+  where
+    by : (t : Bool) → (b == 58) ≡ t → (t || list_any is_colon q) ≡ true → (list_any is_colon q ≡ true → q ≡ before_first is_colon q ++ 58 ∷ after_first is_colon q)
+        → b ∷ q ≡ take (if not t then 1 + position_or_len is_colon q else 0) (b ∷ q) ++ 58 ∷ drop ((if not t then 1 + position_or_len is_colon q else 0) + 1) (b ∷ q)
+    by true e h rest = ap (λ (c : ℕ). c ∷ q) (eqb-true b 58 e)
+    by false e h rest =
+        let k : ℕ = position_or_len is_colon q in
+        let front : suc k ≡ 1 + k = omega arith in
+        let behind : suc (k + 1) ≡ 1 + k + 1 = omega arith in
+        ap (λ (l : List ℕ). b ∷ l) (rest h) ∙ ap₂ (λ (m n : ℕ). take m (b ∷ q) ++ 58 ∷ drop n (b ∷ q)) front behind
 
 pub record Parted (q : List ℕ) : Type 0 where
   pub qualified : ((is_empty (prefix_part q) || is_part (prefix_part q)) && is_part (local_part q)) ≡ true

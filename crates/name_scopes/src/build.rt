@@ -55,6 +55,13 @@ impl Loader {
         })
     }
 
+    /// The tree that was built.
+    pub(crate) fn into_tree(self) -> Tree
+        ensures { result ≡ self.tree }
+    {
+        self.tree
+    }
+
     /// Takes an event, or answers the first rule that it breaks.
     pub(crate) fn take(&mut self, event: &Event) -> Result<(), EventError>
         requires { IsReady self.old event.now }
@@ -317,5 +324,11 @@ fn append_attribute(
 pub(crate) fn count_plain(attrs: &[Attr]) -> usize
     ensures { result ≡ length (plain_attrs attrs.now) }
 {
-    attrs.iter().filter(|attr| is_plain(*attr)).count()
+    let mut count = 0usize;
+    for attr in attrs {
+        if is_plain(attr) {
+            count += 1;
+        }
+    }
+    count
 }

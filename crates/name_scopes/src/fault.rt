@@ -54,12 +54,11 @@ impl From<AllocError> for LoadError {
 }
 
 /// Why an event wasn't taken.
-#[derive(Clone, Copy, Debug, PartialEq, Eq, Error)]
+#[derive(Clone, Copy)]
 pub(crate) enum EventError {
     /// It breaks this rule.
-    #[error("{0:?}")]
     Kind(DocKind),
-    #[error("out of memory")]
+    /// There was no memory for it.
     Memory,
 }
 

@@ -4,13 +4,13 @@ ghost use Rattle.std.specs.Prelude.{◌≡◌, ◌≢◌, ◌≤◌, ◌<◌, �
 ghost use Rattle.pyx_core.specs.declared.event.Event.{Event};
 ghost use Rattle.pyx_core.specs.declared.event.Located.{Located};
 ghost use Rattle.pyx_core.specs.declared.mode.Mode.TheVariants.{Document};
-ghost use Rattle.pyx_core.specs.Nesting.{Place, bare};
+ghost use Rattle.pyx_core.specs.Nesting.{Place, bare, start};
 ghost use Rattle.pyx_core.specs.Reader.{Reads};
 ghost use Rattle.pyx_core.specs.Reading.{events_of};
 ghost use Rattle.name_scopes.specs.ScopedTree.{Scoped};
-ghost use Rattle.name_scopes.specs.DocFaults.{Refuses, Standing, doc_fault};
+ghost use Rattle.name_scopes.specs.DocFaults.{Refuses, Standing, begin, doc_fault};
 ghost use Rattle.name_scopes.specs.inner.Build.{Comes, IsReady, Loads};
-ghost use Rattle.name_scopes.specs.inner.Load.{AreDue, Enter, Going, TakesFound, line_error};
+ghost use Rattle.name_scopes.specs.inner.Load.{AreDue, Enter, Going, HasTakenAll, Stands, TakesFound, line_error};
 
 use crate::build::Loader;
 use crate::fault::{DocFault, DocKind, EventError, LoadError};
@@ -29,15 +29,43 @@ pub fn load_tree(alloc: Global, bytes: &[u8]) -> Result<Tree, LoadError>
     ensures refused { IfErr result (Refuses (doc_fault bytes.now)) }
 {
     events_nest();
+    let mut loader = Loader::new(alloc)?;
+    match read_document(alloc, &mut loader, bytes) {
+        Ok(()) => {
+            let tree = loader.into_tree();
+            tree.laws();
+            Ok(tree)
+        }
+        Err(error) => Err(error),
+    }
+}
+
+/// Reads a document and takes its events, up to its first fault, where none was taken yet.
+fn read_document(alloc: Global, loader: &mut Loader, bytes: &[u8]) -> Result<(), LoadError>
+    requires little { length bytes.now ≤ MAX_LIVE_TEXT_BYTES }
+    requires first { Loads [] start begin loader.old }
+    ensures taken { OnOk result (HasTakenAll bytes.now loader.new) }
+    ensures refused { IfErr result (Refuses (doc_fault bytes.now)) }
+{
+    events_nest();
+    let mut reader = Reader::new(alloc, Mode::Document);
+    take_document(loader, &mut reader, bytes)
+}
+
+/// Takes the events of a document, of which nothing was read yet, up to its first fault.
+fn take_document(loader: &mut Loader, reader: &mut Reader, bytes: &[u8]) -> Result<(), LoadError>
+    requires little { length bytes.now ≤ MAX_LIVE_TEXT_BYTES }
+    requires ready { Stands bytes.now bytes.now reader.old loader.old }
+    ensures taken { OnOk result (HasTakenAll bytes.now loader.new) }
+    ensures refused { IfErr result (Refuses (doc_fault bytes.now)) }
+{
     faults_stay();
     completed_events_stay();
-    let mut loader = Loader::new(alloc)?;
-    let mut reader = Reader::new(alloc, Mode::Document);
     let mut rest = bytes;
     while !rest.is_empty() {
         let (piece, later) = split_piece(rest);
         let fed = reader.feed(piece);
-        match take_waiting(&mut loader, &mut reader) {
+        match take_waiting(loader, reader) {
             Ok(()) => (),
             Err(error) => return Err(error),
         }
@@ -48,15 +76,12 @@ pub fn load_tree(alloc: Global, bytes: &[u8]) -> Result<Tree, LoadError>
         rest = later;
     }
     let ended = reader.finish();
-    match take_waiting(&mut loader, &mut reader) {
+    match take_waiting(loader, reader) {
         Ok(()) => (),
         Err(error) => return Err(error),
     }
     match ended {
-        Ok(()) => {
-            loader.tree.laws();
-            Ok(loader.tree)
-        }
+        Ok(()) => Ok(()),
         Err(error) => Err(line_error(error)),
     }
 }

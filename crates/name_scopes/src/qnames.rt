@@ -4,7 +4,7 @@ ghost use Rattle.std.specs.Prelude.{◌≡◌};
 ghost use Rattle.name_scopes.specs.QNames.{prefix_part, local_part};
 
 /// A QName in two parts.
-#[derive(Clone, Copy, Debug)]
+#[derive(Clone, Copy)]
 pub(crate) struct QName<'a> {
     /// Empty where there is no colon.
     pub(crate) prefix: &'a str,

@@ -16,7 +16,7 @@ const SLOTS: usize = 64;
 
 /// Nodes that came lately, each in the slot of its name: where a name comes again, its number is found by comparing it
 /// with that of the node, which costs less than asking the table of names.
-#[derive(Debug, Drop)]
+#[derive(Drop)]
 pub(crate) struct RecentNames {
     pub(crate) nodes: [NodeId; SLOTS],
 }

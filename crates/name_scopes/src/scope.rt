@@ -12,7 +12,7 @@ use std::marker::Model;
 
 /// A declaration: the number of its prefix among the words, its namespace, and the place of the declaration of this
 /// prefix that it shadows.
-#[derive(Debug, Drop)]
+#[derive(Drop)]
 pub(crate) struct Binding {
     pub(crate) number: usize,
     pub(crate) uri: Text,
@@ -60,11 +60,11 @@ impl Scope {
     pub(crate) fn declare(&mut self, prefix: &str, uri: &str) -> Result<(), AllocError>
         ensures { OnOk result (self.new ≡ (prefix.now, uri.now) ∷ self.old) }
     {
-        let uri = Text::copy(self.alloc, uri)?;
         let number = self.prefixes.number(self.alloc, prefix)?;
         extend(&mut self.latest, number)?;
         let shadowed = place_at(&self.latest, number);
         let place = self.bindings.len();
+        let uri = Text::copy(self.alloc, uri)?;
         self.bindings.push(Binding {
             number,
             uri,

@@ -89,7 +89,7 @@ fn load_element(alloc: Global, around: Scope, events: &[Event]) -> Result<Tree, 
         loader.put(event)?;
     }
     loader.tree.laws();
-    Ok(loader.tree)
+    Ok(loader.into_tree())
 }
 
 /// The tree of one text, comment or processing instruction.

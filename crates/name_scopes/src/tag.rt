@@ -275,5 +275,5 @@ fn has_both_quotes(uri: &str) -> bool
 fn holds_byte(bytes: &[u8], byte: u8) -> bool
     ensures { result ≡ list_any (λ b. b == byte) bytes.now }
 {
-    bytes.iter().any(|b| *b == byte)
+    memchr::memchr(byte, bytes).is_some()
 }

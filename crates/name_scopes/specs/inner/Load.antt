@@ -1,11 +1,13 @@
 -- What a loader has built of the events that it was given, or the first fault among them.
-use Rattle.std.specs.Prelude.{◌≡◌, ◌+◌, ◌≤◌, List, [], ◌∷◌, ◌++◌, None, Some, option_map, Result, Ok, Err, sum_by}
+use Rattle.std.specs.Prelude.{◌≡◌, ℕ, ◌+◌, ◌≤◌, List, [], ◌∷◌, ◌++◌, None, Some, option_map, Result, Ok, Err, sum_by}
 use Rattle.pyx_core.specs.declared.event.Event.{Event}
 use Rattle.pyx_core.specs.declared.event.Located.{Located}
 use Rattle.pyx_core.specs.declared.fault.FeedError.{FeedError}
 use Rattle.pyx_core.specs.declared.fault.FeedError.TheVariants as feed_error
 use Rattle.pyx_core.specs.declared.mode.Mode.TheVariants.{Document}
 use Rattle.pyx_core.specs.Nesting.{Nest, Place, after, bare, place_after, start}
+use Rattle.pyx_core.specs.Reader.{ReaderState, Reads}
+use Rattle.pyx_core.specs.Reading.{events_before_fault, events_of, fault_of}
 use Rattle.doc_tree.specs.limits.TheConstants.{MAX_LIVE_TEXT_BYTES}
 use Rattle.name_scopes.specs.declared.build.Loader.{Loader}
 use Rattle.name_scopes.specs.declared.fault.LoadError.{LoadError}
@@ -37,6 +39,24 @@ pub record AreDue (waiting : List Located) (loader : Loader) : Type 0 where
   pub taken : List Located
   pub later : List Located
   pub going : Going events taken (waiting ++ later) loader
+
+-- all bytes of a document but the rest were read, and the events that they complete were taken
+pub record Stands (bytes rest : List ℕ) (reader : ReaderState) (loader : Loader) : Type 0 where
+  pub fed : List ℕ
+  pub taken : List Located
+  pub later : List Located
+  pub parts : bytes ≡ fed ++ rest
+  pub reads : Reads reader Document fed taken
+  pub none : reader.waiting ≡ []
+  pub going : Going (events_before_fault Document bytes) taken later loader
+
+-- all events of a document were taken, whose bytes have no fault
+pub record HasTakenAll (bytes : List ℕ) (loader : Loader) : Type 0 where
+  pub good : fault_of Document bytes ≡ None
+  pub taken : List Located
+  pub later : List Located
+  pub all : taken ≡ events_of Document bytes
+  pub going : Going (events_before_fault Document bytes) taken later loader
 
 -- events were taken, so that these are in front, or the first fault of one was found; want of memory comes at any time
 abbrev pub Enter : List Located → List Located → List Located → Loader → Result (Unit {0}) LoadError → Type 0

@@ -26,4 +26,4 @@ loop-event-preserved c =
     (c.in_ok-put.ensures c.args.around (take i xs) going.place going.standing going.loads (piece-comes c.args.around xs (take i xs) (drop (i + 1) xs) c.event-item.result c.loop-event.loader going)))
 
 pub returns : goal.returns
-returns c = piece-all c.args.around c.args.events.now c.loop-event.event-index c.loop-event.loader c.loop-event-test.false c.requires.acceptable.fragment c.laws.ensures.ways_up c.loop-event.invariant
+returns c = rw c.into_tree.ensures (piece-all c.args.around c.args.events.now c.loop-event.event-index c.loop-event.loader c.loop-event-test.false c.requires.acceptable.fragment c.laws.ensures.ways_up c.loop-event.invariant)

@@ -9,6 +9,11 @@ invariant_of-self-in_err-extend c =
     (bound-grown c.self.inside.prefixes c.number.new.self c.args.prefix.now c.in_ok-number.number c.self.inside.bindings.items c.self.inside.latest.items c.extend.new.latest.items
     c.in_ok-number.ensures.numbered c.extend.ensures.same c.self.invariant).0
 
+pub invariant_of-self-in_err-uri : goal.invariant_of-self-in_err-uri
+invariant_of-self-in_err-uri c =
+    (bound-grown c.self.inside.prefixes c.number.new.self c.args.prefix.now c.in_ok-number.number c.self.inside.bindings.items c.self.inside.latest.items c.extend.new.latest.items
+    c.in_ok-number.ensures.numbered c.extend.ensures.same c.self.invariant).0
+
 pub invariant_of-self-in_err-push : goal.invariant_of-self-in_err-push
 invariant_of-self-in_err-push c =
     rw c.in_err-push.ensures.items
