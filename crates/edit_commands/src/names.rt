@@ -8,7 +8,7 @@ ghost use Rattle.name_scopes.specs.QNames.{local_part, prefix_part};
 use doc_tree::{NodeId, Tree};
 
 /// A QName in two parts.
-#[derive(Clone, Copy, Debug)]
+#[derive(Clone, Copy)]
 pub(crate) struct QName<'a> {
     /// Empty where there is no colon.
     pub(crate) prefix: &'a str,

@@ -5,7 +5,7 @@ use pyx_core::EventList;
 use sch_base::ItemList;
 
 /// A step of a path: from a node to one of its kids.
-#[derive(Clone, Copy, Debug, PartialEq, Eq)]
+#[derive(Clone, Copy, PartialEq, Eq)]
 pub struct PathStep {
     /// Element, text, comment or processing instruction.
     pub kind: Kind,
@@ -17,7 +17,7 @@ pub struct PathStep {
 pub type Path = ItemList<PathStep>;
 
 /// A command of a script.
-#[derive(Debug, Drop)]
+#[derive(Drop)]
 pub enum Command {
     /// The piece becomes kid `at` of the node, counted from 1.
     Insert {
@@ -48,7 +48,7 @@ pub enum Command {
 }
 
 /// The first word of a command line.
-#[derive(Clone, Copy, Debug, PartialEq, Eq)]
+#[derive(Clone, Copy, PartialEq, Eq)]
 pub enum Verb {
     Insert,
     Delete,
@@ -58,7 +58,7 @@ pub enum Verb {
 }
 
 /// What a command line says.
-#[derive(Debug, Drop)]
+#[derive(Drop)]
 pub enum Said {
     /// A command.
     Whole { command: Command },

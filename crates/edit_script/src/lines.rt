@@ -34,7 +34,7 @@ pub(crate) fn is_dot(line: &[u8]) -> bool
 }
 
 /// A line that isn't empty, its number, and what follows it.
-#[derive(Clone, Copy, Debug)]
+#[derive(Clone, Copy)]
 pub(crate) struct Numbered<'a> {
     pub(crate) number: u64,
     pub(crate) line: &'a [u8],

@@ -20,7 +20,7 @@ use pyx_core::{
 use std::alloc::{AllocError, Global};
 
 /// A fragment that ends.
-#[derive(Clone, Copy, Debug)]
+#[derive(Clone, Copy)]
 pub(crate) struct Payload<'a> {
     /// Its lines.
     pub(crate) text: &'a [u8],
@@ -53,7 +53,7 @@ fn find_payload(bytes: &[u8]) -> Option<Payload>
 }
 
 /// Lines, each with its line end, and how many there are.
-#[derive(Debug, Drop)]
+#[derive(Drop)]
 struct WholeLines {
     text: Vec<u8>,
     count: u64,
@@ -146,7 +146,7 @@ fn read_piece(alloc: Global, number: u64, text: &[u8], count: u64) -> Result<Eve
 }
 
 /// An insert's piece, and where the script goes on.
-#[derive(Debug, Drop)]
+#[derive(Drop)]
 pub(crate) struct Insertion<'a> {
     pub(crate) piece: EventList,
     /// The number of the line behind the one that ends the fragment.

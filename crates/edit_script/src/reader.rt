@@ -19,7 +19,7 @@ use std::marker::Model;
 ///
 /// The time of all calls together grows with the bytes, asking again after a fault apart: the line with the fault, or the
 /// insert whose fragment has it, is then read again.
-#[derive(Debug, Drop)]
+#[derive(Drop)]
 pub struct ScriptReader<'a> {
     alloc: Global,
     /// The number of the first line that is left, counted from 1.

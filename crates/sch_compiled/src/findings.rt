@@ -13,7 +13,7 @@ use std::marker::Model;
 use xp_values::EvalFault;
 
 /// An assert that is false at a node, or a report that is true there.
-#[derive(Debug, Drop)]
+#[derive(Drop)]
 pub struct Finding {
     /// Which assertion of the rule, counted from 0.
     pub assertion: u32,
@@ -29,7 +29,7 @@ pub type TextList = ItemList<Text>;
 pub type FindingList = ItemList<Finding>;
 
 /// What a pattern says of a node (ISO/IEC 19757-3, clause 6): the first of its rules that the node matches fires alone.
-#[derive(Debug, Drop)]
+#[derive(Drop)]
 pub enum Outcome {
     /// No rule of the pattern matches the node.
     NoRule,
@@ -40,7 +40,7 @@ pub enum Outcome {
 }
 
 /// A table of outcomes by pattern and node.
-#[derive(Debug, Drop)]
+#[derive(Drop)]
 pub struct Findings {
     patterns: u32,
     cells: Vec<Option<Outcome>>,

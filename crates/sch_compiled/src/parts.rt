@@ -4,14 +4,14 @@ use sch_base::{ItemList, Text};
 use xp_typed_tree::{Typed, TypedPattern};
 
 /// A variable of a rule, and the expression that gives its value.
-#[derive(Debug, Drop)]
+#[derive(Drop)]
 pub struct PlanLet {
     pub name: Text,
     pub expr: Typed,
 }
 
 /// A part of a message.
-#[derive(Debug, Drop)]
+#[derive(Drop)]
 pub enum PlanPart {
     /// Characters as they are written.
     Chars(Text),
@@ -22,14 +22,14 @@ pub enum PlanPart {
 }
 
 /// A message that goes with the findings of the assertions which name it.
-#[derive(Debug, Drop)]
+#[derive(Drop)]
 pub struct PlanDiagnostic {
     pub id: Text,
     pub message: PlanPartList,
 }
 
 /// An assert, or a report.
-#[derive(Debug, Drop)]
+#[derive(Drop)]
 pub struct PlanAssert {
     /// Whether it is a report, which finds where its test is true; an assert finds where its test is false.
     pub report: bool,
@@ -47,7 +47,7 @@ pub struct PlanAssert {
 /// A rule: the nodes that match its context, its lets in order, and its assertions in order.
 ///
 /// The slot of a let is the number of lets in force plus its place in the rule, counted from 0.
-#[derive(Debug, Drop)]
+#[derive(Drop)]
 pub struct PlanRule {
     pub id: Option<Text>,
     /// The context as the schema writes it.
@@ -60,7 +60,7 @@ pub struct PlanRule {
 }
 
 /// A prefix of the schema, and its namespace.
-#[derive(Debug, Drop)]
+#[derive(Drop)]
 pub struct PlanNs {
     pub prefix: Text,
     pub uri: Text,
@@ -69,7 +69,7 @@ pub struct PlanNs {
 /// A variable that is in force whatever rule fires: of the schema, of the phase, or of an active pattern.
 ///
 /// Its slot is its place among the lets in force, counted from 0.
-#[derive(Debug, Drop)]
+#[derive(Drop)]
 pub struct LetInForce {
     /// Which active pattern it belongs to, counted from 0; None for a let of the schema or the phase.
     pub pattern: Option<u32>,
@@ -78,7 +78,7 @@ pub struct LetInForce {
 }
 
 /// An active pattern: of its rules each node fires the first that matches.
-#[derive(Debug, Drop)]
+#[derive(Drop)]
 pub struct PlanPattern {
     pub id: Option<Text>,
     pub rules: PlanRuleList,

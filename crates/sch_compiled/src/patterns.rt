@@ -10,7 +10,7 @@ use std::alloc::{AllocError, Global};
 use std::marker::Model;
 
 /// A list of patterns, seen by contracts as that list.
-#[derive(Debug, Drop)]
+#[derive(Drop)]
 pub struct PlanPatternList {
     alloc: Global,
     patterns: Vec<PlanPattern>,

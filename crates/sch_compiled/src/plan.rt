@@ -13,7 +13,7 @@ use xp_typed_tree::Typed;
 
 /// A schema compiled for one phase (ISO/IEC 19757-3, clause 6): what the report says of it, its lets in force and its
 /// active patterns with their rules.
-#[derive(Debug, Drop)]
+#[derive(Drop)]
 pub struct Plan {
     pub title: Option<Text>,
     pub schema_version: Option<Text>,

@@ -4,7 +4,7 @@ use sch_base::Text;
 use sch_model::TextList;
 
 /// An attribute of an element that is to be written.
-#[derive(Clone, Copy, Debug)]
+#[derive(Clone, Copy)]
 pub(crate) enum Given<'a> {
     /// Its name and a value that is the same in each document.
     Fixed(&'a str, &'a str),

@@ -32,7 +32,7 @@ pub fn flat_size(flat: &FlatSchema) -> FlatSize
 }
 
 /// What a schema holds beside its patterns.
-#[derive(Clone, Copy, Debug)]
+#[derive(Clone, Copy)]
 pub struct SchemaParts<'a> {
     pub head: &'a Head,
     pub ns: &'a NsList,

@@ -5,7 +5,7 @@ use doc_tree::NodeId;
 use sch_base::{ItemList, Text};
 
 /// A rule: the nodes that match its context, its lets in order, and its assertions in order.
-#[derive(Debug, Drop)]
+#[derive(Drop)]
 pub struct FlatRule {
     pub node: NodeId,
     pub id: Option<Text>,
@@ -17,7 +17,7 @@ pub struct FlatRule {
 }
 
 /// A pattern: of its rules each node fires the first that matches.
-#[derive(Debug, Drop)]
+#[derive(Drop)]
 pub struct FlatPattern {
     pub node: NodeId,
     pub id: Option<Text>,
@@ -26,7 +26,7 @@ pub struct FlatPattern {
 }
 
 /// A schema in which nothing is abstract.
-#[derive(Debug, Drop)]
+#[derive(Drop)]
 pub struct FlatSchema {
     pub head: Head,
     pub ns: NsList,

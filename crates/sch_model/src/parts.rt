@@ -6,7 +6,7 @@ use doc_tree::NodeId;
 use sch_base::{ItemList, Text};
 
 /// What a schema says of itself.
-#[derive(Debug, Drop)]
+#[derive(Drop)]
 pub struct Head {
     pub node: NodeId,
     pub schema_version: Option<Text>,
@@ -15,7 +15,7 @@ pub struct Head {
 }
 
 /// A prefix for the expressions of the schema, and its namespace.
-#[derive(Debug, Drop)]
+#[derive(Drop)]
 pub struct Ns {
     pub node: NodeId,
     pub prefix: Text,
@@ -23,7 +23,7 @@ pub struct Ns {
 }
 
 /// A variable, and the expression that gives its value.
-#[derive(Debug, Drop)]
+#[derive(Drop)]
 pub struct LetDecl {
     pub node: NodeId,
     pub name: Text,
@@ -31,14 +31,14 @@ pub struct LetDecl {
 }
 
 /// A pattern that a phase makes active.
-#[derive(Debug, Drop)]
+#[derive(Drop)]
 pub struct Active {
     pub node: NodeId,
     pub pattern: Text,
 }
 
 /// A choice of patterns.
-#[derive(Debug, Drop)]
+#[derive(Drop)]
 pub struct Phase {
     pub node: NodeId,
     pub id: Text,
@@ -47,7 +47,7 @@ pub struct Phase {
 }
 
 /// A part of a message.
-#[derive(Debug, Drop)]
+#[derive(Drop)]
 pub enum Part {
     /// Characters as they are written.
     Chars(Text),
@@ -58,7 +58,7 @@ pub enum Part {
 }
 
 /// A message that assertions name.
-#[derive(Debug, Drop)]
+#[derive(Drop)]
 pub struct Diagnostic {
     pub node: NodeId,
     pub id: Text,
@@ -66,7 +66,7 @@ pub struct Diagnostic {
 }
 
 /// An assert, or a report.
-#[derive(Debug, Drop)]
+#[derive(Drop)]
 pub struct Assertion {
     pub node: NodeId,
     /// Whether it is a report, which finds where its test is true.

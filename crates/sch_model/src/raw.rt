@@ -9,7 +9,7 @@ use doc_tree::NodeId;
 use sch_base::{ItemList, Text};
 
 /// A parameter of an abstract pattern, and the text that stands for it.
-#[derive(Debug, Drop)]
+#[derive(Drop)]
 pub struct Param {
     pub node: NodeId,
     pub name: Text,
@@ -17,7 +17,7 @@ pub struct Param {
 }
 
 /// What a rule holds, in the order of the schema.
-#[derive(Debug, Drop)]
+#[derive(Drop)]
 pub enum RawItem {
     Let(LetDecl),
     Assertion(Assertion),
@@ -38,7 +38,7 @@ impl RawItem {
 }
 
 /// A rule; an abstract one has an id and no context.
-#[derive(Debug, Drop)]
+#[derive(Drop)]
 pub struct RawRule {
     pub node: NodeId,
     pub is_abstract: bool,
@@ -50,7 +50,7 @@ pub struct RawRule {
 }
 
 /// A pattern, which may be abstract, or an instance of an abstract one.
-#[derive(Debug, Drop)]
+#[derive(Drop)]
 pub struct RawPattern {
     pub node: NodeId,
     pub is_abstract: bool,
@@ -63,7 +63,7 @@ pub struct RawPattern {
 }
 
 /// A schema as it is read.
-#[derive(Debug, Drop)]
+#[derive(Drop)]
 pub struct RawSchema {
     pub head: Head,
     pub ns: NsList,

@@ -17,7 +17,7 @@ use std::alloc::{AllocError, Global};
 use std::marker::Model;
 
 /// The use of a name: of a parameter within its pattern, else within the schema, which stands as the root.
-#[derive(Clone, Copy, Debug)]
+#[derive(Clone, Copy)]
 pub(crate) struct Use<'a> {
     pub(crate) kind: Named,
     pub(crate) within: NodeId,
@@ -25,7 +25,7 @@ pub(crate) struct Use<'a> {
 }
 
 /// A name that is used, as it is kept.
-#[derive(Debug, Drop, PartialEq, Eq, Hash)]
+#[derive(Drop, PartialEq, Eq, Hash)]
 struct KeptKey {
     kind: Named,
     within: usize,

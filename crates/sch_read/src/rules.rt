@@ -16,7 +16,7 @@ use sch_base::is_ncname;
 use sch_rules::Word;
 
 /// A broken rule, and the name that is told.
-#[derive(Clone, Copy, Debug)]
+#[derive(Clone, Copy)]
 pub(crate) struct Found<'a> {
     pub(crate) rule: u32,
     pub(crate) name: &'a str,

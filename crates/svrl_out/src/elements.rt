@@ -12,7 +12,7 @@ use sch_base::Text;
 use sch_io::{Failed, Sink};
 
 /// An attribute of an element that is to be written.
-#[derive(Clone, Copy, Debug)]
+#[derive(Clone, Copy)]
 pub(crate) enum Given<'a> {
     /// Its name and a value that is the same in each report.
     Fixed(&'a str, &'a str),

@@ -4,7 +4,7 @@ ghost use Rattle.std.specs.Prelude.{◌≡◌};
 ghost use Rattle.unit_readers.specs.inner.Links.{earlier, link_at};
 
 /// A reader of a cell, and the number of the reader before it. Links are numbered from 1 on; 0 is none.
-#[derive(Clone, Copy, Debug)]
+#[derive(Clone, Copy)]
 pub(crate) struct Link {
     pub(crate) unit: u32,
     pub(crate) next: u32,

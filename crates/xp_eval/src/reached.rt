@@ -10,7 +10,7 @@ use std::slice;
 
 /// The nodes that a path has come to: the one at which it begins, of which no list is made, or those that an expression or
 /// a step has selected.
-#[derive(Debug, Drop)]
+#[derive(Drop)]
 pub(crate) enum Reached {
     One(NodeId),
     Set(NodeList),

@@ -4,7 +4,7 @@ use std::marker::Model;
 use xp_tree::{AxisName, Operator};
 
 /// A part of the text of an expression.
-#[derive(Debug, Drop)]
+#[derive(Drop)]
 pub struct Word<'a> {
     text: &'a str,
 }
@@ -46,7 +46,7 @@ pub enum NodeType {
 
 /// A token. A name before `(` is a node type or a function, one before `::` an axis, and where an operand has just
 /// ended, `*` and the names `and`, `or`, `div` and `mod` are operators.
-#[derive(Debug, Drop)]
+#[derive(Drop)]
 pub enum Token<'a> {
     OpenParen,
     CloseParen,
@@ -81,7 +81,7 @@ pub enum Token<'a> {
 }
 
 /// A token with the number of bytes before it.
-#[derive(Debug, Drop)]
+#[derive(Drop)]
 pub struct Placed<'a> {
     pub offset: u32,
     pub token: Token<'a>,

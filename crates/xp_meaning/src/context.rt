@@ -6,7 +6,7 @@ use xp_values::{EvalFault, Value};
 
 /// The context of an expression (XPath 1.0, section 1): the context node, its position, which counts from 1, and the
 /// context size. `current` is the node that `current()` gives (XSLT 1.0, section 12.4).
-#[derive(Clone, Copy, Debug)]
+#[derive(Clone, Copy)]
 pub struct Context {
     pub node: NodeId,
     pub position: u32,

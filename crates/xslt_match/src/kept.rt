@@ -17,7 +17,7 @@ use xp_values::EvalFault;
 const MOST_KEPT: usize = 65536;
 
 /// A step of a pattern at a node: the number of its path pattern, its number there, and the node.
-#[derive(Clone, Copy, Debug, PartialEq, Eq, Hash)]
+#[derive(Clone, Copy, PartialEq, Eq, Hash)]
 pub(crate) struct StepKey {
     pub(crate) path: usize,
     pub(crate) step: usize,
