@@ -1,6 +1,6 @@
 //! The names of the axes (XPath 1.0, section 2.2).
 
-ghost use Rattle.std.specs.Prelude.{◌≡◌};
+ghost use Rattle.std.specs.Prelude.{◌≡◌, map};
 ghost use Rattle.xp_tree.specs.AxisNames.{axis_names, axis_text};
 ghost use Rattle.xp_tree.specs.Named.{named};
 
@@ -32,21 +32,36 @@ impl AxisName {
     pub fn named(name: &str) -> Option<AxisName>
         ensures { result ≡ named axis_names name.now }
     {
-        match name {
-            "ancestor" => Some(AxisName::Ancestor),
-            "ancestor-or-self" => Some(AxisName::AncestorOrSelf),
-            "attribute" => Some(AxisName::Attribute),
-            "child" => Some(AxisName::Child),
-            "descendant" => Some(AxisName::Descendant),
-            "descendant-or-self" => Some(AxisName::DescendantOrSelf),
-            "following" => Some(AxisName::Following),
-            "following-sibling" => Some(AxisName::FollowingSibling),
-            "namespace" => Some(AxisName::Namespace),
-            "parent" => Some(AxisName::Parent),
-            "preceding" => Some(AxisName::Preceding),
-            "preceding-sibling" => Some(AxisName::PrecedingSibling),
-            "self" => Some(AxisName::SelfNode),
-            _ => None,
-        }
+        first_named(&AXES, name)
     }
+}
+
+/// The axes, in the order of their names.
+const AXES: [AxisName; 13] = [
+    AxisName::Ancestor,
+    AxisName::AncestorOrSelf,
+    AxisName::Attribute,
+    AxisName::Child,
+    AxisName::Descendant,
+    AxisName::DescendantOrSelf,
+    AxisName::Following,
+    AxisName::FollowingSibling,
+    AxisName::Namespace,
+    AxisName::Parent,
+    AxisName::Preceding,
+    AxisName::PrecedingSibling,
+    AxisName::SelfNode,
+];
+
+/// The first of some axes that has the name.
+fn first_named(mut axes: &[AxisName], name: &str) -> Option<AxisName>
+    ensures { result ≡ named (map (λ axis. (axis_text axis, axis)) axes.entry.now) name.now }
+{
+    while let [axis, rest @ ..] = axes {
+        if name == axis.as_str() {
+            return Some(*axis);
+        }
+        axes = rest;
+    }
+    None
 }

@@ -1,7 +1,7 @@
 //! The operators on values, each said once: trees hold them, evaluation applies them.
 
 /// The comparisons `=`, `!=`, `<`, `<=`, `>` and `>=` (XPath 1.0, section 3.4).
-#[derive(Clone, Copy, Debug, PartialEq, Eq)]
+#[derive(Clone, Copy)]
 pub enum Comparison {
     Eq,
     Ne,
@@ -12,7 +12,7 @@ pub enum Comparison {
 }
 
 /// The operators of arithmetic `+`, `-`, `*` and `mod` (XPath 1.0, section 3.5).
-#[derive(Clone, Copy, Debug, PartialEq, Eq)]
+#[derive(Clone, Copy)]
 pub enum ArithOp {
     Add,
     Sub,

@@ -46,7 +46,7 @@ pub struct PatternStep {
 }
 
 /// What stands before a step of a path pattern.
-#[derive(Clone, Copy, Debug, PartialEq, Eq)]
+#[derive(Clone, Copy, Debug)]
 pub enum Join {
     /// Nothing: the step begins the pattern.
     Nothing,

@@ -3,7 +3,7 @@
 use sch_base::Text;
 
 /// The levels of the operators that join operands to chains, loosest first (XPath 1.0, sections 3.3 to 3.5).
-#[derive(Clone, Copy, Debug, PartialEq, Eq)]
+#[derive(Clone, Copy, PartialEq, Eq)]
 pub enum Level {
     Or,
     And,
@@ -16,7 +16,7 @@ pub enum Level {
 }
 
 /// The operators between the operands of a chain (XPath 1.0, section 3.7).
-#[derive(Clone, Copy, Debug, PartialEq, Eq)]
+#[derive(Clone, Copy, Debug)]
 pub enum Operator {
     Or,
     And,
@@ -45,7 +45,7 @@ pub enum Operator {
 }
 
 /// The names of the thirteen axes (XPath 1.0, section 2.2).
-#[derive(Clone, Copy, Debug, PartialEq, Eq)]
+#[derive(Clone, Copy, Debug)]
 pub enum AxisName {
     Ancestor,
     AncestorOrSelf,

@@ -10,7 +10,7 @@ use xp_tree::{ArithOp, Comparison};
 ///
 /// It has the parts of the expression as it was written, without their places in the text.
 #[cycle(ast)]
-#[derive(Debug, Drop)]
+#[derive(Drop)]
 pub enum TypedExpr {
     /// Operands joined by `or`.
     Or(Vec<TypedExpr>),
@@ -63,7 +63,7 @@ pub enum TypedExpr {
 
 /// A later operand of comparisons, with the comparison before it.
 #[cycle(ast)]
-#[derive(Debug, Drop)]
+#[derive(Drop)]
 pub struct Compared {
     pub operator: Comparison,
     pub expr: TypedExpr,
@@ -71,7 +71,7 @@ pub struct Compared {
 
 /// A later operand of operators on numbers, with the operator before it.
 #[cycle(ast)]
-#[derive(Debug, Drop)]
+#[derive(Drop)]
 pub struct Combined {
     pub operator: ArithOp,
     pub expr: TypedExpr,
@@ -79,7 +79,7 @@ pub struct Combined {
 
 /// Where a path begins.
 #[cycle(ast)]
-#[derive(Debug, Drop)]
+#[derive(Drop)]
 pub enum TypedStart {
     Root,
     /// At the context node.
@@ -90,7 +90,7 @@ pub enum TypedStart {
 
 /// A step of a path or of a pattern (XPath 1.0, section 2.1).
 #[cycle(ast)]
-#[derive(Debug, Drop)]
+#[derive(Drop)]
 pub struct TypedStep {
     pub axis: Axis,
     pub test: NodeTest,

@@ -6,7 +6,7 @@ ghost use Rattle.xp_typed_tree.specs.WellTyped.{result_type, takes, wants_nodes,
 use crate::value_type::ValueType;
 
 /// The functions of XPath 1.0, section 4, and XSLT's `current`, each by its name; `id` is left out.
-#[derive(Clone, Copy, Debug, PartialEq, Eq)]
+#[derive(Clone, Copy)]
 pub enum Function {
     Last,
     Position,

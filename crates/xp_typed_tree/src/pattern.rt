@@ -8,14 +8,14 @@ use doc_tree::{Axis, NodeTest};
 use xp_tree::Join;
 
 /// A path pattern (XSLT 1.0, section 5.2): whether it begins at the root, and its steps from the left to the right.
-#[derive(Debug, Drop)]
+#[derive(Drop)]
 pub struct TypedPath {
     pub from_root: bool,
     pub steps: Vec<TypedPatternStep>,
 }
 
 /// A step of a path pattern, with what stands before it.
-#[derive(Debug, Drop)]
+#[derive(Drop)]
 pub struct TypedPatternStep {
     pub join: Join,
     pub step: TypedStep,

@@ -10,7 +10,7 @@ use crate::value_type::ValueType;
 use std::marker::Model;
 
 /// A well typed expression, seen by contracts as its tree.
-#[derive(Debug, Drop)]
+#[derive(Drop)]
 pub struct Typed {
     tree: TypedExpr,
 }
@@ -59,7 +59,7 @@ impl Typed {
 }
 
 /// A well typed match pattern, seen by contracts as the trees of its path patterns.
-#[derive(Debug, Drop)]
+#[derive(Drop)]
 pub struct TypedPattern {
     paths: Vec<TypedPath>,
 }

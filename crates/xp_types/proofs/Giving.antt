@@ -26,6 +26,11 @@ module _ {A B C D : Type 0} (m : Checked A) (f : A → Checked B) (s : C → A) 
   stops (errors.Fault x) g = record { given = after-fault m f x g.given }
   stops errors.Memory g = record { given = tt }
 
+-- an error says the same of whatever would have been given
+pub still : {A B C : Type 0} (m : Checked A) (s : B → A) (t : C → A) (e : CheckError) → ChecksAs m s (Err e) → ChecksAs m t (Err e)
+still m s t (errors.Fault x) g = record { given = g.given }
+still m s t errors.Memory g = record { given = tt }
+
 module _ {A B : Type 0} {m n : Checked A} {s : B → A} where
   pub gives-same : {r : Result B CheckError} → n ≡ m → ChecksAs m s r → ChecksAs n s r
   gives-same {r} e g = subst (λ k. ChecksAs k s r) (sym e) g

@@ -22,7 +22,7 @@ use Rattle.xp_tree.specs.declared.operators.ArithOp.{ArithOp}
 use Rattle.doc_tree.specs.declared.axes.Axis.{Axis}
 use Rattle.doc_tree.specs.declared.axes.NodeTest.{NodeTest}
 use Rattle.xp_typed_tree.proofs.TypedViewLemmas.{of-compared, of-combined, of-step as of-typed-step}
-use Rattle.std.specs.Prelude.{Vec}
+use Rattle.std.specs.Prelude.{Box, Vec}
 use Rattle.std.specs.declared.alloc.Global.{Global}
 use Rattle.xp_types.specs.declared.faults.CheckError.{CheckError}
 use Rattle.xp_types.specs.Scope.{Scope}
@@ -30,7 +30,7 @@ use Rattle.xp_types.specs.inner.ChainParts.{first_in, rest_in}
 use Rattle.xp_types.specs.inner.Checked.{Checked, after, ChecksAs}
 use Rattle.xp_types.specs.Terms.{joins_nodes, comparison_of, arithmetic_of, compared_with}
 use Rattle.xp_types.specs.inner.Typing.{typing, wanted, or_refused, joined_typed, axis_of, resolved, all_typed, operands_typed, comparands_typed, combinands_typed, steps_typed, chain_typed, comparison_typed, arithmetic_typed}
-use Rattle.xp_types.proofs.Giving.{stops, gives-same, after-value}
+use Rattle.xp_types.proofs.Giving.{stops, still, gives-same, after-value}
 
 -- the expressions done, before those that come
 abbrev pub joined : TypedTrees → TypedTrees → TypedTrees
@@ -84,6 +84,21 @@ pub unjoined : {A : Type 0} (r : Checked A) → r ≡ after r (λ a. Ok a)
 unfolding after
 unjoined (Ok a) = refl
 unjoined (Err e) = refl
+
+unwanted : (m : Checked TypedTree) (offset : ℕ) → m ≡ after m (wanted false offset)
+unfolding after
+unwanted (Ok t) offset = refl
+unwanted (Err e) offset = refl
+
+-- an operand that may be anything, in a box
+module _ (S : Scope) (e : Expr) where
+  pub plain-goes : (b : Box TypedExpr Global) → ChecksAs (after (typing S (tree_of e)) (wanted false (offset_of (tree_of e)))) (λ (b : Box TypedExpr Global). typed_tree_of b.value) (Ok b) →
+      ChecksAs (typing S (tree_of e)) typed_tree_of (Ok b.value)
+  plain-goes b g = record { given = unwanted (typing S (tree_of e)) (offset_of (tree_of e)) ∙ g.given }
+
+  pub plain-stops : (x : CheckError) → ChecksAs (after (typing S (tree_of e)) (wanted false (offset_of (tree_of e)))) (λ (b : Box TypedExpr Global). typed_tree_of b.value) (Err x) →
+      ChecksAs (typing S (tree_of e)) typed_tree_of (Err x)
+  plain-stops x g = gives-same (unwanted (typing S (tree_of e)) (offset_of (tree_of e))) (still _ (λ (b : Box TypedExpr Global). typed_tree_of b.value) typed_tree_of x g)
 
 -- the next part has a value: it joins those that are done
 pub advance : {Z A L : Type 0} (whole : Checked Z) (x : Checked A) (rest : Checked L) (cons : A → L → L) (g h : L → Z) (a : A) → x ≡ Ok a → ((l : L) → g (cons a l) ≡ h l) →

@@ -27,8 +27,9 @@ pub fn check(alloc: Global, expr: Expr, env: &Env) -> Result<Typed, CheckError>
     ensures typed { IfOk result (λ typed. HasType env.now (tree_of expr) typed) }
     ensures refused { IfErr result (UnlessMemory (IsFirstTypeFault env.now (tree_of expr))) }
 {
-    let tree = type_expr(alloc, &expr, env)?;
-    Ok(Typed::new(tree))
+    let tree = type_expr(alloc, &expr, env);
+    drop(expr);
+    Ok(Typed::new(tree?))
 }
 
 /// Checks the types of a match pattern, as `check` does those of an expression; `id`, `key` and `current` are refused.

@@ -12,7 +12,7 @@ use std::marker::Model;
 use xp_typed_tree::ValueType;
 
 /// A variable: where its value is kept, and the type of that value.
-#[derive(Clone, Copy, Debug)]
+#[derive(Clone, Copy)]
 pub struct Variable {
     pub slot: u32,
     pub ty: ValueType,

@@ -1,60 +1,90 @@
 //! The names of functions.
 
-ghost use Rattle.std.specs.Prelude.{◌≡◌};
-ghost use Rattle.xp_types.specs.FunctionNames.{function_named, is_left_out};
+ghost use Rattle.std.specs.Prelude.{◌≡◌, map};
+ghost use Rattle.xp_types.specs.FunctionNames.{function_named, is_left_out, listed, named};
 
 use xp_typed_tree::Function;
+
+/// Each function with its name.
+const FUNCTIONS: [(&str, Function); 27] = [
+    ("last", Function::Last),
+    ("position", Function::Position),
+    ("current", Function::Current),
+    ("count", Function::Count),
+    ("sum", Function::Sum),
+    ("local-name", Function::LocalName),
+    ("namespace-uri", Function::NamespaceUri),
+    ("name", Function::Name),
+    ("string", Function::String),
+    ("number", Function::Number),
+    ("boolean", Function::Boolean),
+    ("not", Function::Not),
+    ("true", Function::True),
+    ("false", Function::False),
+    ("concat", Function::Concat),
+    ("starts-with", Function::StartsWith),
+    ("contains", Function::Contains),
+    ("substring-before", Function::SubstringBefore),
+    ("substring-after", Function::SubstringAfter),
+    ("substring", Function::Substring),
+    ("string-length", Function::StringLength),
+    ("normalize-space", Function::NormalizeSpace),
+    ("translate", Function::Translate),
+    ("lang", Function::Lang),
+    ("floor", Function::Floor),
+    ("ceiling", Function::Ceiling),
+    ("round", Function::Round),
+];
+
+/// The functions of the standards that are left out here.
+const LEFT_OUT: [&str; 9] = [
+    "document",
+    "key",
+    "id",
+    "format-number",
+    "generate-id",
+    "system-property",
+    "unparsed-entity-uri",
+    "element-available",
+    "function-available",
+];
 
 /// The function of a name.
 pub(crate) fn function_named(name: &str) -> Option<Function>
     ensures { result ≡ function_named name.now }
 {
-    match name {
-        "last" => Some(Function::Last),
-        "position" => Some(Function::Position),
-        "current" => Some(Function::Current),
-        "count" => Some(Function::Count),
-        "sum" => Some(Function::Sum),
-        "local-name" => Some(Function::LocalName),
-        "namespace-uri" => Some(Function::NamespaceUri),
-        "name" => Some(Function::Name),
-        "string" => Some(Function::String),
-        "number" => Some(Function::Number),
-        "boolean" => Some(Function::Boolean),
-        "not" => Some(Function::Not),
-        "true" => Some(Function::True),
-        "false" => Some(Function::False),
-        "concat" => Some(Function::Concat),
-        "starts-with" => Some(Function::StartsWith),
-        "contains" => Some(Function::Contains),
-        "substring-before" => Some(Function::SubstringBefore),
-        "substring-after" => Some(Function::SubstringAfter),
-        "substring" => Some(Function::Substring),
-        "string-length" => Some(Function::StringLength),
-        "normalize-space" => Some(Function::NormalizeSpace),
-        "translate" => Some(Function::Translate),
-        "lang" => Some(Function::Lang),
-        "floor" => Some(Function::Floor),
-        "ceiling" => Some(Function::Ceiling),
-        "round" => Some(Function::Round),
-        _ => None,
+    named(&FUNCTIONS, name)
+}
+
+/// What a table has beside a name.
+fn named(mut table: &[(&str, Function)], name: &str) -> Option<Function>
+    ensures { result ≡ named (map (λ entry. (entry.0.now, entry.1)) table.entry.now) name.now }
+{
+    while let [entry, rest @ ..] = table {
+        if name == entry.0 {
+            return Some(entry.1);
+        }
+        table = rest;
     }
+    None
 }
 
 /// Whether the standards have a function of the name that is left out here.
 pub(crate) fn is_left_out(name: &str) -> bool
     ensures { result ≡ is_left_out name.now }
 {
-    matches!(
-        name,
-        "document"
-            | "key"
-            | "id"
-            | "format-number"
-            | "generate-id"
-            | "system-property"
-            | "unparsed-entity-uri"
-            | "element-available"
-            | "function-available"
-    )
+    listed(&LEFT_OUT, name)
+}
+
+/// Whether a name is among others.
+fn listed(mut names: &[&str], name: &str) -> bool
+    ensures { result ≡ listed (map (λ other. other.now) names.entry.now) name.now }
+{
+    while let [other, rest @ ..] = names {
+        if name == *other {
+            return true;
+        }
+        names = rest;
+    }
+    false
 }

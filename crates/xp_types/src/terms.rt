@@ -46,7 +46,10 @@ pub(crate) fn as_wanted(typed: TypedExpr, offset: u32, nodes: bool) -> Result<Ty
     }
     match typed.ty() {
         ValueType::NodeSet => Ok(typed),
-        _ => Err(fault_at(TypeKind::NodeSetWanted, offset)),
+        _ => {
+            drop(typed);
+            Err(fault_at(TypeKind::NodeSetWanted, offset))
+        }
     }
 }
 

@@ -2,7 +2,7 @@
 //!
 //! Costs time linear in the expression's size.
 
-ghost use Rattle.std.specs.Prelude.{Ok};
+ghost use Rattle.std.specs.Prelude.{◌≡◌};
 ghost use Rattle.xp_tree.specs.View.{tree_of, start_of, trees_seen, steps_seen};
 ghost use Rattle.xp_tree.specs.Tree.{offset_of};
 ghost use Rattle.xp_typed_tree.specs.TypedView.{typed_tree_of, place_of, typed_seen, compared_list_seen, typed_steps_seen};
@@ -34,8 +34,8 @@ pub(crate) fn type_expr(alloc: Global, expr: &Expr, env: &Env) -> Result<TypedEx
         Expr::Prod(chain) => type_arithmetic(alloc, chain, env, Level::Prod),
         Expr::Union(chain) => Ok(TypedExpr::union(type_chain(alloc, chain, env, Level::Union)?)),
         Expr::Neg { count, operand, .. } => {
-            let operand = type_expr(alloc, operand, env)?;
-            Ok(TypedExpr::negate(*count, Box::new(alloc, operand)?))
+            let operand = type_boxed(alloc, operand, env, false)?;
+            Ok(TypedExpr::negate(*count, operand))
         }
         Expr::Path { start, steps, .. } => {
             let place = type_start(alloc, start, env)?;
@@ -46,9 +46,9 @@ pub(crate) fn type_expr(alloc: Global, expr: &Expr, env: &Env) -> Result<TypedEx
             predicates,
             ..
         } => {
-            let base = type_operand(alloc, base, env, true)?;
+            let base = type_boxed(alloc, base, env, true)?;
             let predicates = type_list(alloc, predicates, env, false)?;
-            Ok(TypedExpr::filter(Box::new(alloc, base)?, predicates))
+            Ok(TypedExpr::filter(base, predicates))
         }
         Expr::Variable { offset, name } => type_variable(name, *offset, env),
         Expr::Literal { value, .. } => Ok(TypedExpr::literal(Text::copy(alloc, value.as_str())?)),
@@ -68,6 +68,19 @@ fn type_operand(alloc: Global, expr: &Expr, env: &Env, nodes: bool) -> Result<Ty
 {
     let typed = type_expr(alloc, expr, env)?;
     as_wanted(typed, offset_of(expr), nodes)
+}
+
+/// An operand as a box holds it, a node-set where one is wanted.
+#[cycle(typing)]
+fn type_boxed(
+    alloc: Global,
+    expr: &Expr,
+    env: &Env,
+    nodes: bool,
+) -> Result<Box<TypedExpr>, CheckError>
+    ensures { ChecksAs (after (typing env.now (tree_of expr.now)) (wanted nodes (offset_of (tree_of expr.now)))) (λ b. typed_tree_of b.value) result }
+{
+    Ok(Box::new(alloc, type_operand(alloc, expr, env, nodes)?)?)
 }
 
 /// Expressions in a list, node-sets where these are wanted.
@@ -132,28 +145,24 @@ fn type_comparison(
 ) -> Result<TypedExpr, CheckError>
     ensures { ChecksAs (comparison_typed env.now level (first_in chain.now) (rest_in chain.now)) typed_tree_of result }
 {
-    let first = type_expr(alloc, &chain.first, env)?;
+    let first = type_boxed(alloc, &chain.first, env, false)?;
     let mut compared = Vec::new(alloc);
     for operand in &chain.rest {
         let operator = compared_by(alloc, level, operand.operator, operand.offset)?;
         let expr = type_expr(alloc, &operand.expr, env)?;
         compared.push(Compared::new(operator, expr))?;
     }
-    compared_with(alloc, first, compared)
+    Ok(compared_with(first, compared))
 }
 
 /// An operand that is compared with later ones. Where there are none it stands alone, as no text spells it.
-fn compared_with(
-    alloc: Global,
-    first: TypedExpr,
-    rest: Vec<Compared>,
-) -> Result<TypedExpr, CheckError>
-    ensures { ChecksAs (Ok (compared_with (typed_tree_of first) (compared_list_seen rest.items))) typed_tree_of result }
+fn compared_with(first: Box<TypedExpr>, rest: Vec<Compared>) -> TypedExpr
+    ensures { typed_tree_of result ≡ compared_with (typed_tree_of first.value) (compared_list_seen rest.items) }
 {
     if rest.is_empty() {
-        return Ok(first);
+        return Box::into_inner(first);
     }
-    Ok(TypedExpr::compare(Box::new(alloc, first)?, rest))
+    TypedExpr::compare(first, rest)
 }
 
 /// Operators on numbers of one level.
@@ -166,7 +175,7 @@ fn type_arithmetic(
 ) -> Result<TypedExpr, CheckError>
     ensures { ChecksAs (arithmetic_typed env.now level (first_in chain.now) (rest_in chain.now)) typed_tree_of result }
 {
-    let first = Box::new(alloc, type_expr(alloc, &chain.first, env)?)?;
+    let first = type_boxed(alloc, &chain.first, env, false)?;
     let mut combined = Vec::new(alloc);
     for operand in &chain.rest {
         let operator = combined_by(alloc, level, operand.operator, operand.offset)?;
@@ -185,8 +194,8 @@ fn type_start(alloc: Global, start: &Start, env: &Env) -> Result<TypedStart, Che
         Start::Root => Ok(TypedStart::at_root()),
         Start::Here => Ok(TypedStart::at_context()),
         Start::From(base) => {
-            let base = type_operand(alloc, base, env, true)?;
-            Ok(TypedStart::from_nodes(Box::new(alloc, base)?))
+            let base = type_boxed(alloc, base, env, true)?;
+            Ok(TypedStart::from_nodes(base))
         }
     }
 }

@@ -11,8 +11,8 @@ use Rattle.xp_types.proofs.checks.check.Goals as goal
 
 pub new-requires : goal.new-requires
 new-requires c =
-    subst (λ p. WellTyped p (typed_tree_of c.in_ok-tree.tree)) c.requires
-    (typing-sound c.args.env.now (tree_of c.args.expr) (typed_tree_of c.in_ok-tree.tree) c.in_ok-tree.ensures.given)
+    subst (λ p. WellTyped p (typed_tree_of c.in_ok-tree.field-0)) c.requires
+    (typing-sound c.args.env.now (tree_of c.args.expr) (typed_tree_of c.in_ok-tree.field-0) c.in_ok-tree.ensures.given)
 
 pub returns-clause-typed : goal.returns-clause-typed
 returns-clause-typed c = subst (HasType c.args.env.now (tree_of c.args.expr)) (sym c.new.ensures) (has-type _ _ _ c.in_ok-tree.ensures.given)

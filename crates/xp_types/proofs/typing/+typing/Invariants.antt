@@ -8,7 +8,7 @@ abbrev pub invariant-type_chain-loop-operand : goal.invariant-type_chain-loop-op
 invariant-type_chain-loop-operand l = ChainOnto l.env l.level l.chain l.operand-index l.typed.items
 
 abbrev pub invariant-type_comparison-loop-operand : goal.invariant-type_comparison-loop-operand
-invariant-type_comparison-loop-operand l = ComparedOnto l.env l.level l.chain l.operand-index l.first l.compared.items
+invariant-type_comparison-loop-operand l = ComparedOnto l.env l.level l.chain l.operand-index l.first.value l.compared.items
 
 abbrev pub invariant-type_arithmetic-loop-operand : goal.invariant-type_arithmetic-loop-operand
 invariant-type_arithmetic-loop-operand l = CombinedOnto l.env l.level l.chain l.operand-index l.first.value l.combined.items
