@@ -12,7 +12,7 @@ use xp_grammar::{Token, Word};
 
 /// A token before its place is looked at (XPath 1.0, section 3.7): what `*` and names are depends on the token before,
 /// and on what follows.
-#[derive(Debug, Drop)]
+#[derive(Drop)]
 pub enum Lexeme<'a> {
     /// Signs that are the same token at each place.
     Symbol(Token<'a>),
@@ -33,7 +33,7 @@ pub enum Lexeme<'a> {
 }
 
 /// What a lexeme's first character tells of it.
-#[derive(Clone, Copy, Debug, PartialEq, Eq)]
+#[derive(Clone, Copy)]
 enum Form {
     Variable,
     Literal,
@@ -49,7 +49,7 @@ enum Form {
 }
 
 /// A lexeme and what follows it.
-#[derive(Debug, Drop)]
+#[derive(Drop)]
 pub(crate) struct Scanned<'a> {
     pub(crate) lexeme: Lexeme<'a>,
     pub(crate) rest: &'a str,

@@ -11,7 +11,7 @@ use std::alloc::{AllocError, Global};
 use xp_grammar::{Placed, Token};
 
 /// The tokens of a text, up to its end or to where no token can be read.
-#[derive(Debug, Drop)]
+#[derive(Drop)]
 pub struct Lexed<'a> {
     pub tokens: Vec<Placed<'a>>,
     /// Whether the whole text was read.
@@ -21,7 +21,7 @@ pub struct Lexed<'a> {
 }
 
 /// A token and what follows it.
-#[derive(Debug, Drop)]
+#[derive(Drop)]
 struct Taken<'a> {
     token: Token<'a>,
     rest: &'a str,

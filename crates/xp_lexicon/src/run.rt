@@ -6,7 +6,7 @@ ghost use Rattle.xp_lexicon.specs.inner.Scanning.{holds, Ran, IsEnd};
 use sch_base::{is_name_char, is_whitespace};
 
 /// The classes of characters that lexemes are made of.
-#[derive(Clone, Copy, Debug, PartialEq, Eq)]
+#[derive(Clone, Copy)]
 pub(crate) enum Class {
     /// `0` to `9`
     Digit,

@@ -8,7 +8,7 @@ use Rattle.xp_tree.specs.declared.terms.Operator.{Operator}
 use Rattle.xp_tree.specs.declared.terms.Operator.TheVariants as operator
 use Rattle.xp_tree.specs.declared.expr.Expr.{Expr}
 use Rattle.xp_tree.specs.declared.expr.Operand.{Operand}
-use Rattle.xp_tree.specs.Tree.{Tree, Operands, no_operands, operand}
+use Rattle.xp_tree.specs.Tree.{Tree, Operands, chain, negated, no_operands, operand}
 use Rattle.xp_tree.specs.View.{tree_of, operand_of, operands_seen}
 use Rattle.xp_grammar.specs.declared.token.Placed.{Placed}
 use Rattle.xp_grammar.specs.declared.token.Token.TheVariants as token
@@ -18,19 +18,9 @@ use Rattle.xp_grammar.specs.inner.Machine.{Bracket, Ending, Mode, want, after, l
 use Rattle.xp_grammar.proofs.Steps.{step_on, same_start, operator_start, after_operator}
 use Rattle.xp_grammar.proofs.Drives.{Signs, drive_signs, plus_zero}
 use Rattle.xp_parse.specs.declared.stop.Stop.{Stop}
-use Rattle.xp_parse.specs.declared.stop.Stop.TheVariants as stop
-use Rattle.xp_parse.specs.inner.Places.{Took, NoOperatorOf}
-use Rattle.xp_parse.specs.inner.Parsing.{rank, Quiet, Settled, IsNoMemory, Fails, FreshSign, Fresh, OperandFails, ChainRead, OperandRead, PathRead, OperandsRead, SignsRead, operands_onto, OperandsSoFar, weight}
+use Rattle.xp_parse.specs.inner.Places.{Took, IsOperatorOf, NoOperatorOf}
+use Rattle.xp_parse.specs.inner.Parsing.{rank, Quiet, Settled, Fails, FreshSign, Fresh, OperandFails, ChainRead, OperandRead, PathRead, OperandsRead, SignsRead, operands_onto, OperandsSoFar, weight}
 use Rattle.xp_parse.proofs.Failing.{took_shorter, stuck_after}
-
--- want of memory promises nothing
-pub no_memory : (limit : ℕ) (n : Level) (d : ℕ) (s u : List Placed) (why : Stop) → why ≡ stop.Memory → OperandFails limit n d s u why
-no_memory limit n d s u why is = record {
-  from = λ b j c fresh. record {
-    stuck = λ nm k deep.
-        let bad : IsNoMemory stop.Memory = subst IsNoMemory is nm in absurd bad;
-  };
-}
 
 pub fails_after : (limit : ℕ) (m m' : Mode) (d : ℕ) (s s' u : List Placed) (why : Stop) →
     ((k : List Bracket) → length k ≡ d → halt limit m k s ≡ halt limit m' k s') → Fails limit m' d s' u why → Fails limit m d s u why
@@ -72,6 +62,36 @@ operand_of_path limit l d s u r is h =
     (λ e x. record { derives = one_path d s u (tree_of e) x.derives; reads = x.reads }) (λ why x. x))
 
 -- a chain whose later operands fail
+-- levels by their rank
+level_at : ℕ → Level
+level_at zero = level.Or
+level_at (suc zero) = level.And
+level_at (suc (suc zero)) = level.Equal
+level_at (suc (suc (suc zero))) = level.Rel
+level_at (suc (suc (suc (suc zero)))) = level.Sum
+level_at (suc (suc (suc (suc (suc zero))))) = level.Prod
+level_at (suc (suc (suc (suc (suc (suc n)))))) = level.Union
+
+at_rank : (n : Level) → level_at (rank n) ≡ n
+unfolding level_at
+at_rank level.Or = refl
+at_rank level.And = refl
+at_rank level.Equal = refl
+at_rank level.Rel = refl
+at_rank level.Sum = refl
+at_rank level.Prod = refl
+at_rank level.Union = refl
+
+same_rank : (a b : Level) → rank a ≡ rank b → a ≡ b
+same_rank a b e = sym (at_rank a) ∙ ap level_at e ∙ at_rank b
+
+below : (a b : ℕ) → a < suc b → (a ≡ b → ⊥) → a < b
+below a b h n = omega (arith, h, n)
+
+quiet_below : (n : Level) (s : List Placed) → Quiet (suc (rank n)) s → NoOperatorOf n s → Quiet (rank n) s
+quiet_below n s quiet none p rest o is at =
+    below (rank (level_of o)) (rank n) (quiet p rest o is at) (λ same. none p rest o is at (same_rank (level_of o) n same))
+
 pub chain_rest_fails : (limit : ℕ) (n : Level) (d : ℕ) (s m u : List Placed) (x : Tree) (why : Stop)
     (r : OperandRead limit n d s m x) → Fails limit (after r.reads.ending) d m u why → OperandFails limit n d s u why
 chain_rest_fails limit n d s m u x why r f = record {
@@ -79,23 +99,45 @@ chain_rest_fails limit n d s m u x why r f = record {
       fails_after limit (start n b j c) (after r.reads.ending) d s m u why (λ k deep. r.reads.halts b j c k deep) f;
 }
 
-pub chain_read : (limit : ℕ) (n : Level) (d offset : ℕ) (s m u : List Placed) (x : Tree) (found : List Operand) (out : Result Expr Stop)
-    (r : OperandRead limit n d s m x) → OperandsRead limit n d r.reads.ending m u found → offset ≡ offset_at s →
-    MatchResult out (λ e. tree_of e ≡ joined n offset x (operands_seen found)) (λ why. why ≡ stop.Memory) →
-    MatchResult out (λ e. ChainRead limit n d s u (tree_of e)) (OperandFails limit n d s u)
-chain_read limit n d offset s m u x found out r t at h = MatchResult-weaker out h
-    (λ e is. record {
-      derives = subst (λ y. IsChain limit n d s u y) (sym (is ∙ ap (λ o. joined n o x (operands_seen found)) at))
-          (chained n d s m u x (operands_seen found) r.derives t.derives);
-      reads = record {
-        ending = t.ending;
-        settled = t.settled;
-        quiet = t.quiet;
-        shorter = let a = r.reads.shorter in let b = t.shorter in omega (arith, a, b);
-        halts = λ b j c k deep. r.reads.halts b j c k deep ∙ t.halts k deep;
-      };
-    })
-    (λ why is. no_memory limit n d s u why is)
+-- one operand is the chain
+pub chain_alone : (limit : ℕ) (n : Level) (d : ℕ) (s m : List Placed) (x : Tree) → OperandRead limit n d s m x → NoOperatorOf n m → ChainRead limit n d s m x
+chain_alone limit n d s m x r none = record {
+  derives = chained n d s m m x no_operands r.derives (no_more n d m);
+  reads = record {
+    ending = r.reads.ending;
+    settled = r.reads.settled;
+    quiet = quiet_below n m r.reads.quiet none;
+    shorter = r.reads.shorter;
+    halts = r.reads.halts;
+  };
+}
+
+-- where an operator of the level stands, operands were read
+joined_more : (limit : ℕ) (n : Level) (d : ℕ) (m u : List Placed) (os : Operands) (o : Operator) → IsOperands limit n d m u os → Quiet (rank n) u →
+    IsOperatorOf n o m → (offset : ℕ) (x : Tree) → chain n offset x os ≡ joined n offset x os
+joined_more limit n d _ _ _ o (no_more _ _ m) quiet at offset x =
+    let loose : rank (level_of o) < rank n = quiet at.first.placed at.first.rest o at.first.is at.first.token in
+    let same : rank (level_of o) ≡ rank n = ap rank at.level in
+    absurd (omega (arith, loose, same))
+joined_more limit n d _ _ _ o (one_more _ _ _ _ _ _ _ _ _ _ _ _ _) quiet at offset x = refl
+
+pub chain_read : (limit : ℕ) (n : Level) (d offset : ℕ) (s m u : List Placed) (x boxed : Tree) (found : List Operand) (o : Operator) (e : Tree) →
+    (r : OperandRead limit n d s m x) → IsOperatorOf n o m → OperandsRead limit n d r.reads.ending m u found → offset ≡ offset_at s →
+    boxed ≡ x → e ≡ chain n offset boxed (operands_seen found) → ChainRead limit n d s u e
+chain_read limit n d offset s m u x boxed found o e r some t at same is = record {
+  derives =
+      let seen : e ≡ joined n (offset_at s) x (operands_seen found) =
+      is ∙ ap (λ b. chain n offset b (operands_seen found)) same ∙ ap (λ p. chain n p x (operands_seen found)) at
+      ∙ joined_more limit n d m u (operands_seen found) o t.derives t.quiet some (offset_at s) x in
+      subst (λ y. IsChain limit n d s u y) (sym seen) (chained n d s m u x (operands_seen found) r.derives t.derives);
+  reads = record {
+    ending = t.ending;
+    settled = t.settled;
+    quiet = t.quiet;
+    shorter = let a = r.reads.shorter in let b = t.shorter in omega (arith, a, b);
+    halts = λ b j c k deep. r.reads.halts b j c k deep ∙ t.halts k deep;
+  };
+}
 
 -- the later operands of a chain
 pub operands_start : (limit : ℕ) (n : Level) (d : ℕ) (e : Ending) (s : List Placed) (found : List Operand) → found ≡ [] →
@@ -178,40 +220,13 @@ operands_more limit n d e s here m v found behind o x it offset room so t is r a
       ∙ r.reads.halts (signs_after o) 0 false k deep;
 }
 
--- levels by their rank
-level_at : ℕ → Level
-level_at zero = level.Or
-level_at (suc zero) = level.And
-level_at (suc (suc zero)) = level.Equal
-level_at (suc (suc (suc zero))) = level.Rel
-level_at (suc (suc (suc (suc zero)))) = level.Sum
-level_at (suc (suc (suc (suc (suc zero))))) = level.Prod
-level_at (suc (suc (suc (suc (suc (suc n)))))) = level.Union
-
-at_rank : (n : Level) → level_at (rank n) ≡ n
-unfolding level_at
-at_rank level.Or = refl
-at_rank level.And = refl
-at_rank level.Equal = refl
-at_rank level.Rel = refl
-at_rank level.Sum = refl
-at_rank level.Prod = refl
-at_rank level.Union = refl
-
-same_rank : (a b : Level) → rank a ≡ rank b → a ≡ b
-same_rank a b e = sym (at_rank a) ∙ ap level_at e ∙ at_rank b
-
-below : (a b : ℕ) → a < suc b → (a ≡ b → ⊥) → a < b
-below a b h n = omega (arith, h, n)
-
 pub operands_read : (limit : ℕ) (n : Level) (d : ℕ) (e : Ending) (s here : List Placed) (found : List Operand) →
     OperandsSoFar limit n d e s here found → NoOperatorOf n here → OperandsRead limit n d e s here found
 operands_read limit n d e s here found so none = record {
   derives = subst (λ y. IsOperands limit n d s here y) (onto_none found) (so.extends here no_operands (no_more n d here));
   ending = so.ending;
   settled = so.settled;
-  quiet = λ p rest o is at. below (rank (level_of o)) (rank n) (so.quiet p rest o is at)
-      (λ same. none p rest o is at (same_rank (level_of o) n same));
+  quiet = quiet_below n here so.quiet none;
   shorter = so.shorter;
   halts = so.halts;
 }
@@ -240,25 +255,33 @@ pub signs_length : (i : ℕ) (s m : List Placed) → IsSigns i s m → length m 
 signs_length _ s m (no_sign _) = omega arith
 signs_length _ s m (sign i p t u is more) = let r = signs_length i t m more in omega (arith, r)
 
-pub signed_read : (limit d i offset : ℕ) (s m u : List Placed) (x : Tree) (out : Result Expr Stop) → SignsRead limit d s m i →
-    ChainRead limit level.Union d m u x → offset ≡ offset_at s →
-    MatchResult out (λ e. tree_of e ≡ with_signs offset i x) (λ why. why ≡ stop.Memory) →
-    MatchResult out (λ e. OperandRead limit level.Prod d s u (tree_of e)) (OperandFails limit level.Prod d s u)
-signed_read limit d i offset s m u x out S r at h = MatchResult-weaker out h
-    (λ e is. record {
-      derives = subst (λ y. IsOperand limit level.Prod d s u y) (sym (is ∙ ap (λ o. with_signs o i x) at))
-          (signed d i s m u x S.signs S.fits r.derives);
-      reads = record {
-        ending = r.reads.ending;
-        settled = r.reads.settled;
-        quiet = r.reads.quiet;
-        shorter = let a = signs_length i s m S.signs in let b = r.reads.shorter in omega (arith, a, b);
-        halts = λ b j c k deep.
-            let over = over_signs limit d i s m S.signs S.fits c k deep in
-            over.halts ∙ r.reads.halts true over.count over.closes k deep;
-      };
-    })
-    (λ why is. no_memory limit level.Prod d s u why is)
+signs_read : (limit d i : ℕ) (s m u : List Placed) (x e : Tree) → SignsRead limit d s m i → ChainRead limit level.Union d m u x →
+    e ≡ with_signs (offset_at s) i x → OperandRead limit level.Prod d s u e
+signs_read limit d i s m u x e S r is = record {
+  derives = subst (λ y. IsOperand limit level.Prod d s u y) (sym is) (signed d i s m u x S.signs S.fits r.derives);
+  reads = record {
+    ending = r.reads.ending;
+    settled = r.reads.settled;
+    quiet = r.reads.quiet;
+    shorter = let a = signs_length i s m S.signs in let b = r.reads.shorter in omega (arith, a, b);
+    halts = λ b j c k deep.
+        let over = over_signs limit d i s m S.signs S.fits c k deep in
+        over.halts ∙ r.reads.halts true over.count over.closes k deep;
+  };
+}
+
+pub unsigned_read : (limit d i : ℕ) (s m u : List Placed) (x : Tree) → SignsRead limit d s m i → ChainRead limit level.Union d m u x → i ≡ 0 →
+    OperandRead limit level.Prod d s u x
+unsigned_read limit d i s m u x S r none = signs_read limit d i s m u x x S r (sym (ap (λ c. with_signs (offset_at s) c x) none))
+
+signs_there : (i offset : ℕ) (x : Tree) → (i ≡ 0 → ⊥) → negated offset i x ≡ with_signs offset i x
+signs_there zero offset x some = absurd (some refl)
+signs_there (suc i) offset x some = refl
+
+pub signed_read : (limit d i offset : ℕ) (s m u : List Placed) (x boxed e : Tree) → SignsRead limit d s m i → ChainRead limit level.Union d m u x →
+    (i ≡ 0 → ⊥) → offset ≡ offset_at s → boxed ≡ x → e ≡ negated offset i boxed → OperandRead limit level.Prod d s u e
+signed_read limit d i offset s m u x boxed e S r some at same is =
+    signs_read limit d i s m u x e S r (is ∙ ap (negated offset i) same ∙ ap (λ o. negated o i x) at ∙ signs_there i (offset_at s) x some)
 
 pub weight_small : (n : Level) → weight n < 32
 weight_small level.Or = omega arith

@@ -1,5 +1,4 @@
 pub mod Exits
-pub mod ListLemmas
 pub mod Failing
 pub mod NodeTests
 pub mod Chains

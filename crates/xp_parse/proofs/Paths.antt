@@ -13,7 +13,7 @@ use Rattle.xp_tree.specs.declared.terms.StepTest.TheVariants as test
 use Rattle.xp_tree.specs.declared.expr.Expr.{Expr}
 use Rattle.xp_tree.specs.declared.expr.Step.{Step}
 use Rattle.xp_tree.specs.Tree as trees
-use Rattle.xp_tree.specs.Tree.{Tree, Steps, Trees, path, root, no_steps, step, no_trees, tree}
+use Rattle.xp_tree.specs.Tree.{Tree, Steps, Trees, path, filtered, root, no_steps, step, no_trees, tree}
 use Rattle.xp_tree.specs.View.{tree_of, step_of, steps_seen, trees_seen}
 use Rattle.xp_grammar.specs.declared.token.Placed.{Placed}
 use Rattle.xp_grammar.specs.declared.token.Token.{Token}
@@ -26,10 +26,10 @@ use Rattle.xp_grammar.proofs.Steps.{step_on, TakesTests, TakesSteps, test_takes,
 use Rattle.xp_grammar.proofs.Drives.{drive_test, drive_predicates, drive_filter, drive_primary, plus_zero}
 use Rattle.xp_parse.specs.declared.stop.Stop.{Stop}
 use Rattle.xp_parse.specs.declared.stop.Stop.TheVariants as stop
-use Rattle.xp_parse.specs.inner.Places.{IsFirst, Took, Refused, NotAt, is_step_token, is_at_step}
+use Rattle.xp_parse.specs.inner.Places.{IsFirst, Took, Refused, NotAt, is_step_token, is_at_step, is_slash, is_at_slash}
 use Rattle.xp_parse.specs.inner.Parsing.{rank, Quiet, Settled, Stuck, Fails, FreshSign, Fresh, OperandFails, ChainRead, PathRead, steps_onto, StepsRead, IsClosed, MoreStepsRead, StepRead, TestedRead, PredicatesRead, PrimaryRead, FilterRead, TookNone, Leads, StepsSoFar, trees_onto, PredicatesSoFar}
 use Rattle.xp_parse.proofs.Failing.{took_shorter, took_on, stuck_after, stuck_over, stuck_not_at, none_but_colons}
-use Rattle.xp_parse.proofs.Chains.{no_memory, fails_after}
+use Rattle.xp_parse.proofs.Chains.{fails_after}
 
 -- every operator is looser than a path
 rank_small : (n : Level) → rank n < 7
@@ -213,24 +213,79 @@ filter_fails limit d s m u x why room r f = record {
       fails_after limit (want b j c) (after full) d s m u why (λ k deep. drive_filter limit r.derives b j c k deep (omega (arith, room, deep))) f;
 }
 
-pub filter_path_read : (limit d offset : ℕ) (s m u : List Placed) (x : Tree) (before all : List Step) (out : Result Expr Stop) → d ≤ limit →
-    FilterRead limit d s m x → offset ≡ offset_at s → before ≡ [] → (r : MoreStepsRead limit d full before m u all) →
-    MatchResult out (λ e. tree_of e ≡ with_steps offset x (steps_seen all)) (λ why. why ≡ stop.Memory) →
-    MatchResult out (λ e. PathRead limit d s u (tree_of e)) (OperandFails limit level.Union d s u)
-filter_path_read limit d offset s m u x before all out room f at empty r h = MatchResult-weaker out h
-    (λ e is. record {
-      derives = subst (λ y. IsPath limit d s u y)
-          (sym (is ∙ ap (with_steps offset x) (r.are ∙ ap (λ ss. steps_onto ss r.steps) empty) ∙ ap (λ o. with_steps o x r.steps) at))
-          (from_filter d s m u x r.steps f.derives r.derives);
-      reads = record {
-        ending = r.ending;
-        settled = r.settled;
-        quiet = all_quiet u;
-        shorter = let a = f.shorter in let b = r.shorter in omega (arith, a, b);
-        halts = λ b j c k deep. drive_filter limit f.derives b j c k deep (omega (arith, room, deep)) ∙ r.halts k deep;
-      };
-    })
-    (λ why is. no_memory limit level.Union d s u why is)
+-- tokens that don't go on with a step
+no_slash_turn : (k : List Bracket) (t : Token) → (t ≡ token.Slash → ⊥) → (t ≡ token.DoubleSlash → ⊥) → slash_turn k t ≡ None
+no_slash_turn k token.Slash a b = absurd (a refl)
+no_slash_turn k token.DoubleSlash a b = absurd (b refl)
+no_slash_turn k _ a b = refl
+
+no_predicate_turn : (k : List Bracket) (t : Token) → (t ≡ token.OpenBracket → ⊥) → predicate_turn k t ≡ None
+no_predicate_turn k token.OpenBracket a = absurd (a refl)
+no_predicate_turn k _ a = refl
+
+pub settled_of : (e : Ending) (s : List Placed) → IsClosed e s → NotAt token.Slash s → NotAt token.DoubleSlash s → Settled e s
+settled_of full s closed a b p rest is k =
+    ap (λ o. first_of_two o (first_of_two (slash_turn k p.token) (end_turn k p.token))) (no_predicate_turn k p.token (closed p rest is))
+    ∙ ap (λ o. first_of_two o (end_turn k p.token)) (no_slash_turn k p.token (a p rest is) (b p rest is))
+settled_of bare s closed a b p rest is k =
+    ap (λ o. first_of_two o (end_turn k p.token)) (no_slash_turn k p.token (a p rest is) (b p rest is))
+settled_of at_root s closed a b p rest is k = absurd closed
+
+not_at_slash : (t : Token) (s : List Placed) → is_slash t ≡ true → is_at_slash s ≡ false → NotAt t s
+not_at_slash t s yes_it none p rest is at =
+    let bad : false ≡ true = sym none ∙ ap is_at_slash is ∙ ap is_slash at ∙ yes_it in absurd (cc)
+
+slash_token : (t : Token) → is_slash t ≡ true → (t ≡ token.Slash → ⊥) → (t ≡ token.DoubleSlash → ⊥) → ⊥
+slash_token token.Slash yes_it a b = a refl
+slash_token token.DoubleSlash yes_it a b = b refl
+slash_token _ yes_it a b = absurd (cc)
+
+slash_first : (s : List Placed) → is_at_slash s ≡ true → NotAt token.Slash s → NotAt token.DoubleSlash s → ⊥
+slash_first [] yes_it a b = absurd (cc)
+slash_first (p ∷ s) yes_it a b = slash_token p.token yes_it (a p s refl) (b p s refl)
+
+-- an expression that is no path, with no steps behind it
+pub filter_alone_read : (limit d : ℕ) (s m : List Placed) (x : Tree) → d ≤ limit → FilterRead limit d s m x → is_at_slash m ≡ false → PathRead limit d s m x
+filter_alone_read limit d s m x room f none = record {
+  derives = from_filter d s m m x no_steps f.derives (no_more_steps d m);
+  reads = record {
+    ending = full;
+    settled = settled_of full m f.closed (not_at_slash token.Slash m refl none) (not_at_slash token.DoubleSlash m refl none);
+    quiet = all_quiet m;
+    shorter = f.shorter;
+    halts = λ b j c k deep. drive_filter limit f.derives b j c k deep (omega (arith, room, deep));
+  };
+}
+
+-- where a slash stands, steps were read
+steps_there : (limit d : ℕ) (s u : List Placed) (ss : Steps) → IsSteps limit d s u ss → (offset : ℕ) (x : Tree) → path offset (trees.from x) ss ≡ with_steps offset x ss
+steps_there limit d _ _ _ (dot_step _ _ _ _ _ _ _) offset x = refl
+steps_there limit d _ _ _ (parent_step _ _ _ _ _ _ _) offset x = refl
+steps_there limit d _ _ _ (tested_step _ _ _ _ _ _ _ _ _ _ _ _ _ _) offset x = refl
+
+more_steps_there : (limit d : ℕ) (m u : List Placed) (ss : Steps) → IsMoreSteps limit d m u ss → NotAt token.Slash u → NotAt token.DoubleSlash u →
+    is_at_slash m ≡ true → (offset : ℕ) (x : Tree) → path offset (trees.from x) ss ≡ with_steps offset x ss
+more_steps_there limit d _ _ _ (no_more_steps _ m) a b slash offset x = absurd (slash_first m slash a b)
+more_steps_there limit d _ _ _ (slash_steps _ p m u ss is D) a b slash offset x = steps_there limit d m u ss D offset x
+more_steps_there limit d _ _ _ (double_slash_steps _ p m u ss is D) a b slash offset x = refl
+
+pub filter_path_read : (limit d offset : ℕ) (s m u : List Placed) (x boxed e : Tree) (before all : List Step) → d ≤ limit → FilterRead limit d s m x →
+    is_at_slash m ≡ true → offset ≡ offset_at s → before ≡ [] → (r : MoreStepsRead limit d full before m u all) → boxed ≡ x →
+    e ≡ path offset (trees.from boxed) (steps_seen all) → PathRead limit d s u e
+filter_path_read limit d offset s m u x boxed e before all room f slash at empty r same is = record {
+  derives =
+      let seen : e ≡ with_steps (offset_at s) x r.steps =
+      is ∙ ap (λ b. path offset (trees.from b) (steps_seen all)) same ∙ ap (path offset (trees.from x)) (r.are ∙ ap (λ ss. steps_onto ss r.steps) empty)
+      ∙ ap (λ o. path o (trees.from x) r.steps) at ∙ more_steps_there limit d m u r.steps r.derives r.no_slash r.no_double_slash slash (offset_at s) x in
+      subst (λ y. IsPath limit d s u y) (sym seen) (from_filter d s m u x r.steps f.derives r.derives);
+  reads = record {
+    ending = r.ending;
+    settled = r.settled;
+    quiet = all_quiet u;
+    shorter = let a = f.shorter in let b = r.shorter in omega (arith, a, b);
+    halts = λ b j c k deep. drive_filter limit f.derives b j c k deep (omega (arith, room, deep)) ∙ r.halts k deep;
+  };
+}
 
 pub base_fails : (limit d : ℕ) (s m u : List Placed) (x : Tree) (why : Stop) → d ≤ limit → PrimaryRead limit d s m x →
     Fails limit (after full) d m u why → OperandFails limit level.Union d s u why
@@ -239,18 +294,31 @@ base_fails limit d s m u x why room r f = record {
       fails_after limit (want b j c) (after full) d s m u why (λ k deep. drive_primary limit r.derives b j c k deep (omega (arith, room, deep))) f;
 }
 
-pub filter_read : (limit d offset : ℕ) (s m u : List Placed) (x : Tree) (found : List Expr) (out : Result Expr Stop) →
-    PrimaryRead limit d s m x → offset ≡ offset_at s → PredicatesRead limit d m u found →
-    MatchResult out (λ e. tree_of e ≡ with_predicates offset x (trees_seen found)) (λ why. why ≡ stop.Memory) →
-    MatchResult out (λ e. FilterRead limit d s u (tree_of e)) (OperandFails limit level.Union d s u)
-filter_read limit d offset s m u x found out r at ps h = MatchResult-weaker out h
-    (λ e is. record {
-      derives = subst (λ y. IsFilter limit d s u y) (sym (is ∙ ap (λ o. with_predicates o x (trees_seen found)) at))
-          (filter d s m u x (trees_seen found) r.derives ps.derives);
-      closed = ps.closed;
-      shorter = let a = r.shorter in let b = ps.shorter in omega (arith, a, b);
-    })
-    (λ why is. no_memory limit level.Union d s u why is)
+-- a primary expression without predicates
+pub bare_filter_read : (limit d : ℕ) (s m : List Placed) (x : Tree) → PrimaryRead limit d s m x → NotAt token.OpenBracket m → FilterRead limit d s m x
+bare_filter_read limit d s m x r none = record {
+  derives = filter d s m m x no_trees r.derives (no_predicate d m);
+  closed = none;
+  shorter = r.shorter;
+}
+
+-- where a bracket opens, predicates were read
+predicates_there : (limit d : ℕ) (m u : List Placed) (ts : Trees) → IsPredicates limit d m u ts → NotAt token.OpenBracket u → IsFirst token.OpenBracket m →
+    (offset : ℕ) (x : Tree) → filtered offset x ts ≡ with_predicates offset x ts
+predicates_there limit d _ _ _ (no_predicate _ m) closed f offset x = absurd (closed f.placed f.rest f.is f.token)
+predicates_there limit d _ _ _ (predicate _ _ _ _ _ _ _ _ _ _ _ _ _) closed f offset x = refl
+
+pub filter_read : (limit d offset : ℕ) (s m u : List Placed) (x boxed e : Tree) (found : List Expr) → PrimaryRead limit d s m x → IsFirst token.OpenBracket m →
+    offset ≡ offset_at s → PredicatesRead limit d m u found → boxed ≡ x → e ≡ filtered offset boxed (trees_seen found) → FilterRead limit d s u e
+filter_read limit d offset s m u x boxed e found r opens at ps same is = record {
+  derives =
+      let seen : e ≡ with_predicates (offset_at s) x (trees_seen found) =
+      is ∙ ap (λ b. filtered offset b (trees_seen found)) same ∙ ap (λ o. filtered o x (trees_seen found)) at
+      ∙ predicates_there limit d m u (trees_seen found) ps.derives ps.closed opens (offset_at s) x in
+      subst (λ y. IsFilter limit d s u y) (sym seen) (filter d s m u x (trees_seen found) r.derives ps.derives);
+  closed = ps.closed;
+  shorter = let a = r.shorter in let b = ps.shorter in omega (arith, a, b);
+}
 
 -- steps
 pub steps_start : (limit d : ℕ) (e : Ending) (s : List Placed) (found : List Step) → IsClosed e s → StepsSoFar limit d e found s s found
@@ -335,24 +403,6 @@ steps_more limit d e s here m v first before behind all it room so t r grown = r
   halts = λ k deep. so.halts k deep ∙ lead_on limit so.ending k here m before behind so.closed t (omega (arith, room, deep)) ∙ r.halts k deep;
 }
 
--- tokens that don't go on with a step
-no_slash_turn : (k : List Bracket) (t : Token) → (t ≡ token.Slash → ⊥) → (t ≡ token.DoubleSlash → ⊥) → slash_turn k t ≡ None
-no_slash_turn k token.Slash a b = absurd (a refl)
-no_slash_turn k token.DoubleSlash a b = absurd (b refl)
-no_slash_turn k _ a b = refl
-
-no_predicate_turn : (k : List Bracket) (t : Token) → (t ≡ token.OpenBracket → ⊥) → predicate_turn k t ≡ None
-no_predicate_turn k token.OpenBracket a = absurd (a refl)
-no_predicate_turn k _ a = refl
-
-pub settled_of : (e : Ending) (s : List Placed) → IsClosed e s → NotAt token.Slash s → NotAt token.DoubleSlash s → Settled e s
-settled_of full s closed a b p rest is k =
-    ap (λ o. first_of_two o (first_of_two (slash_turn k p.token) (end_turn k p.token))) (no_predicate_turn k p.token (closed p rest is))
-    ∙ ap (λ o. first_of_two o (end_turn k p.token)) (no_slash_turn k p.token (a p rest is) (b p rest is))
-settled_of bare s closed a b p rest is k =
-    ap (λ o. first_of_two o (end_turn k p.token)) (no_slash_turn k p.token (a p rest is) (b p rest is))
-settled_of at_root s closed a b p rest is k = absurd closed
-
 pub more_steps_read : (limit d : ℕ) (e : Ending) (s here u : List Placed) (first before all : List Step) →
     StepsSoFar limit d e first s here before → TookNone here u before all → MoreStepsRead limit d e first s u all
 more_steps_read limit d e s here u first before all so t =
@@ -363,6 +413,8 @@ more_steps_read limit d e s here u first before all so t =
       are = sym (onto_seen all) ∙ ap (λ f. steps_onto f no_steps) t.found ∙ x.are;
       ending = so.ending;
       settled = settled_of so.ending here so.closed t.no_slash t.no_double_slash;
+      no_slash = t.no_slash;
+      no_double_slash = t.no_double_slash;
       shorter = so.shorter;
       halts = so.halts;
     })

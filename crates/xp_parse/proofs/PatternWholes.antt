@@ -1,9 +1,12 @@
 -- The first fault of a whole pattern.
-use Rattle.std.proofs.Common.{◌≡◌, ℕ, Bool, true, false, List, [], ◌∷◌, None, refl, sym, ◌∙◌, ap, subst}
+use Rattle.std.proofs.Common.{◌≡◌, ℕ, Bool, true, false, List, [], ◌∷◌, map, None, refl, sym, ◌∙◌, ap, subst}
+use Rattle.std.specs.Prelude.{Result, Ok, Err, MatchResult, Vec}
+use Rattle.std.specs.declared.alloc.Global.{Global}
 use Rattle.sch_base.specs.declared.limits.TheConstants.{MAX_NESTING}
 use Rattle.xp_tree.specs.declared.terms.Operator.{Operator}
 use Rattle.xp_tree.specs.declared.terms.Operator.TheVariants as operator
 use Rattle.xp_tree.specs.declared.pattern.PathPattern.{PathPattern}
+use Rattle.xp_tree.specs.PatternTree.{path_pattern_of}
 use Rattle.xp_grammar.specs.declared.token.Placed.{Placed}
 use Rattle.xp_grammar.specs.declared.token.Token.{Token}
 use Rattle.xp_grammar.specs.declared.token.Token.TheVariants as token
@@ -13,12 +16,12 @@ use Rattle.xp_parse.specs.declared.stop.Stop.{Stop}
 use Rattle.xp_parse.specs.declared.stop.Stop.TheVariants as stop
 use Rattle.xp_parse.specs.declared.error.ParseError.{ParseError}
 use Rattle.xp_parse.specs.inner.Places.{IsFirst}
-use Rattle.xp_parse.specs.inner.Stopped.{OnlyIfNoMemory, at_end_fault, stopped_fault}
+use Rattle.xp_parse.specs.inner.Stopped.{OnlyIfNoMemory, at_end_fault, stopped_fault, finished}
 use Rattle.xp_grammar.specs.Faults.{IsFirstPatternFault}
 use Rattle.xp_grammar.specs.inner.PatternMachine.{want_path, operator_turn, union_turn, pattern_halt}
 use Rattle.xp_grammar.proofs.PatternFinds.{pattern_fault_at_token, pattern_fault_over_limit, pattern_fault_at_end, pattern_fault_no_token}
 use Rattle.xp_parse.specs.inner.PatternReading.{StuckAt, FailsAt, PatternFound}
-use Rattle.xp_parse.specs.Whole.{PatternFaults}
+use Rattle.xp_parse.specs.Whole.{IsWholePattern, PatternFaults}
 
 end_fault : (tokens : List Placed) (whole : Bool) (end : ℕ) → StuckAt MAX_NESTING want_path tokens [] stop.Unexpected →
     IsFirstPatternFault MAX_NESTING tokens whole end (at_end_fault whole end).kind (at_end_fault whole end).offset
@@ -67,24 +70,20 @@ cut_behind tokens rest whole end all r none cut =
     subst (λ b. PatternFaults MAX_NESTING tokens b end (stopped_fault stop.Unexpected rest b end)) (sym cut)
     (subst (λ v. PatternFaults MAX_NESTING tokens false end (stopped_fault stop.Unexpected v false end)) (sym none) fault)
 
--- the same for an answer that is that fault
-answered : (tokens s : List Placed) (whole : Bool) (end : ℕ) (out fault : ParseError) → s ≡ tokens → out ≡ fault → PatternFaults MAX_NESTING s whole end fault →
-    PatternFaults MAX_NESTING tokens whole end out
-answered tokens s whole end out fault is same x =
-    subst (λ t. PatternFaults MAX_NESTING t whole end out) is (subst (λ o. PatternFaults MAX_NESTING s whole end o) (sym same) x)
+-- what comes of the answer of the parser
+answered : (tokens rest : List Placed) (whole : Bool) (end : ℕ) (read : Result (Vec PathPattern Global) Stop) →
+    MatchResult read (λ all. PatternFound MAX_NESTING tokens rest all.items) (FailsAt MAX_NESTING want_path tokens rest) →
+    MatchResult (finished read rest whole end) (λ all. IsWholePattern MAX_NESTING whole tokens (map path_pattern_of all.items)) (PatternFaults MAX_NESTING tokens whole end)
+answered tokens rest whole end (Err why) f = stuck_fault tokens rest whole end why f.stuck
+answered tokens [] true end (Ok all) r = record { to_the_end = refl; spells = r.derives }
+answered tokens [] false end (Ok all) r = cut_behind tokens [] false end all.items r refl refl
+answered tokens (p ∷ s) whole end (Ok all) r =
+    stuck_fault tokens (p ∷ s) whole end stop.Unexpected (λ _. more_behind tokens (p ∷ s) all.items p.token r (record { placed = p; rest = s; is = refl; token = refl }))
 
-pub failed : (tokens s rest : List Placed) (whole : Bool) (end : ℕ) (why : Stop) (out : ParseError) → s ≡ tokens → FailsAt MAX_NESTING want_path s rest why →
-    out ≡ stopped_fault why rest whole end → PatternFaults MAX_NESTING tokens whole end out
-failed tokens s rest whole end why out is f same =
-    answered tokens s whole end out (stopped_fault why rest whole end) is same (stuck_fault s rest whole end why f.stuck)
-
-pub more_failed : (tokens s rest : List Placed) (whole : Bool) (end : ℕ) (out : ParseError) (all : List PathPattern) (t : Token) → s ≡ tokens →
-    PatternFound MAX_NESTING s rest all → IsFirst t rest → out ≡ stopped_fault stop.Unexpected rest whole end → PatternFaults MAX_NESTING tokens whole end out
-more_failed tokens s rest whole end out all t is r f same =
-    answered tokens s whole end out (stopped_fault stop.Unexpected rest whole end) is same
-    (stuck_fault s rest whole end stop.Unexpected (λ _. more_behind s rest all t r f))
-
-pub cut_failed : (tokens s rest : List Placed) (whole : Bool) (end : ℕ) (out : ParseError) (all : List PathPattern) → s ≡ tokens →
-    PatternFound MAX_NESTING s rest all → rest ≡ [] → whole ≡ false → out ≡ stopped_fault stop.Unexpected rest whole end → PatternFaults MAX_NESTING tokens whole end out
-cut_failed tokens s rest whole end out all is r none cut same =
-    answered tokens s whole end out (stopped_fault stop.Unexpected rest whole end) is same (cut_behind s rest whole end all r none cut)
+pub answers : (tokens s rest : List Placed) (whole : Bool) (end : ℕ) (read : Result (Vec PathPattern Global) Stop) (out : Result (Vec PathPattern Global) ParseError) →
+    s ≡ tokens → MatchResult read (λ all. PatternFound MAX_NESTING s rest all.items) (FailsAt MAX_NESTING want_path s rest) → out ≡ finished read rest whole end →
+    MatchResult out (λ all. IsWholePattern MAX_NESTING whole tokens (map path_pattern_of all.items)) (PatternFaults MAX_NESTING tokens whole end)
+answers tokens s rest whole end read out is r same =
+    subst (λ t. MatchResult out (λ all. IsWholePattern MAX_NESTING whole t (map path_pattern_of all.items)) (PatternFaults MAX_NESTING t whole end)) is
+    (subst (λ o. MatchResult o (λ all. IsWholePattern MAX_NESTING whole s (map path_pattern_of all.items)) (PatternFaults MAX_NESTING s whole end)) (sym same)
+    (answered s rest whole end read r))

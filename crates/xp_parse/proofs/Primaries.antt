@@ -20,7 +20,7 @@ use Rattle.xp_grammar.proofs.Steps.{after_comma}
 use Rattle.xp_grammar.proofs.Drives.{plus_zero}
 use Rattle.xp_parse.specs.declared.stop.Stop.{Stop}
 use Rattle.xp_parse.specs.declared.stop.Stop.TheVariants as stop
-use Rattle.xp_parse.specs.inner.Places.{IsFirst, Took, Refused, NotAt, IsNoPath, is_step_token, is_at_step}
+use Rattle.xp_parse.specs.inner.Places.{IsFirst, Took, TookBehind, Refused, NotAt, IsNoPath, is_step_token, is_at_step}
 use Rattle.xp_parse.specs.inner.Parsing.{Quiet, Settled, FailsInCall, OperandFails, ChainRead, PrimaryRead, ArgumentsRead, MoreArgumentsRead, trees_onto, ArgumentsSoFar}
 use Rattle.xp_parse.proofs.Failing.{took_shorter, took_on, stuck_after, stuck_at_end, stuck_at_first, stuck_over, stuck_not_at, none_but_function_open}
 use Rattle.xp_parse.proofs.Paths.{fresh_start, stuck_unclosed, refused_as, no_operator, snoc_trees, onto_trees, placed_at, no_step_turn}
@@ -149,7 +149,7 @@ unclosed_paren k token.CloseParen a b = absurd (a refl)
 unclosed_paren k (token.Operator o) a b = absurd (b o refl)
 unclosed_paren k _ a b = refl
 
-pub parens_unclosed : (limit d : ℕ) (s m v u : List Placed) (x : Tree) (why : Stop) → suc d ≤ limit → Took token.OpenParen s m →
+parens_unclosed : (limit d : ℕ) (s m v u : List Placed) (x : Tree) (why : Stop) → suc d ≤ limit → Took token.OpenParen s m →
     ChainRead limit level.Or (suc d) m v x → Refused token.CloseParen v u why → OperandFails limit level.Union d s u why
 parens_unclosed limit d s m v u x why room t r q = record {
   from = λ b j c fresh. record {
@@ -161,7 +161,7 @@ parens_unclosed limit d s m v u x why room t r q = record {
   };
 }
 
-pub parens_read : (limit d : ℕ) (s m v u : List Placed) (x : Tree) → suc d ≤ limit → Took token.OpenParen s m →
+parens_read : (limit d : ℕ) (s m v u : List Placed) (x : Tree) → suc d ≤ limit → Took token.OpenParen s m →
     ChainRead limit level.Or (suc d) m v x → Took token.CloseParen v u → PrimaryRead limit d s u x
 parens_read limit d s m v u x room t r q = record {
   derives =
@@ -171,6 +171,13 @@ parens_read limit d s m v u x room t r q = record {
       let a = took_shorter token.OpenParen s m t in let b = r.reads.shorter in let c = took_shorter token.CloseParen v u q in
       omega (arith, a, b, c);
 }
+
+pub parens_closed : (limit d : ℕ) (s m v u : List Placed) (inner : Expr) (out : Result Expr Stop) → suc d ≤ limit → Took token.OpenParen s m →
+    ChainRead limit level.Or (suc d) m v (tree_of inner) → MatchResult out (TookBehind inner token.CloseParen v u) (Refused token.CloseParen v u) →
+    MatchResult out (λ e. PrimaryRead limit d s u (tree_of e)) (OperandFails limit level.Union d s u)
+parens_closed limit d s m v u inner out room t r h = MatchResult-weaker out h
+    (λ e k. subst (λ y. PrimaryRead limit d s u (tree_of y)) (sym k.same) (parens_read limit d s m v u (tree_of inner) room t r k.took))
+    (λ why q. parens_unclosed limit d s m v u (tree_of inner) why room t r q)
 
 -- calls
 pub call_too_nested : (limit d : ℕ) (name : List ℕ) (s : List Placed) → limit ≤ d → IsFirst (token.Function name) s →

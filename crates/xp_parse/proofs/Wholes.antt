@@ -1,7 +1,10 @@
 -- The first fault of a whole expression.
 use Rattle.std.proofs.Common.{◌≡◌, ℕ, Bool, true, false, List, [], ◌∷◌, refl, sym, ◌∙◌, ap, subst}
+use Rattle.std.specs.Prelude.{Result, Ok, Err, MatchResult}
 use Rattle.sch_base.specs.declared.limits.TheConstants.{MAX_NESTING}
+use Rattle.xp_tree.specs.declared.expr.Expr.{Expr}
 use Rattle.xp_tree.specs.Tree.{Tree}
+use Rattle.xp_tree.specs.View.{tree_of}
 use Rattle.xp_tree.specs.declared.terms.Level.TheVariants as level
 use Rattle.xp_grammar.specs.declared.token.Placed.{Placed}
 use Rattle.xp_grammar.specs.declared.token.Token.{Token}
@@ -19,7 +22,7 @@ use Rattle.xp_parse.specs.declared.error.ParseError.TheVariants as error
 use Rattle.xp_parse.specs.inner.Places.{IsFirst}
 use Rattle.xp_parse.specs.inner.Parsing.{Stuck, OperandFails, ChainRead}
 use Rattle.xp_parse.specs.Whole.{Faults, IsWhole}
-use Rattle.xp_parse.specs.inner.Stopped.{OnlyIfNoMemory, at_end_fault, stopped_fault}
+use Rattle.xp_parse.specs.inner.Stopped.{OnlyIfNoMemory, at_end_fault, stopped_fault, finished}
 use Rattle.xp_parse.proofs.Paths.{no_operator, fresh_start}
 use Rattle.xp_parse.proofs.Primaries.{unclosed_top}
 
@@ -60,7 +63,7 @@ stuck_fault tokens (p ∷ rest) whole end stop.Unexpected x =
     fault_at_token MAX_NESTING tokens whole end s.mode s.stack p rest s.reaches (s.cause.at_token p rest refl)
 
 -- a whole expression with more behind it
-pub more_behind : (tokens rest : List Placed) (e : Tree) (t : Token) → ChainRead MAX_NESTING level.Or 0 tokens rest e → IsFirst t rest →
+more_behind : (tokens rest : List Placed) (e : Tree) (t : Token) → ChainRead MAX_NESTING level.Or 0 tokens rest e → IsFirst t rest →
     Stuck MAX_NESTING (want true 0 false) [] tokens rest stop.Unexpected
 more_behind tokens rest e t r f = record {
   mode = after r.reads.ending;
@@ -72,7 +75,7 @@ more_behind tokens rest e t r f = record {
   };
 }
 
-pub cut_behind : (tokens rest : List Placed) (whole : Bool) (end : ℕ) (e : Tree) → ChainRead MAX_NESTING level.Or 0 tokens rest e → rest ≡ [] → whole ≡ false →
+cut_behind : (tokens rest : List Placed) (whole : Bool) (end : ℕ) (e : Tree) → ChainRead MAX_NESTING level.Or 0 tokens rest e → rest ≡ [] → whole ≡ false →
     Faults MAX_NESTING tokens whole end (stopped_fault stop.Unexpected rest whole end)
 cut_behind tokens rest whole end e r none cut =
     let to : halt MAX_NESTING (want true 0 false) [] tokens ≡ halt MAX_NESTING (after r.reads.ending) [] [] =
@@ -81,31 +84,27 @@ cut_behind tokens rest whole end e r none cut =
     subst (λ b. Faults MAX_NESTING tokens b end (stopped_fault stop.Unexpected rest b end)) (sym cut)
     (subst (λ v. Faults MAX_NESTING tokens false end (stopped_fault stop.Unexpected v false end)) (sym none) fault)
 
-pub whole_read : (tokens rest : List Placed) (whole : Bool) (e : Tree) → ChainRead MAX_NESTING level.Or 0 tokens rest e → rest ≡ [] → whole ≡ true → IsWhole MAX_NESTING whole tokens e
+whole_read : (tokens rest : List Placed) (whole : Bool) (e : Tree) → ChainRead MAX_NESTING level.Or 0 tokens rest e → rest ≡ [] → whole ≡ true → IsWhole MAX_NESTING whole tokens e
 whole_read tokens rest whole e r none all = record {
   to_the_end = all;
   spells = subst (λ u. IsChain MAX_NESTING level.Or 0 tokens u e) none r.derives;
 }
 
--- the same for an answer that is that fault
-answered : (tokens s : List Placed) (whole : Bool) (end : ℕ) (out fault : ParseError) → s ≡ tokens → out ≡ fault → Faults MAX_NESTING s whole end fault →
-    Faults MAX_NESTING tokens whole end out
-answered tokens s whole end out fault is same x =
-    subst (λ t. Faults MAX_NESTING t whole end out) is (subst (λ o. Faults MAX_NESTING s whole end o) (sym same) x)
+-- what comes of the answer of the parser
+answered : (tokens rest : List Placed) (whole : Bool) (end : ℕ) (read : Result Expr Stop) →
+    MatchResult read (λ e. ChainRead MAX_NESTING level.Or 0 tokens rest (tree_of e)) (OperandFails MAX_NESTING level.Or 0 tokens rest) →
+    MatchResult (finished read rest whole end) (λ e. IsWhole MAX_NESTING whole tokens (tree_of e)) (Faults MAX_NESTING tokens whole end)
+answered tokens rest whole end (Err why) f =
+    stuck_fault tokens rest whole end why (λ nm. (f.from true 0 false (fresh_start level.Or tokens (λ t. tt))).stuck nm [] refl)
+answered tokens [] true end (Ok e) r = whole_read tokens [] true (tree_of e) r refl refl
+answered tokens [] false end (Ok e) r = cut_behind tokens [] false end (tree_of e) r refl refl
+answered tokens (p ∷ s) whole end (Ok e) r =
+    stuck_fault tokens (p ∷ s) whole end stop.Unexpected (λ _. more_behind tokens (p ∷ s) (tree_of e) p.token r (record { placed = p; rest = s; is = refl; token = refl }))
 
-pub failed : (tokens s rest : List Placed) (whole : Bool) (end : ℕ) (why : Stop) (out : ParseError) → s ≡ tokens → OperandFails MAX_NESTING level.Or 0 s rest why →
-    out ≡ stopped_fault why rest whole end → Faults MAX_NESTING tokens whole end out
-failed tokens s rest whole end why out is f same =
-    answered tokens s whole end out (stopped_fault why rest whole end) is same
-    (stuck_fault s rest whole end why (λ nm. (f.from true 0 false (fresh_start level.Or s (λ t. tt))).stuck nm [] refl))
-
-pub more_failed : (tokens s rest : List Placed) (whole : Bool) (end : ℕ) (out : ParseError) (e : Tree) (t : Token) → s ≡ tokens → ChainRead MAX_NESTING level.Or 0 s rest e →
-    IsFirst t rest → out ≡ stopped_fault stop.Unexpected rest whole end → Faults MAX_NESTING tokens whole end out
-more_failed tokens s rest whole end out e t is r f same =
-    answered tokens s whole end out (stopped_fault stop.Unexpected rest whole end) is same
-    (stuck_fault s rest whole end stop.Unexpected (λ _. more_behind s rest e t r f))
-
-pub cut_failed : (tokens s rest : List Placed) (whole : Bool) (end : ℕ) (out : ParseError) (e : Tree) → s ≡ tokens → ChainRead MAX_NESTING level.Or 0 s rest e → rest ≡ [] → whole ≡ false →
-    out ≡ stopped_fault stop.Unexpected rest whole end → Faults MAX_NESTING tokens whole end out
-cut_failed tokens s rest whole end out e is r none cut same =
-    answered tokens s whole end out (stopped_fault stop.Unexpected rest whole end) is same (cut_behind s rest whole end e r none cut)
+pub answers : (tokens s rest : List Placed) (whole : Bool) (end : ℕ) (read : Result Expr Stop) (out : Result Expr ParseError) → s ≡ tokens →
+    MatchResult read (λ e. ChainRead MAX_NESTING level.Or 0 s rest (tree_of e)) (OperandFails MAX_NESTING level.Or 0 s rest) → out ≡ finished read rest whole end →
+    MatchResult out (λ e. IsWhole MAX_NESTING whole tokens (tree_of e)) (Faults MAX_NESTING tokens whole end)
+answers tokens s rest whole end read out is r same =
+    subst (λ t. MatchResult out (λ e. IsWhole MAX_NESTING whole t (tree_of e)) (Faults MAX_NESTING t whole end)) is
+    (subst (λ o. MatchResult o (λ e. IsWhole MAX_NESTING whole s (tree_of e)) (Faults MAX_NESTING s whole end)) (sym same)
+    (answered s rest whole end read r))

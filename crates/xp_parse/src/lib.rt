@@ -3,7 +3,6 @@
 
 mod cursor;
 mod error;
-mod join;
 mod mark;
 mod parser;
 mod pattern;

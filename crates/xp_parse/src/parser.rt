@@ -9,14 +9,13 @@ ghost use Rattle.xp_parse.specs.inner.Parsing.{ChainRead, OperandRead, PathRead,
 ghost use Rattle.xp_grammar.specs.inner.Machine.{Ending, after};
 
 use crate::cursor::Cursor;
-use crate::join::{joined, with_signs, with_steps};
 use crate::mark::Mark;
 use crate::steps::everywhere;
 use crate::stop::Stop;
 use sch_base::MAX_NESTING;
 use std::alloc::Global;
 use xp_grammar::Token;
-use xp_tree::{Expr, Level, Operand};
+use xp_tree::{Chain, Expr, Level, Operand};
 
 /// Reads expressions from their tokens.
 #[derive(Drop)]
@@ -44,7 +43,7 @@ impl<'t, 'a> Parser<'t, 'a> {
         }
     }
 
-    /// A chain of the level.
+    /// A chain of the level, or its only operand.
     #[cycle(parser)]
     pub(crate) fn chain(&mut self, level: Level, depth: usize) -> Result<Expr, Stop>
         requires { depth ≤ MAX_NESTING }
@@ -53,8 +52,12 @@ impl<'t, 'a> Parser<'t, 'a> {
     {
         let offset = self.rest.offset();
         let first = self.operand(level, depth)?;
+        let Some(_) = self.rest.operator_of(level) else {
+            return Ok(first);
+        };
+        let first = Box::new(self.alloc, first)?;
         let rest = self.operands(level, depth)?;
-        joined(self.alloc, level, offset, first, rest)
+        Ok(Chain::new(offset, first, rest).at_level(level))
     }
 
     /// The later operands of a chain.
@@ -85,7 +88,11 @@ impl<'t, 'a> Parser<'t, 'a> {
         let offset = self.rest.offset();
         let count = self.signs(depth)?;
         let operand = self.chain(Level::Union, depth)?;
-        with_signs(self.alloc, offset, count, operand)
+        if count == 0 {
+            return Ok(operand);
+        }
+        let operand = Box::new(self.alloc, operand)?;
+        Ok(Expr::negated(offset, count, operand))
     }
 
     /// The minus signs at the place.
@@ -181,8 +188,12 @@ impl<'t, 'a> Parser<'t, 'a> {
     {
         let offset = self.rest.offset();
         let base = self.filter(depth)?;
+        if !self.rest.at_slash() {
+            return Ok(base);
+        }
+        let base = Box::new(self.alloc, base)?;
         let steps = Vec::new(self.alloc);
         let steps = self.more_steps(steps, depth)?;
-        with_steps(self.alloc, offset, base, steps)
+        Ok(Expr::from_nodes(offset, base, steps))
     }
 }

@@ -145,8 +145,8 @@ impl<'t, 'a> Parser<'t, 'a> {
         while self.rest.is_at(Mark::OpenBracket) {
             self.rest.advance();
             let predicate = self.chain(Level::Or, 1)?;
-            self.rest.take(Mark::CloseBracket)?;
             found.push(predicate)?;
+            self.rest.take(Mark::CloseBracket)?;
         }
         Ok(found)
     }

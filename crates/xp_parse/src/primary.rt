@@ -9,7 +9,6 @@ ghost use Rattle.xp_grammar.specs.inner.Machine.{Ending, want, after};
 ghost use Rattle.xp_parse.specs.inner.Places.{IsFirst, IsNoPath};
 ghost use Rattle.xp_parse.specs.inner.Parsing.{FailsInCall, OperandFails, FilterRead, PrimaryRead, ArgumentsRead, MoreArgumentsRead, Settled, Quiet};
 
-use crate::join::with_predicates;
 use crate::mark::Mark;
 use crate::parser::Parser;
 use crate::stop::Stop;
@@ -18,7 +17,7 @@ use xp_grammar::Token;
 use xp_tree::{Expr, Level};
 
 impl<'t, 'a> Parser<'t, 'a> {
-    /// A primary expression with its predicates.
+    /// A primary expression with its predicates, if it has any.
     #[cycle(parser)]
     pub(crate) fn filter(&mut self, depth: usize) -> Result<Expr, Stop>
         requires depth { depth ≤ MAX_NESTING }
@@ -28,8 +27,12 @@ impl<'t, 'a> Parser<'t, 'a> {
     {
         let offset = self.rest.offset();
         let base = self.primary(depth)?;
+        if !self.rest.is_at(Mark::OpenBracket) {
+            return Ok(base);
+        }
+        let base = Box::new(self.alloc, base)?;
         let predicates = self.predicates(depth)?;
-        with_predicates(self.alloc, offset, base, predicates)
+        Ok(Expr::filtered(offset, base, predicates))
     }
 
     /// A primary expression.
@@ -82,8 +85,7 @@ impl<'t, 'a> Parser<'t, 'a> {
         }
         self.rest.advance();
         let inner = self.chain(Level::Or, depth + 1)?;
-        self.rest.take(Mark::CloseParen)?;
-        Ok(inner)
+        self.rest.take_behind(Mark::CloseParen, inner)
     }
 
     /// A call of the function whose name stands at the place.

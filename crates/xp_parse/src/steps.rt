@@ -256,8 +256,8 @@ impl<'t, 'a> Parser<'t, 'a> {
             }
             self.rest.advance();
             let predicate = self.chain(Level::Or, depth + 1)?;
-            self.rest.take(Mark::CloseBracket)?;
             found.push(predicate)?;
+            self.rest.take(Mark::CloseBracket)?;
         }
         Ok(found)
     }

@@ -6,7 +6,7 @@ ghost use Rattle.xp_parse.specs.declared.stop.Stop.TheVariants as stop;
 use std::alloc::{AllocError, AllocFailed};
 
 /// Why the parser stopped at the first of the tokens that are left.
-#[derive(Clone, Copy, Debug, PartialEq, Eq)]
+#[derive(Clone, Copy)]
 pub(crate) enum Stop {
     /// The token, or the end, does not belong there.
     Unexpected,

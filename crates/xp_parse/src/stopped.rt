@@ -1,7 +1,7 @@
 //! The fault where a parser stopped.
 
 ghost use Rattle.std.specs.Prelude.{◌≡◌};
-ghost use Rattle.xp_parse.specs.inner.Stopped.{at_end_fault, stopped_fault};
+ghost use Rattle.xp_parse.specs.inner.Stopped.{at_end_fault, stopped_fault, finished};
 
 use crate::cursor::Cursor;
 use crate::error::ParseError;
@@ -44,5 +44,23 @@ pub(crate) fn fault_of(rest: &Cursor, stop: Stop, whole: bool, end: u32) -> Pars
                 None => ParseError::Fault(fault_at_end(whole, end)),
             }
         }
+    }
+}
+
+/// What was read, if no token is left and the text was read whole; else the fault where the parser stopped.
+pub(crate) fn finished<T: Drop>(
+    read: Result<T, Stop>,
+    rest: &Cursor,
+    whole: bool,
+    end: u32,
+) -> Result<T, ParseError>
+    ensures { result ≡ finished read rest.now whole end }
+{
+    match read {
+        Err(stop) => Err(fault_of(rest, stop, whole, end)),
+        Ok(part) => match rest.token() {
+            None if whole => Ok(part),
+            _ => Err(fault_of(rest, Stop::Unexpected, whole, end)),
+        },
     }
 }

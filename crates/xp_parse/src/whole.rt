@@ -8,8 +8,7 @@ ghost use Rattle.xp_parse.specs.Whole.{Faults, IsWhole, IsWholePattern, PatternF
 use crate::cursor::Cursor;
 use crate::error::ParseError;
 use crate::parser::Parser;
-use crate::stop::Stop;
-use crate::stopped::fault_of;
+use crate::stopped::finished;
 use sch_base::MAX_NESTING;
 use std::alloc::Global;
 use xp_grammar::Placed;
@@ -29,14 +28,8 @@ pub fn parse_tokens(
         alloc,
         rest: Cursor::new(tokens),
     };
-    match parser.chain(Level::Or, 0) {
-        Err(stop) => Err(fault_of(&parser.rest, stop, whole, end)),
-        Ok(expr) => match parser.rest.token() {
-            Some(_) => Err(fault_of(&parser.rest, Stop::Unexpected, whole, end)),
-            None if whole => Ok(expr),
-            None => Err(fault_of(&parser.rest, Stop::Unexpected, whole, end)),
-        },
-    }
+    let read = parser.chain(Level::Or, 0);
+    finished(read, &parser.rest, whole, end)
 }
 
 /// The pattern that the tokens are, or the first fault; the tokens were read up to a place, to the end of the text or
@@ -53,12 +46,7 @@ pub fn parse_pattern_tokens(
         alloc,
         rest: Cursor::new(tokens),
     };
-    match parser.pattern() {
-        Err(stop) => Err(fault_of(&parser.rest, stop, whole, end)),
-        Ok(paths) => match parser.rest.token() {
-            Some(_) => Err(fault_of(&parser.rest, Stop::Unexpected, whole, end)),
-            None if whole => Ok(Pattern { paths }),
-            None => Err(fault_of(&parser.rest, Stop::Unexpected, whole, end)),
-        },
-    }
+    let read = parser.pattern();
+    let paths = finished(read, &parser.rest, whole, end)?;
+    Ok(Pattern { paths })
 }

@@ -4,7 +4,7 @@ ghost use Rattle.std.specs.Prelude.{◌≡◌, MatchResult, MatchOption, IsTrue,
 ghost use Rattle.xp_grammar.specs.declared.token.Token.TheVariants as token;
 ghost use Rattle.xp_grammar.specs.Parts.{level_of};
 ghost use Rattle.xp_tree.specs.declared.terms.Operator.TheVariants as operator;
-ghost use Rattle.xp_parse.specs.inner.Places.{Took, Refused, StandsFirst, token_of, IsOperatorOf, NoOperatorOf, is_step_token, is_at_step};
+ghost use Rattle.xp_parse.specs.inner.Places.{Took, Refused, StandsFirst, token_of, TookBehind, IsOperatorOf, NoOperatorOf, is_step_token, is_at_step, is_at_slash};
 
 use crate::cursor::Cursor;
 use crate::mark::Mark;
@@ -56,6 +56,14 @@ impl<'t, 'a> Cursor<'t, 'a> {
         Ok(())
     }
 
+    /// Takes the mark behind a part that was read, and gives the part back.
+    pub(crate) fn take_behind<T: Drop>(&mut self, mark: Mark, part: T) -> Result<T, Stop>
+        ensures { MatchResult result (λ kept. TookBehind part (token_of mark) self.old self.new kept) (Refused (token_of mark) self.old self.new) }
+    {
+        self.take(mark)?;
+        Ok(part)
+    }
+
     /// Whether the mark stands at the place.
     pub(crate) fn is_at(&self, mark: Mark) -> bool
         ensures { StandsFirst (token_of mark) self.now result }
@@ -72,6 +80,16 @@ impl<'t, 'a> Cursor<'t, 'a> {
     {
         match self.token() {
             Some(first) => begins_step(first),
+            None => false,
+        }
+    }
+
+    /// Whether `/` or `//` stands at the place.
+    pub(crate) fn at_slash(&self) -> bool
+        ensures { result ≡ is_at_slash self.now }
+    {
+        match self.token() {
+            Some(first) => matches!(first, Token::Slash | Token::DoubleSlash),
             None => false,
         }
     }

@@ -163,6 +163,8 @@ pub record MoreStepsRead (limit d : ℕ) (e : Ending) (found : List Step) (s u :
   pub are : steps_seen all ≡ steps_onto found steps
   pub ending : Ending
   pub settled : Settled ending u
+  pub no_slash : NotAt token.Slash u
+  pub no_double_slash : NotAt token.DoubleSlash u
   pub shorter : length u ≤ length s
   pub halts : (k : List Bracket) → length k ≡ d → halt limit (after e) k s ≡ halt limit (after ending) k u
 

@@ -40,6 +40,11 @@ pub record Took (t : Token) (s u : List Placed) : Type 0 where
   pub is : s ≡ placed ∷ u
   pub token : placed.token ≡ t
 
+-- the token stood first and was taken, and the part before it was given back
+pub record TookBehind {T : Type 0} (part : T) (t : Token) (s u : List Placed) (kept : T) : Type 0 where
+  pub took : Took t s u
+  pub same : kept ≡ part
+
 -- the token does not stand first
 abbrev pub NotAt : Token → List Placed → Type 0
 NotAt t s = (p : Placed) (rest : List Placed) → s ≡ p ∷ rest → p.token ≡ t → ⊥
@@ -79,6 +84,16 @@ is_step_token _ = false
 abbrev pub is_at_step : List Placed → Bool
 is_at_step [] = false
 is_at_step (p ∷ s) = is_step_token p.token
+
+-- whether `/` or `//` stands first
+abbrev pub is_slash : Token → Bool
+is_slash token.Slash = true
+is_slash token.DoubleSlash = true
+is_slash _ = false
+
+abbrev pub is_at_slash : List Placed → Bool
+is_at_slash [] = false
+is_at_slash (p ∷ s) = is_slash p.token
 
 -- no path begins at the place, unless by an expression that is no path
 pub record IsNoPath (s : List Placed) : Type 0 where

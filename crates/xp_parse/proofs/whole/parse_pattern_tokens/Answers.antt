@@ -1,11 +1,11 @@
-use Rattle.xp_parse.proofs.PatternWholes.{failed, more_failed, cut_failed}
+use Rattle.xp_parse.proofs.Exits.{exits}
+use Rattle.xp_parse.proofs.PatternWholes.{answers}
 use Rattle.xp_parse.proofs.whole.parse_pattern_tokens.Goals as goal
 
-pub returns-in-Err : goal.returns-in-Err
-returns-in-Err c = failed _ _ _ _ _ _ _ c.new.ensures c.in-Err.ensures c.fault_of.ensures
+pub returns-in_err-paths : goal.returns-in_err-paths
+returns-in_err-paths c =
+    exits _ _ _ c.in_err-paths.field-0.0 c.from_residual.ensures.1
+    (answers _ _ _ c.args.whole c.args.end _ _ c.new.ensures c.pattern-read.ensures c.in_err-paths.ensures)
 
-pub returns-in-Some : goal.returns-in-Some
-returns-in-Some c = more_failed _ _ _ _ _ _ _ _ c.new.ensures c.in-Ok.ensures c.in-Some.ensures c.fault_of-in-Some.ensures
-
-pub returns-in-None-2 : goal.returns-in-None-2
-returns-in-None-2 c = cut_failed _ _ _ _ _ _ _ c.new.ensures c.in-Ok.ensures c.in-None-2.ensures c.if-whole.false c.fault_of-in-None-2.ensures
+pub returns : goal.returns
+returns c = answers _ _ _ c.args.whole c.args.end _ _ c.new.ensures c.pattern-read.ensures c.in_ok-paths.ensures

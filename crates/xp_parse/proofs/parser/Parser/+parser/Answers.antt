@@ -3,13 +3,15 @@ use Rattle.sch_base.specs.declared.limits.TheConstants.{MAX_NESTING}
 use Rattle.xp_tree.specs.declared.terms.Level.TheVariants as level
 use Rattle.xp_grammar.specs.declared.token.Token.TheVariants as token
 use Rattle.xp_grammar.specs.inner.Machine.{full, need_test}
+use Rattle.xp_tree.specs.View.{tree_of}
+use Rattle.xp_parse.specs.inner.Places.{StandsFirst}
 use Rattle.xp_parse.specs.inner.Parsing.{Leads}
 use Rattle.xp_parse.proofs.Exits.{exits}
 use Rattle.xp_parse.proofs.Failing.{took_of, took_shorter, first_same, stuck_at_end, stuck_at_first}
-use Rattle.xp_parse.proofs.Chains.{operand_of_chain, operand_of_path, chain_rest_fails, chain_read, operands_start, operands_fail, operands_more, operands_read, signed_fails, signed_read, signs_length, weight_small}
-use Rattle.xp_parse.proofs.Paths.{root_read, root_fails, root_steps_read, anywhere_fails, anywhere_read, here_fails, here_read, filter_fails, filter_path_read, base_fails, filter_read, lead_shorter, more_steps_fail, steps_more, more_steps_read, steps_read, dot_read, parent_read, at_steps, axis_steps, axis_fails, no_step_begins, child_steps, test_token, test_fails, predicates_too_nested, predicate_fails, predicate_unclosed, predicates_more, predicates_read}
+use Rattle.xp_parse.proofs.Chains.{operand_of_chain, operand_of_path, chain_rest_fails, chain_alone, chain_read, operands_start, operands_fail, operands_more, operands_read, signed_fails, unsigned_read, signed_read, signs_length, weight_small}
+use Rattle.xp_parse.proofs.Paths.{root_read, root_fails, root_steps_read, anywhere_fails, anywhere_read, here_fails, here_read, filter_fails, filter_alone_read, filter_path_read, base_fails, bare_filter_read, filter_read, lead_shorter, more_steps_fail, steps_more, more_steps_read, steps_read, dot_read, parent_read, at_steps, axis_steps, axis_fails, no_step_begins, child_steps, test_token, test_fails, predicates_too_nested, predicate_fails, predicate_unclosed, predicates_more, predicates_read}
 use Rattle.xp_parse.proofs.NodeTests.{test_refused}
-use Rattle.xp_parse.proofs.Primaries.{end_fails, no_primary, variable_read, literal_read, number_read, parens_too_nested, parens_fail, parens_unclosed, parens_read, call_too_nested, call_unopened, call_fails, call_unclosed, call_read, no_arguments_read, first_fails, arguments_read, arguments_start, argument_fails, arguments_more, more_arguments_read, fails_suc, arguments_suc, operand_fails_suc, chain_suc}
+use Rattle.xp_parse.proofs.Primaries.{end_fails, no_primary, variable_read, literal_read, number_read, parens_too_nested, parens_fail, parens_closed, call_too_nested, call_unopened, call_fails, call_unclosed, call_read, no_arguments_read, first_fails, arguments_read, arguments_start, argument_fails, arguments_more, more_arguments_read, fails_suc, arguments_suc, operand_fails_suc, chain_suc}
 use Rattle.xp_parse.proofs.parser.Parser.+parser.Goals as goal
 
 pub arguments-returns-then-is_at : goal.arguments-returns-then-is_at
@@ -54,18 +56,27 @@ chain-returns-in_err-rest n c =
     exits _ _ _ c.in_err-rest.field-0.0 c.from_residual-in_err-rest.ensures.1
     (chain_rest_fails MAX_NESTING _ _ _ _ _ _ _ r (c.in_err-rest.ensures r.reads.ending r.reads.settled r.reads.quiet))
 
+pub chain-returns-in_default : goal.chain-returns-in_default
+chain-returns-in_default n c = chain_alone MAX_NESTING _ _ _ _ _ c.in_ok-first.ensures c.in_default.ensures
+
 pub chain-returns : goal.chain-returns
 chain-returns n c =
     let r = c.in_ok-first.ensures in
-    chain_read MAX_NESTING _ _ _ _ _ _ _ _ _ r (c.in_ok-rest.ensures r.reads.ending r.reads.settled r.reads.quiet) c.offset-offset.ensures c.joined.ensures
+    chain_read MAX_NESTING _ _ _ _ _ _ _ _ _ _ _ r c.in-Some.ensures (c.in_ok-rest.ensures r.reads.ending r.reads.settled r.reads.quiet) c.offset-offset.ensures
+    (ap tree_of c.in_ok-first-2.ensures.ok) (c.at_level.ensures ∙ c.new-2.ensures c.args.level)
 
 pub filter-returns-in_err-predicates : goal.filter-returns-in_err-predicates
 filter-returns-in_err-predicates n c =
     exits _ _ _ c.in_err-predicates.field-0.0 c.from_residual-in_err-predicates.ensures.1
     (base_fails MAX_NESTING _ _ _ _ _ _ c.requires.depth c.in_ok-base.ensures c.in_err-predicates.ensures)
 
+pub filter-returns-then-not-is_at : goal.filter-returns-then-not-is_at
+filter-returns-then-not-is_at n c = bare_filter_read MAX_NESTING _ _ _ _ c.in_ok-base.ensures (subst (StandsFirst _ _) c.if-not-is_at.true c.is_at.ensures)
+
 pub filter-returns : goal.filter-returns
-filter-returns n c = filter_read MAX_NESTING _ _ _ _ _ _ _ _ c.in_ok-base.ensures c.offset-offset.ensures c.in_ok-predicates.ensures c.with_predicates.ensures
+filter-returns n c =
+    filter_read MAX_NESTING _ _ _ _ _ _ _ _ _ c.in_ok-base.ensures (subst (StandsFirst _ _) c.if-not-is_at.false c.is_at.ensures)
+    c.offset-offset.ensures c.in_ok-predicates.ensures (ap tree_of c.in_ok-base-2.ensures.ok) c.filtered.ensures
 
 pub from_anywhere-returns-in_err-steps : goal.from_anywhere-returns-in_err-steps
 from_anywhere-returns-in_err-steps n c =
@@ -83,9 +94,13 @@ from_filter-returns-in_err-steps n c =
     exits _ _ _ c.in_err-steps.field-0.0 c.from_residual-in_err-steps.ensures.1
     (filter_fails MAX_NESTING _ _ _ _ _ _ c.requires.depth c.in_ok-base.ensures (c.in_err-steps.ensures full c.in_ok-base.ensures.closed))
 
+pub from_filter-returns-then-not-at_slash : goal.from_filter-returns-then-not-at_slash
+from_filter-returns-then-not-at_slash n c = filter_alone_read MAX_NESTING _ _ _ _ c.requires.depth c.in_ok-base.ensures (sym c.at_slash.ensures ∙ c.if-not-at_slash.true)
+
 pub from_filter-returns : goal.from_filter-returns
 from_filter-returns n c =
-    filter_path_read MAX_NESTING _ _ _ _ _ _ _ _ _ c.requires.depth c.in_ok-base.ensures c.offset-offset.ensures c.new-steps.ensures.items (c.in_ok-steps.ensures full c.in_ok-base.ensures.closed) c.with_steps.ensures
+    filter_path_read MAX_NESTING _ _ _ _ _ _ _ _ _ _ c.requires.depth c.in_ok-base.ensures (sym c.at_slash.ensures ∙ c.if-not-at_slash.false) c.offset-offset.ensures
+    c.new-steps.ensures.items (c.in_ok-steps.ensures full c.in_ok-base.ensures.closed) (ap tree_of c.in_ok-base-2.ensures.ok) c.from_nodes.ensures
 
 pub from_here-returns-in_err-steps : goal.from_here-returns-in_err-steps
 from_here-returns-in_err-steps n c =
@@ -120,16 +135,10 @@ in_parens-returns-in_err-inner n c =
     exits _ _ _ c.in_err-inner.field-0.0 c.from_residual.ensures.1
     (parens_fail MAX_NESTING _ _ _ _ _ (omega (arith, c.if-depth-ge-MAX_NESTING.false)) (took_of _ _ _ f (c.advance.ensures f.placed f.rest f.is)) (operand_fails_suc _ _ _ _ _ _ c.in_err-inner.ensures))
 
-pub in_parens-returns-in_err-take : goal.in_parens-returns-in_err-take
-in_parens-returns-in_err-take n c =
-    let f = c.requires.first in
-    exits _ _ _ c.in_err-take.field-0.0 c.from_residual-in_err-take.ensures.1
-    (parens_unclosed MAX_NESTING _ _ _ _ _ _ _ (omega (arith, c.if-depth-ge-MAX_NESTING.false)) (took_of _ _ _ f (c.advance.ensures f.placed f.rest f.is)) (chain_suc _ _ _ _ _ _ c.in_ok-inner.ensures) c.in_err-take.ensures)
-
 pub in_parens-returns : goal.in_parens-returns
 in_parens-returns n c =
     let f = c.requires.first in
-    parens_read MAX_NESTING _ _ _ _ _ _ (omega (arith, c.if-depth-ge-MAX_NESTING.false)) (took_of _ _ _ f (c.advance.ensures f.placed f.rest f.is)) (chain_suc _ _ _ _ _ _ c.in_ok-inner.ensures) c.in_ok-take.ensures
+    parens_closed MAX_NESTING _ _ _ _ _ _ _ (omega (arith, c.if-depth-ge-MAX_NESTING.false)) (took_of _ _ _ f (c.advance.ensures f.placed f.rest f.is)) (chain_suc _ _ _ _ _ _ c.in_ok-inner.ensures) c.take_behind.ensures
 
 pub more_arguments-loop-self-init : goal.more_arguments-loop-self-init
 more_arguments-loop-self-init n c =
@@ -285,9 +294,13 @@ pub signed-returns-in_err-operand : goal.signed-returns-in_err-operand
 signed-returns-in_err-operand n c =
     exits _ _ _ c.in_err-operand.field-0.0 c.from_residual-in_err-operand.ensures.1 (signed_fails MAX_NESTING _ _ _ _ _ _ c.in_ok-count.ensures c.in_err-operand.ensures)
 
+pub signed-returns-then-count-eq0 : goal.signed-returns-then-count-eq0
+signed-returns-then-count-eq0 n c = unsigned_read MAX_NESTING _ _ _ _ _ _ c.in_ok-count.ensures c.in_ok-operand.ensures c.if-count-eq0.true
+
 pub signed-returns : goal.signed-returns
 signed-returns n c =
-    signed_read MAX_NESTING _ _ _ _ _ _ _ _ c.in_ok-count.ensures c.in_ok-operand.ensures c.offset-offset.ensures c.with_signs.ensures
+    signed_read MAX_NESTING _ _ _ _ _ _ _ _ _ c.in_ok-count.ensures c.in_ok-operand.ensures c.if-count-eq0.false c.offset-offset.ensures
+    (ap tree_of c.in_ok-operand-2.ensures.ok) c.negated.ensures
 
 pub step-returns-in_default : goal.step-returns-in_default
 step-returns-in_default n c =
