@@ -1,9 +1,9 @@
 -- Texts read as numbers: what stands at the front, and the value of digits.
-use Rattle.std.proofs.Common.{◌≡◌, ℕ, ◌+◌, ◌-◌, ◌*◌, ◌<◌, ◌≤◌, suc, zero, Bool, true, false, not, cond, List, [], ◌∷◌, length, take, drop, fold, None, Some, Ok, Err, refl, sym, ap, ◌∙◌, arith, nat_le, ltb, ltb-false}
+use Rattle.std.proofs.Common.{◌≡◌, ℕ, ◌+◌, ◌-◌, ◌*◌, ◌<◌, ◌≤◌, suc, zero, Bool, true, false, cond, eqb, ◌&&◌, List, [], ◌∷◌, ◌++◌, length, take, drop, get_or, drop-cons, fold, None, Some, Ok, Err, refl, sym, ap, ap₂, ◌∙◌, arith, nat_le, append-nil, append_assoc}
 use Rattle.std.specs.Prelude.{unsigned_abs}
-use Rattle.std.specs.List.{position, prefix_len}
-use Rattle.std.proofs.Math.Numerals.{one-add}
-use Rattle.std.proofs.lemmas.List.{take_all, drop_all}
+use Rattle.std.specs.List.{list_all}
+use Rattle.std.proofs.lemmas.List.{take_all, drop_all, take_more}
+use Rattle.std.proofs.lemmas.Bool.Decides.{nat_tests}
 use Rattle.std.proofs.lemmas.Bool.{leb-true}
 use Rattle.xp_values.specs.declared.numbers.Num.TheVariants.{Whole}
 use Rattle.xp_tree.specs.declared.numbers.TheConstants.{MAX_WHOLE}
@@ -12,47 +12,60 @@ use Rattle.xp_values.specs.Numbers.{whole_number}
 use Rattle.xp_tree.specs.Decimals.{decimal_value}
 use Rattle.xp_values.specs.Numerals.{front, past, bounded, signed, are_zeros, number_written}
 
-abbrev front_len : (ℕ → Bool) → List ℕ → ℕ
-front_len test xs = prefix_len (λ x. not (not (test x))) xs
+-- the first bytes pass a test, up to a place
+pub record Passed (test : ℕ → Bool) (xs : List ℕ) (i : ℕ) : Type 0 where
+  pub front_is : front test xs ≡ take i xs ++ front test (drop i xs)
+  pub past_is : past test xs ≡ past test (drop i xs)
 
-record Cut (test : ℕ → Bool) (xs : List ℕ) : Type 0 where
-  front_is : take (front_len test xs) xs ≡ front test xs
-  past_is : drop (front_len test xs) xs ≡ past test xs
-  fits : front_len test xs ≤ length xs
+pub passed_none : (test : ℕ → Bool) (xs : List ℕ) → Passed test xs 0
+passed_none test xs = record { front_is = refl; past_is = refl }
 
-cut : (test : ℕ → Bool) (xs : List ℕ) → Cut test xs
-cut test [] = record { front_is = refl; past_is = refl; fits = omega arith }
-cut test (x ∷ xs) = by (test x) refl (cut test xs)
+module _ (test : ℕ → Bool) (xs : List ℕ) (i : ℕ) (p : Passed test xs i) where
+  -- all bytes pass
+  pub passed_all : length xs ≤ i → (xs ≡ front test xs) × ([] ≡ past test xs)
+  passed_all least =
+      let none : drop i xs ≡ [] = drop_all i xs least in
+      (sym (p.front_is ∙ ap₂ (λ a b. a ++ front test b) (take_all i xs least) none ∙ append-nil xs), sym (p.past_is ∙ ap (past test) none))
+
+  module _ (b : ℕ) (less : i < length xs) (here : b ≡ get_or xs i 0) where
+    rest_is : drop i xs ≡ b ∷ drop (i + 1) xs
+    rest_is =
+        let next : suc i ≡ i + 1 = omega arith in
+        drop-cons xs i 0 less ∙ ap₂ (λ x n. x ∷ drop n xs) (sym here) next
+
+    -- the byte at the place passes
+    pub passed_more : test b ≡ true → Passed test xs (i + 1)
+    passed_more passes =
+        let more : take (i + 1) xs ≡ take i xs ++ b ∷ [] = take_more xs i 0 less ∙ ap (λ k. take i xs ++ k ∷ []) (sym here) in
+        let kept : front test (b ∷ drop (i + 1) xs) ≡ b ∷ front test (drop (i + 1) xs) = rw passes refl in
+        let passed : past test (b ∷ drop (i + 1) xs) ≡ past test (drop (i + 1) xs) = rw passes refl in
+        record {
+          front_is =
+              p.front_is
+              ∙ (ap (λ l. take i xs ++ l) (ap (front test) rest_is ∙ kept)
+              ∙ sym (ap (λ l. l ++ front test (drop (i + 1) xs)) more ∙ simp append_assoc));
+          past_is = p.past_is ∙ (ap (past test) rest_is ∙ passed);
+        }
+
+    -- or it doesn't, and nothing after it counts
+    pub passed_front : test b ≡ false → take i xs ≡ front test xs
+    passed_front fails =
+        let none : front test (b ∷ drop (i + 1) xs) ≡ [] = rw fails refl in
+        sym (p.front_is ∙ (ap (λ l. take i xs ++ l) (ap (front test) rest_is ∙ none) ∙ append-nil (take i xs)))
+
+    pub passed_past : test b ≡ false → drop i xs ≡ past test xs
+    passed_past fails =
+        let all : past test (b ∷ drop (i + 1) xs) ≡ b ∷ drop (i + 1) xs = rw fails refl in
+        sym (p.past_is ∙ (ap (past test) rest_is ∙ (all ∙ sym rest_is)))
+
+-- nothing stands after the front where all bytes pass
+pub all_past : (test : ℕ → Bool) (xs : List ℕ) → eqb (length (past test xs)) 0 ≡ list_all test xs
+all_past test [] = refl
+all_past test (x ∷ xs) = by (test x) (all_past test xs)
   where
-    by : (b : Bool) → test x ≡ b → Cut test xs → Cut test (x ∷ xs)
-    by true e rest = record {
-      front_is = rw (e, one-add) (ap (λ l. x ∷ l) rest.front_is);
-      past_is = rw (e, one-add) rest.past_is;
-      fits = rw e (omega (arith, rest.fits));
-    }
-    by false e rest = record { front_is = rw e refl; past_is = rw e refl; fits = rw e (omega arith) }
-
--- a list cut at the first byte that fails a test
-pub record CutAt (test : ℕ → Bool) (xs : List ℕ) (i : ℕ) : Type 0 where
-  pub front_is : take i xs ≡ front test xs
-  pub past_is : drop i xs ≡ past test xs
-  pub fits : i ≤ length xs
-
-pub cut_at : (test : ℕ → Bool) (xs : List ℕ) (i : ℕ) → position (λ b. not (test b)) xs ≡ Some i → CutAt test xs i
-cut_at test xs i h = by (ltb (front_len test xs) (length xs)) (cut test xs) h
-  where
-    by : (b : Bool) → Cut test xs → cond b (Some (front_len test xs)) None ≡ Some i → CutAt test xs i
-    by false c h = absurd (cc)
-    by true c h = let e : front_len test xs ≡ i = (cc) in record { front_is = rw (← e) c.front_is; past_is = rw (← e) c.past_is; fits = rw (← e) c.fits }
-
-pub cut_none : (test : ℕ → Bool) (xs : List ℕ) → position (λ b. not (test b)) xs ≡ None → (xs ≡ front test xs) × ([] ≡ past test xs)
-cut_none test xs h = by (ltb (front_len test xs) (length xs)) refl (cut test xs) h
-  where
-    by : (b : Bool) → ltb (front_len test xs) (length xs) ≡ b → Cut test xs → cond b (Some (front_len test xs)) None ≡ None → (xs ≡ front test xs) × ([] ≡ past test xs)
-    by true e c h = absurd (cc)
-    by false e c h =
-        let least : length xs ≤ front_len test xs = ltb-false (front_len test xs) (length xs) e in
-        (sym (take_all (front_len test xs) xs least) ∙ c.front_is, sym (drop_all (front_len test xs) xs least) ∙ c.past_is)
+    by : (b : Bool) → eqb (length (past test xs)) 0 ≡ list_all test xs → eqb (length (cond b (past test xs) (x ∷ xs))) 0 ≡ (b && list_all test xs)
+    by true rest = rest
+    by false rest = grind (arith, nat_tests)
 
 abbrev with_digit : ℕ → ℕ → ℕ
 with_digit value digit = value * 10 + (digit - 48)

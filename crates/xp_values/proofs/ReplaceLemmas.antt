@@ -1,10 +1,12 @@
 -- Characters and their counterparts, and a text that grows up to its limit.
-use Rattle.std.proofs.Common.{◌≡◌, ℕ, ◌+◌, ◌<◌, ◌≤◌, Bool, true, false, cond, List, [], ◌∷◌, ◌++◌, length, take, get_or, slice_get, eqb, eqb-true, is_some, Option, None, Some, Ok, Err, refl, sym, ap, ◌∙◌, true≢false, arith, length-append, append-nil, append_assoc}
-use Rattle.std.specs.Prelude.{encode_utf8_all, nat_le}
+use Rattle.std.proofs.Common.{◌≡◌, ℕ, ◌+◌, ◌<◌, ◌≤◌, Bool, true, false, cond, List, [], ◌∷◌, ◌++◌, length, drop, chars, slice_get, eqb, eqb-true, is_some, Option, None, Some, Ok, Err, refl, sym, ap, ◌∙◌, true≢false, arith, length-append, append-nil, append_assoc}
+use Rattle.std.specs.Prelude.{encode_utf8_all, nat_le, IsUtf8}
+use Rattle.std.specs.Str.Iter.{chars_rest, chars_steps}
+use Rattle.std.specs.declared.str.Chars.{Chars}
 use Rattle.std.specs.List.{flat_map}
-use Rattle.std.proofs.lemmas.Str.{encodes-append}
+use Rattle.std.proofs.lemmas.List.{nil_from_length}
+use Rattle.std.proofs.lemmas.Str.{chars-nil, encodes-append, chars_past_char, IsUtf8-past_char}
 use Rattle.std.proofs.lemmas.Bool.{leb-true, leb-false}
-use Rattle.std.proofs.lemmas.List.{take_more, length-take}
 use Rattle.sch_base.specs.declared.limits.TheConstants.{MAX_TEXT_BYTES}
 use Rattle.xp_values.specs.declared.values.EvalFault.TheVariants.{TextLimit}
 use Rattle.xp_values.specs.Texts.{counterpart, limited}
@@ -34,38 +36,70 @@ or-else-none : (o : Option (Option ℕ)) → or_else o None ≡ o
 or-else-none None = refl
 or-else-none (Some x) = refl
 
-module _ (from to : List ℕ) (i f : ℕ) (less : i < length from) (here : f ≡ get_or from i f) where
-  next : (q : ℕ) → counterpart (take (i + 1) from) to q ≡ or_else (counterpart (take i from) to q) (cond (eqb f q) (Some (slice_get to i)) None)
-  next q =
-      ap (λ l. counterpart l to q) (take_more from i f less ∙ ap (λ k. take i from ++ k ∷ []) (sym here))
-      ∙ (counterpart-push (take i from) to f q
-      ∙ ap (λ n. or_else (counterpart (take i from) to q) (cond (eqb f q) (Some (slice_get to n)) None)) (omega (arith, length-take i from)))
+-- so many characters of `to` are passed over as there are in `from`, and the rest is a text
+pub record Beside (from to rest : List ℕ) : Type 0 where
+  pub utf8 : IsUtf8 rest
+  pub left : chars rest ≡ drop (length from) to
 
-  -- a new character takes the one at its place
-  pub new_counterpart : is_some (counterpart (take i from) to f) ≡ false → (q : ℕ) →
-      cond (eqb f q) (Some (slice_get to i)) (counterpart (take i from) to q) ≡ counterpart (take (i + 1) from) to q
+pub beside_start : (to : List ℕ) → IsUtf8 to → Beside [] (chars to) to
+beside_start to u = record { utf8 = u; left = refl }
+
+drop_more : (from to : List ℕ) (f : ℕ) → drop (length (from ++ f ∷ [])) to ≡ drop 1 (drop (length from) to)
+drop_more [] [] f = refl
+drop_more [] (t ∷ to) f = refl
+drop_more (x ∷ from) [] f = refl
+drop_more (x ∷ from) (t ∷ to) f = drop_more from to f
+
+-- one character more of each, where there is one
+pub beside_more : (from to : List ℕ) (f : ℕ) (s t : Chars) (o : Option ℕ) → Beside from to (chars_rest s) → chars_steps s o t → Beside (from ++ f ∷ []) to (chars_rest t)
+beside_more from to f s t None b steps =
+    let empty : chars_rest s ≡ [] = nil_from_length (chars_rest s) steps.0.0 in
+    let same : chars_rest t ≡ chars_rest s = ap chars_rest steps.0.1 in
+    let none : chars (chars_rest s) ≡ [] = ap chars empty ∙ chars-nil in
+    record {
+      utf8 = rw same b.utf8;
+      left = ap chars same ∙ (none ∙ sym (drop_more from to f ∙ ap (drop 1) (sym b.left ∙ none)));
+    }
+beside_more from to f s t (Some c) b steps = record {
+  utf8 = IsUtf8-past_char (chars_rest s) (chars_rest t) c b.utf8 steps.0;
+  left = ap (drop 1) (sym (chars_past_char (chars_rest s) (chars_rest t) c b.utf8 steps.0) ∙ b.left) ∙ sym (drop_more from to f);
+}
+
+pick_past : (from to : List ℕ) → slice_get (drop (length from) to) 0 ≡ slice_get to (length from)
+pick_past [] to = refl
+pick_past (x ∷ from) [] = refl
+pick_past (x ∷ from) (t ∷ to) = pick_past from to
+
+beside_here : (from to rest : List ℕ) → Beside from to rest → slice_get (chars rest) 0 ≡ slice_get to (length from)
+beside_here from to rest b = ap (λ l. slice_get l 0) b.left ∙ pick_past from to
+
+module _ (from to rest : List ℕ) (f : ℕ) (o : Option ℕ) (b : Beside from to rest) (here : o ≡ slice_get (chars rest) 0) where
+  next : (q : ℕ) → counterpart (from ++ f ∷ []) to q ≡ or_else (counterpart from to q) (cond (eqb f q) (Some o) None)
+  next q = counterpart-push from to f q ∙ ap (λ x. or_else (counterpart from to q) (cond (eqb f q) (Some x) None)) (sym (here ∙ beside_here from to rest b))
+
+  -- a new character takes the one beside it
+  pub new_counterpart : is_some (counterpart from to f) ≡ false → (q : ℕ) → cond (eqb f q) (Some o) (counterpart from to q) ≡ counterpart (from ++ f ∷ []) to q
   new_counterpart none q = by (eqb f q) refl ∙ sym (next q)
     where
-      by : (b : Bool) → eqb f q ≡ b →
-          cond b (Some (slice_get to i)) (counterpart (take i from) to q) ≡ or_else (counterpart (take i from) to q) (cond b (Some (slice_get to i)) None)
-      by true e = at (counterpart (take i from) to q) (ap (λ k. is_some (counterpart (take i from) to k)) (sym (eqb-true f q e)) ∙ none)
+      by : (b : Bool) → eqb f q ≡ b → cond b (Some o) (counterpart from to q) ≡ or_else (counterpart from to q) (cond b (Some o) None)
+      by true e = at (counterpart from to q) (ap (λ k. is_some (counterpart from to k)) (sym (eqb-true f q e)) ∙ none)
         where
-          at : (o : Option (Option ℕ)) → is_some o ≡ false → Some (slice_get to i) ≡ or_else o (Some (slice_get to i))
+          at : (p : Option (Option ℕ)) → is_some p ≡ false → Some o ≡ or_else p (Some o)
           at None h = refl
           at (Some x) h = absurd (true≢false h)
-      by false e = sym (or-else-none (counterpart (take i from) to q))
+      by false e = sym (or-else-none (counterpart from to q))
 
   -- a character that was there before changes nothing
-  pub old_counterpart : is_some (counterpart (take i from) to f) ≡ true → (q : ℕ) → counterpart (take i from) to q ≡ counterpart (take (i + 1) from) to q
+  pub old_counterpart : is_some (counterpart from to f) ≡ true → (q : ℕ) → counterpart from to q ≡ counterpart (from ++ f ∷ []) to q
   old_counterpart some q = by (eqb f q) refl ∙ sym (next q)
     where
-      by : (b : Bool) → eqb f q ≡ b → counterpart (take i from) to q ≡ or_else (counterpart (take i from) to q) (cond b (Some (slice_get to i)) None)
-      by true e = at (counterpart (take i from) to q) (ap (λ k. is_some (counterpart (take i from) to k)) (sym (eqb-true f q e)) ∙ some)
+      by : (b : Bool) → eqb f q ≡ b → counterpart from to q ≡ or_else (counterpart from to q) (cond b (Some o) None)
+      by true e = at (counterpart from to q) (ap (λ k. is_some (counterpart from to k)) (sym (eqb-true f q e)) ∙ some)
         where
-          at : (o : Option (Option ℕ)) → is_some o ≡ true → o ≡ or_else o (Some (slice_get to i))
+          at : (p : Option (Option ℕ)) → is_some p ≡ true → p ≡ or_else p (Some o)
           at None h = absurd (true≢false (sym h))
           at (Some x) h = refl
-      by false e = sym (or-else-none (counterpart (take i from) to q))
+      by false e = sym (or-else-none (counterpart from to q))
 
 -- a text so far, which stays within its limit or was found to pass it
 pub record Limited (f : ℕ → List ℕ) (xs bytes : List ℕ) (fits : Bool) : Type 0 where

@@ -49,15 +49,12 @@ all_turned op f (n ∷ ns) x = ap₂ (λ a b. a || b) (test_turned op x (f n)) (
 pub pairs_left : (op : Comparison) (f : ℕ → List ℕ) (ns : List ℕ) (x : List ℕ) → some_pair (text_test op) (x ∷ []) (map f ns) ≡ list_any (λ n. text_test op (f n) x) ns
 pairs_left op f ns x = or-false (list_any (text_test op x) (map f ns)) ∙ all_turned op f ns x
 
--- a node-set beside a text, at either side
-module _ (T : Table) (op : Comparison) (a b : Value) (ns text : List ℕ) where
-  pub set_then_text : a ≡ NodeSet ns → b ≡ Chars text → list_any (λ n. text_test op (string_value_of T n) text) ns ≡ texts_compared T op a b
-  set_then_text left right = rw (left, right) (sym (pairs_right (text_test op) (string_value_of T) ns text))
+-- a node-set at the right of a text
+pub text_then_set : (T : Table) (op : Comparison) (a b : Value) (ns text : List ℕ) → a ≡ Chars text → b ≡ NodeSet ns →
+    list_any (λ n. text_test op (string_value_of T n) text) ns ≡ texts_compared T op a b
+text_then_set T op a b ns text left right = rw (left, right) (sym (pairs_left op (string_value_of T) ns text))
 
-  pub text_then_set : a ≡ Chars text → b ≡ NodeSet ns → list_any (λ n. text_test op (string_value_of T n) text) ns ≡ texts_compared T op a b
-  text_then_set left right = rw (left, right) (sym (pairs_left op (string_value_of T) ns text))
-
--- the same as a comparison
+-- a node-set at the left of a text, compared otherwise than by order
 pub set_with_text : (T : Table) (op : Comparison) (a : Value) (ns text : List ℕ) → is_order op ≡ false → a ≡ NodeSet ns →
     compare T op a (Chars text) ≡ Ok (list_any (λ n. text_test op (string_value_of T n) text) ns)
 set_with_text T op a ns text unordered is = rw (is, unordered) (ap Ok (pairs_right (text_test op) (string_value_of T) ns text))

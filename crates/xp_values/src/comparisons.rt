@@ -7,10 +7,9 @@ ghost use Rattle.xp_values.specs.declared.values.Value.TheVariants as value_kind
 ghost use Rattle.xp_values.specs.Comparisons.{is_node_set, is_truth, is_number, is_order, whole_test, number_test, some_pair, all_numbers, numbers_of, numbers_compared, go_by_truths, go_by_numbers, compare};
 ghost use Rattle.xp_values.specs.Outcomes.{Gives};
 
-use crate::conversions::{to_number, to_truth, truth_number};
+use crate::conversions::{number_in, to_number, to_truth, truth_number};
 use crate::lent::number_of_node;
 use crate::numbers::Num;
-use crate::numerals::text_to_number;
 use crate::text_comparisons::{is_unequal, some_passes, text_test, texts_compared};
 use crate::values::{EvalError, Value};
 use doc_tree::{NodeId, Tree};
@@ -32,6 +31,9 @@ pub fn compare(
 ) -> Result<bool, EvalError>
     ensures { Gives result (compare tree.now.nodes op a.now b.now) }
 {
+    if let Value::Chars(text) = b {
+        return compare_text(alloc, tree, op, a, text.as_str());
+    }
     if go_by_truths(op, a, b) {
         let left = truth_number(to_truth(a));
         let right = truth_number(to_truth(b));
@@ -47,8 +49,8 @@ pub fn compare(
 
 /// Compares a value with a text (XPath 1.0, section 3.4), as `compare` does where the text is a value.
 ///
-/// Faults are those of `compare`: by order the value is converted, then the text. A node-set costs what it costs in
-/// `compare_nodes`.
+/// Faults are those of `compare`: where numbers are compared, the value is converted, then the text. A node-set costs what
+/// it costs in `compare_nodes`.
 pub fn compare_text(
     alloc: Global,
     tree: &Tree,
@@ -58,21 +60,19 @@ pub fn compare_text(
 ) -> Result<bool, EvalError>
     ensures { Gives result (compare tree.now.nodes op a.now (value_kinds.Chars text.now)) }
 {
-    if is_order(op) {
-        return numbers_against(alloc, tree, op, a, text);
-    }
     match a {
         Value::NodeSet(nodes) => compare_nodes(alloc, tree, op, nodes.as_slice(), text),
-        Value::Truth(truth) => {
+        Value::Truth(truth) if !is_order(op) => {
             let left = truth_number(*truth);
             let right = truth_number(!text.is_empty());
             Ok(number_test(op, left, right))
         }
-        Value::Number(left) => {
-            let right = text_to_number(text)?;
-            Ok(number_test(op, *left, right))
+        Value::Chars(left) if !is_order(op) => Ok(text_test(op, left.as_str(), text)),
+        _ => {
+            let left = to_number(alloc, tree, a)?;
+            let right = number_in(text)?;
+            Ok(number_test(op, left, right))
         }
-        Value::Chars(left) => Ok(text_test(op, left.as_str(), text)),
     }
 }
 
@@ -93,7 +93,7 @@ pub fn compare_nodes(
 {
     if is_order(op) {
         let left = numbers_of_nodes(alloc, tree, nodes)?;
-        let right = text_to_number(text)?;
+        let right = number_in(text)?;
         return Ok(some_numbers(op, left.as_slice(), &[right]));
     }
     let holds = some_passes(alloc, tree, op, nodes, text)?;
@@ -164,21 +164,6 @@ fn numbers_compared(
     Ok(some_numbers(op, left.as_slice(), right.as_slice()))
 }
 
-/// Whether some number that the left side stands for passes with the number of a text.
-fn numbers_against(
-    alloc: Global,
-    tree: &Tree,
-    op: Comparison,
-    a: &Value,
-    text: &str,
-) -> Result<bool, EvalError>
-    ensures { Gives result (numbers_compared tree.now.nodes op a.now (value_kinds.Chars text.now)) }
-{
-    let left = numbers_of(alloc, tree, a)?;
-    let right = text_to_number(text)?;
-    Ok(some_numbers(op, left.as_slice(), &[right]))
-}
-
 /// The numbers that a side stands for.
 fn numbers_of(alloc: Global, tree: &Tree, v: &Value) -> Result<ItemList<Num>, EvalError>
     ensures { Gives result (numbers_of tree.now.nodes v.now) }
@@ -187,8 +172,7 @@ fn numbers_of(alloc: Global, tree: &Tree, v: &Value) -> Result<ItemList<Num>, Ev
         Value::NodeSet(nodes) => numbers_of_nodes(alloc, tree, nodes.as_slice()),
         Value::Truth(_) | Value::Number(_) | Value::Chars(_) => {
             let number = to_number(alloc, tree, v)?;
-            let mut numbers = ItemList::new(alloc);
-            numbers.push(number)?;
+            let numbers = ItemList::of_one(alloc, number)?;
             Ok(numbers)
         }
     }

@@ -2,6 +2,7 @@
 
 ghost use Rattle.std.specs.Prelude.{◌≡◌, IfOk};
 ghost use Rattle.xp_values.specs.Numbers.{InRange};
+ghost use Rattle.xp_values.specs.Numerals.{text_to_number};
 ghost use Rattle.xp_values.specs.Conversions.{ValueInRange, to_text, to_number, to_truth, number_text, truth_number};
 ghost use Rattle.xp_values.specs.Outcomes.{Gives};
 
@@ -51,16 +52,21 @@ pub fn to_number(alloc: Global, tree: &Tree, v: &Value) -> Result<Num, EvalError
     match v {
         Value::NodeSet(_) => {
             let text = to_text(alloc, tree, v)?;
-            let number = text_to_number(text.as_str())?;
-            Ok(number)
+            number_in(text.as_str())
         }
         Value::Truth(truth) => Ok(truth_number(*truth)),
         Value::Number(number) => Ok(*number),
-        Value::Chars(text) => {
-            let number = text_to_number(text.as_str())?;
-            Ok(number)
-        }
+        Value::Chars(text) => number_in(text.as_str()),
     }
+}
+
+/// The text as a number, as `text_to_number` reads it.
+pub(crate) fn number_in(text: &str) -> Result<Num, EvalError>
+    ensures value { Gives result (text_to_number text.now) }
+    ensures in_range { IfOk result InRange }
+{
+    let number = text_to_number(text)?;
+    Ok(number)
 }
 
 /// 1 or 0.

@@ -8,8 +8,8 @@ ghost use Rattle.doc_tree.specs.Walks.{string_value_of};
 ghost use Rattle.xp_values.specs.Numerals.{text_to_number};
 ghost use Rattle.xp_values.specs.Outcomes.{Gives};
 
+use crate::conversions::number_in;
 use crate::numbers::Num;
-use crate::numerals::text_to_number;
 use crate::values::EvalError;
 use doc_tree::{Kind, NodeId, Tree};
 use std::alloc::Global;
@@ -48,20 +48,26 @@ fn lone_text(tree: &Tree, n: NodeId) -> Option<NodeId>
     ensures kids { IfSome result (λ kid. kids_of tree.now.nodes n ≡ kid ∷ []) }
     ensures kind { IfSome result (λ kid. kind_of tree.now.nodes kid ≡ Some kinds.Text) }
 {
-    let (kid, others) = tree.kids(n).split_first()?;
-    let is_text = matches!(tree.kind_of(*kid), Some(Kind::Text));
-    (others.is_empty() && is_text).then_some(*kid)
+    match tree.kids(n) {
+        [kid] if matches!(tree.kind_of(*kid), Some(Kind::Text)) => Some(*kid),
+        _ => None,
+    }
 }
 
 /// The number of the node's string-value.
 pub(crate) fn number_of_node(alloc: Global, tree: &Tree, n: NodeId) -> Result<Num, EvalError>
     ensures { Gives result (text_to_number (string_value_of tree.now.nodes n)) }
 {
-    if let Some(lent) = lent_text(tree, n) {
-        let number = text_to_number(lent)?;
-        return Ok(number);
+    match lent_text(tree, n) {
+        Some(lent) => number_in(lent),
+        None => number_of_copy(alloc, tree, n),
     }
+}
+
+/// The same by a copy of the string-value.
+fn number_of_copy(alloc: Global, tree: &Tree, n: NodeId) -> Result<Num, EvalError>
+    ensures { Gives result (text_to_number (string_value_of tree.now.nodes n)) }
+{
     let own = tree.string_value(alloc, n)?;
-    let number = text_to_number(own.as_str())?;
-    Ok(number)
+    number_in(own.as_str())
 }

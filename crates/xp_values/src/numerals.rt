@@ -1,6 +1,6 @@
 //! How a text is read as a number (XPath 1.0, sections 3.7 and 4.4).
 
-ghost use Rattle.std.specs.Prelude.{◌≡◌, ◌≤◌, not, position, IfOk};
+ghost use Rattle.std.specs.Prelude.{◌≡◌, ◌≤◌, IfOk};
 ghost use Rattle.std.specs.List.{list_all};
 ghost use Rattle.xp_values.specs.Numbers.{InRange};
 ghost use Rattle.xp_values.specs.Numerals.{is_space, is_digit, front, past, fraction, past_fraction, bounded, signed, are_zeros, number_written, number_ended, unsigned_number, text_to_number};
@@ -40,28 +40,18 @@ fn is_digit(b: u8) -> bool
     (b'0'..=b'9').contains(&b)
 }
 
-/// The place of the first byte that isn't whitespace.
-fn first_other(text: &[u8]) -> Option<usize>
-    ensures { result ≡ position (λ b. not (is_space b)) text.now }
-{
-    text.iter().position(|b| !is_space(*b))
-}
-
 /// What stands after the whitespace at the front.
 fn past_spaces(text: &[u8]) -> &[u8]
     ensures { result.now ≡ past is_space text.now }
 {
-    match first_other(text) {
-        Some(start) => text.split_at(start).1,
-        None => &[],
+    let mut rest = text;
+    while let Some((b, others)) = rest.split_first() {
+        if !is_space(*b) {
+            return rest;
+        }
+        rest = others;
     }
-}
-
-/// The place of the first byte that is no digit.
-fn first_no_digit(text: &[u8]) -> Option<usize>
-    ensures { result ≡ position (λ b. not (is_digit b)) text.now }
-{
-    text.iter().position(|b| !is_digit(*b))
+    rest
 }
 
 /// The digits at the front, and what stands after them.
@@ -69,10 +59,12 @@ fn split_digits(text: &[u8]) -> (&[u8], &[u8])
     ensures digits { result.0.now ≡ front is_digit text.now }
     ensures rest { result.1.now ≡ past is_digit text.now }
 {
-    match first_no_digit(text) {
-        Some(end) => text.split_at(end),
-        None => (text, &[]),
+    for (i, b) in text.iter().enumerate() {
+        if !is_digit(*b) {
+            return text.split_at(i);
+        }
     }
+    (text, &[])
 }
 
 /// The digits after a point at the front, and what stands after them.
@@ -114,10 +106,11 @@ fn number_ended(
 }
 
 /// Whether all the bytes are whitespace.
+#[tactic(auto, using(crate::proofs::NumeralLemmas::all_past))]
 fn are_spaces(text: &[u8]) -> bool
     ensures { result ≡ list_all is_space text.now }
 {
-    text.iter().all(|b| is_space(*b))
+    past_spaces(text).is_empty()
 }
 
 /// Whether all the digits are 0.

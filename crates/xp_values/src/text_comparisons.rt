@@ -15,7 +15,7 @@ use xp_tree::Comparison;
 
 /// Whether some pair of the texts that the two sides stand for passes.
 ///
-/// A node-set beside a text, and two texts, are compared as they stand; other sides are listed first.
+/// Nodes at the right of a text are compared with it as they stand; other sides are listed first.
 pub(crate) fn texts_compared(
     alloc: Global,
     tree: &Tree,
@@ -26,14 +26,8 @@ pub(crate) fn texts_compared(
     ensures { IfOk result (λ holds. holds ≡ texts_compared tree.now.nodes op a.now b.now) }
 {
     match (a, b) {
-        (Value::NodeSet(nodes), Value::Chars(text)) => {
-            some_passes(alloc, tree, op, nodes.as_slice(), text.as_str())
-        }
         (Value::Chars(text), Value::NodeSet(nodes)) => {
             some_passes(alloc, tree, op, nodes.as_slice(), text.as_str())
-        }
-        (Value::Chars(left), Value::Chars(right)) => {
-            Ok(text_test(op, left.as_str(), right.as_str()))
         }
         _ => lists_compared(alloc, tree, op, a, b),
     }
@@ -98,9 +92,7 @@ fn texts_of(alloc: Global, tree: &Tree, v: &Value) -> Result<ItemList<Text>, All
         Value::NodeSet(nodes) => texts_of_nodes(alloc, tree, nodes),
         Value::Truth(_) | Value::Number(_) | Value::Chars(_) => {
             let text = to_text(alloc, tree, v)?;
-            let mut texts = ItemList::new(alloc);
-            texts.push(text)?;
-            Ok(texts)
+            ItemList::of_one(alloc, text)
         }
     }
 }

@@ -1,6 +1,6 @@
 //! Functions on texts (XPath 1.0, section 4.2). Positions and lengths count characters, limits bytes.
 
-ghost use Rattle.std.specs.Prelude.{◌≡◌, ◌<◌, ◌<ℤ◌, ◌+ℤ◌, ◌-◌, ◌^◌, ℕ, pos, Some, length, take, drop, chars, encode_utf8_all, string_bytes, IfOk};
+ghost use Rattle.std.specs.Prelude.{◌≡◌, ◌<◌, ◌<ℤ◌, ◌+ℤ◌, ◌-◌, ◌^◌, ◌++◌, ℕ, pos, Some, length, take, drop, chars, encode_utf8_all, string_bytes, IfOk};
 ghost use Rattle.xp_values.specs.Texts.{concat, begins_with, first_place, contains, substring_before, substring_after, string_length, substring};
 ghost use Rattle.xp_values.specs.inner.Positions.{KeepsWithin, positions_before};
 ghost use Rattle.xp_values.specs.Outcomes.{Gives};
@@ -17,9 +17,17 @@ use std::alloc::{AllocError, Global};
 pub fn concat(alloc: Global, a: &str, b: &str) -> Result<Text, EvalError>
     ensures { Gives result (concat a.now b.now) }
 {
-    if b.len() > MAX_TEXT_BYTES || a.len() > MAX_TEXT_BYTES - b.len() {
+    if a.len() + b.len() > MAX_TEXT_BYTES {
         return Err(EvalError::Fault(EvalFault::TextLimit));
     }
+    let joined = joined(alloc, a, b)?;
+    Ok(joined)
+}
+
+/// The two texts joined, however long.
+fn joined(alloc: Global, a: &str, b: &str) -> Result<Text, AllocError>
+    ensures { IfOk result (λ text. text ≡ a.now ++ b.now) }
+{
     let mut joined = String::from_str(alloc, a)?;
     joined.push_str(b)?;
     Ok(Text::from(joined))
