@@ -8,14 +8,14 @@ ghost use Rattle.xp_values.specs.Outcomes.{Gives};
 ghost use Rattle.xp_values.specs.declared.values.Value.TheVariants as values;
 ghost use Rattle.xp_values.specs.declared.values.EvalFault.{EvalFault};
 ghost use Rattle.xp_values.specs.Texts.{normalize_space, string_length};
-ghost use Rattle.xp_meaning.specs.Conversions.{sum_in};
-ghost use Rattle.xp_meaning.specs.Functions.{applied, as_chars, as_number, as_text, as_truth, counted, nodes_at, number_or_own, text_or_own};
+ghost use Rattle.xp_meaning.specs.Functions.{applied, as_chars, as_truth, counted, number_or_own, text_or_own};
 ghost use Rattle.xp_meaning.specs.Language.{in_language};
 
 use crate::arguments::{
     length_in, named_node, nodes_at, number_at, number_of, text_at, text_of, truth_at,
 };
 use crate::caller::Caller;
+use crate::converting::{number_value, text_value};
 use crate::joining::join;
 use crate::language::in_language;
 use doc_tree::NodeId;
@@ -50,12 +50,12 @@ impl Caller<'_> {
             Function::Position => Ok(counted(at.position)),
             Function::Current => node_set_of(alloc, at.current),
             Function::Count => Ok(count(nodes_at(args, 0))),
-            Function::Sum => self.sum(args, reads, steps),
+            Function::Sum => number_value(self.sum_in(nodes_at(args, 0), reads, steps)),
             Function::LocalName => as_chars(self.local_name(named_node(at, args))),
             Function::NamespaceUri => as_chars(self.namespace_uri(named_node(at, args))),
             Function::Name => as_chars(self.written_name(named_node(at, args))),
-            Function::String => self.string(at, args, reads, steps),
-            Function::Number => self.number(at, args, reads, steps),
+            Function::String => text_value(self.text_or_own(at, args, reads, steps)),
+            Function::Number => number_value(self.number_or_own(at, args, reads, steps)),
             Function::Boolean => Ok(Value::Truth(truth_at(args, 0))),
             Function::Not => Ok(Value::Truth(!truth_at(args, 0))),
             Function::True => Ok(Value::Truth(true)),
@@ -85,19 +85,6 @@ impl Caller<'_> {
             Function::Ceiling => Ok(Value::Number(number_at(args, 0))),
             Function::Round => Ok(Value::Number(number_at(args, 0))),
         }
-    }
-
-    /// `sum`: the sum of the numbers of the argument's nodes.
-    fn sum<L: Ledger>(
-        &self,
-        args: &[Value],
-        reads: &mut Recorder,
-        steps: &mut Steps<L>,
-    ) -> Result<Value, EvalError>
-        ensures { Ran (as_number (sum_in self.now.tree.now.nodes (nodes_at args.now 0))) (shown result) reads.old reads.new steps.old steps.new }
-    {
-        let number = self.sum_in(nodes_at(args, 0), reads, steps)?;
-        Ok(Value::Number(number))
     }
 
     /// The text of the argument, or the string-value of the context node without one.
@@ -132,34 +119,6 @@ impl Caller<'_> {
         }
     }
 
-    /// `string`.
-    fn string<L: Ledger>(
-        &self,
-        at: &Context,
-        args: &[Value],
-        reads: &mut Recorder,
-        steps: &mut Steps<L>,
-    ) -> Result<Value, EvalError>
-        ensures { Ran (as_text (text_or_own self.now.tree.now.nodes at.now args.now)) (shown result) reads.old reads.new steps.old steps.new }
-    {
-        let text = self.text_or_own(at, args, reads, steps)?;
-        Ok(Value::Chars(text))
-    }
-
-    /// `number`.
-    fn number<L: Ledger>(
-        &self,
-        at: &Context,
-        args: &[Value],
-        reads: &mut Recorder,
-        steps: &mut Steps<L>,
-    ) -> Result<Value, EvalError>
-        ensures { Ran (as_number (number_or_own self.now.tree.now.nodes at.now args.now)) (shown result) reads.old reads.new steps.old steps.new }
-    {
-        let number = self.number_or_own(at, args, reads, steps)?;
-        Ok(Value::Number(number))
-    }
-
     /// `string-length`.
     fn length_of<L: Ledger>(
         &self,
@@ -185,8 +144,7 @@ impl Caller<'_> {
         ensures { Ran (bind (text_or_own self.now.tree.now.nodes at.now args.now) (λ text. done (values.Chars (normalize_space text)))) (shown result) reads.old reads.new steps.old steps.new }
     {
         let text = self.text_or_own(at, args, reads, steps)?;
-        let text = normalize_space(self.alloc, text.as_str())?;
-        Ok(Value::Chars(text))
+        as_chars(normalize_space(self.alloc, text.as_str()))
     }
 
     /// `lang`.

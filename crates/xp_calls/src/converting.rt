@@ -1,15 +1,19 @@
 //! Conversions and comparisons that record what they take (XPath 1.0, sections 3.4, 3.5 and 4).
 
-ghost use Rattle.std.specs.Prelude.{◌≡◌, pos};
+ghost use Rattle.std.specs.Prelude.{◌≡◌, ℕ, List, pos};
+ghost use Rattle.xp_outcome.specs.Recorded.{Recorded};
 ghost use Rattle.xp_outcome.specs.Running.{Ran};
 ghost use Rattle.xp_meaning.specs.Conversions.{as_wanted, compare_in, compared_nodes, first_of, nodes_of, number_in, sum_from, sum_in, text_in};
 ghost use Rattle.xp_values.specs.Outcomes.{Gives};
 ghost use Rattle.xp_values.specs.declared.numbers.Num.TheVariants.{Whole};
+ghost use Rattle.xp_values.specs.declared.numbers.Num.{Num};
+ghost use Rattle.xp_values.specs.declared.values.EvalFault.{EvalFault};
 ghost use Rattle.xp_values.specs.declared.values.Value.TheVariants as value_kinds;
 ghost use Rattle.xp_values.specs.Comparisons.{is_truth};
+ghost use Rattle.xp_meaning.specs.Functions.{as_number, as_text};
 ghost use Rattle.xp_meaning.specs.Results.{shown, shown_alloc};
 ghost use Rattle.xp_meaning.specs.Reads.{taking};
-ghost use Rattle.xp_outcome.specs.Evaluation.{done};
+ghost use Rattle.xp_outcome.specs.Evaluation.{Evaluation, done};
 
 use crate::caller::Caller;
 use crate::reading::take_texts;
@@ -76,6 +80,26 @@ fn sum_of(alloc: Global, tree: &Tree, nodes: &[NodeId]) -> Result<Num, EvalError
         sum = arith(ArithOp::Add, sum, number)?;
     }
     Ok(sum)
+}
+
+/// The text that a run answers with, as a value.
+pub(crate) fn text_value(text: Result<Text, EvalError>) -> Result<Value, EvalError>
+    ensures { (m : Evaluation EvalFault (List ℕ)) (held now : Recorded) (before after : ℕ) → Ran m (shown text) held now before after → Ran (as_text m) (shown result) held now before after }
+{
+    match text {
+        Ok(text) => Ok(Value::Chars(text)),
+        Err(error) => Err(error),
+    }
+}
+
+/// The number that a run answers with, as a value.
+pub(crate) fn number_value(number: Result<Num, EvalError>) -> Result<Value, EvalError>
+    ensures { (m : Evaluation EvalFault Num) (held now : Recorded) (before after : ℕ) → Ran m (shown number) held now before after → Ran (as_number m) (shown result) held now before after }
+{
+    match number {
+        Ok(number) => Ok(Value::Number(number)),
+        Err(error) => Err(error),
+    }
 }
 
 impl Caller<'_> {
@@ -178,8 +202,8 @@ impl Caller<'_> {
     {
         match want {
             Want::AsItIs => Ok(value),
-            Want::AsText => Ok(Value::Chars(self.text_in(&value, reads, steps)?)),
-            Want::AsNumber => Ok(Value::Number(self.number_in(&value, reads, steps)?)),
+            Want::AsText => text_value(self.text_in(&value, reads, steps)),
+            Want::AsNumber => number_value(self.number_in(&value, reads, steps)),
         }
     }
 }

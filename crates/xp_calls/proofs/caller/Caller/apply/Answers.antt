@@ -6,7 +6,9 @@ use Rattle.xp_values.specs.declared.values.Value.TheVariants.{Truth, Number, Cha
 use Rattle.xp_values.specs.declared.values.EvalFault.{EvalFault}
 use Rattle.xp_values.specs.Texts.{begins_with, contains, substring_before, substring_after, substring, translate}
 use Rattle.xp_meaning.specs.Names.{local_in, uri_in, written_in, name_at}
-use Rattle.xp_meaning.specs.Functions.{as_chars, counted}
+use Rattle.xp_meaning.specs.Conversions.{sum_in}
+use Rattle.xp_meaning.specs.Functions.{as_chars, as_number, as_truth, counted}
+use Rattle.xp_meaning.specs.Language.{in_language}
 use Rattle.xp_calls.proofs.caller.Caller.apply.Goals as goal
 
 pub returns-in-Last : goal.returns-in-Last
@@ -20,6 +22,29 @@ returns-in-Current g c = rw c.in-Current.is (ran_given _ _ _ _ c.node_set_of.ens
 
 pub returns-in-Count : goal.returns-in-Count
 returns-in-Count g c = rw c.in-Count.is (ran_done_at _ _ _ (c.count.ensures ∙ ap (λ ns. counted (length ns)) c.nodes_at.ensures))
+
+pub returns-in-Sum : goal.returns-in-Sum
+returns-in-Sum g c =
+    rw c.in-Sum.is
+    (ran_alike (ap (λ ns. as_number (sum_in c.args.self.now.tree.now.nodes ns)) (sym c.nodes_at-in-Sum.ensures))
+    (c.number_value.ensures _ _ _ _ _ c.sum_in.ensures))
+
+pub returns-in-String : goal.returns-in-String
+returns-in-String g c = rw c.in-String.is (c.text_value.ensures _ _ _ _ _ c.text_or_own.ensures)
+
+pub returns-in-Number : goal.returns-in-Number
+returns-in-Number g c = rw c.in-Number.is (c.number_value-in-Number.ensures _ _ _ _ _ c.number_or_own.ensures)
+
+pub returns-in-StringLength : goal.returns-in-StringLength
+returns-in-StringLength g c = rw c.in-StringLength.is c.length_of.ensures
+
+pub returns-in-NormalizeSpace : goal.returns-in-NormalizeSpace
+returns-in-NormalizeSpace g c = rw c.in-NormalizeSpace.is c.normalize.ensures
+
+pub returns-in-Lang : goal.returns-in-Lang
+returns-in-Lang g c =
+    rw c.in-Lang.is
+    (ran_alike (ap (λ w. as_truth (in_language c.args.self.now.tree.now.nodes c.args.at.now.node w)) (sym c.text_at-in-Lang.ensures)) (c.is_in_language.ensures _))
 
 pub returns-in-LocalName : goal.returns-in-LocalName
 returns-in-LocalName g c =
