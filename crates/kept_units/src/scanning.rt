@@ -16,7 +16,7 @@ use std::alloc::{AllocError, Global};
 use xp_values::{EvalFault, Value};
 
 /// What all units came to.
-#[derive(Clone, Copy, Debug)]
+#[derive(Clone, Copy)]
 pub enum Evaluated {
     /// No unit has a fault; whether one has a finding.
     Whole { finds: bool },
