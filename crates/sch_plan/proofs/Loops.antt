@@ -1,5 +1,6 @@
 -- What the loops over lists keep: whoever walks the rest has walked the whole.
-use Rattle.std.proofs.Common.{◌≡◌, ℕ, List, [], ◌∷◌, ◌++◌, ◌+◌, ◌<◌, length, drop, get_or, Result, Ok, Err, refl, sym, ap, ◌∙◌, subst, inl, inr, append_assoc, append-nil, suc, arith}
+use Rattle.std.proofs.Common.{◌≡◌, ℕ, List, [], ◌∷◌, ◌++◌, ◌+◌, ◌<◌, ◌≤◌, length, drop, get_or, Result, Ok, Err, refl, sym, ap, ◌∙◌, subst, inl, inr, append_assoc, append-nil, suc, arith}
+use Rattle.std.proofs.lemmas.List.{drop_all}
 use Rattle.std.proofs.Math.Seq.{drop-cons}
 use Rattle.std.proofs.Math.Numerals.{add-one}
 use Rattle.sch_model.specs.declared.fault.SchemaError.{SchemaError}
@@ -18,6 +19,9 @@ one-fewer xs more x m n is less long = let e : length xs ≡ suc (length more) =
 -- the item at a place, and those after it
 pub drop-at : {A : Type 0} (xs : List A) (i : ℕ) (x : A) → i < length xs → x ≡ get_or xs i x → drop i xs ≡ x ∷ drop (i + 1) xs
 drop-at xs i x less is = drop-cons xs i x less ∙ (λ j. sym is j ∷ drop (sym (add-one i) j) xs)
+
+pub none-left : {A : Type 0} (xs : List A) (i : ℕ) → length xs ≤ i → length (drop i xs) ≡ 0
+none-left xs i least = ap length (drop_all i xs least)
 
 pub record EveryLeft {A B : Type 0} (act : A → Stretch B) (all : List A) (done : List B) (rest : List A) : Type 0 where
   pub whole : (r : Result (List B) SchemaFault) → Then (every act rest) (λ ys. goes (done ++ ys)) r → every act all r

@@ -1,3 +1,4 @@
 pub mod Counts
 pub mod Ids
 pub mod Moved
+pub mod Planned

@@ -1,13 +1,16 @@
 //! From a schema without abstract parts to the plan of a phase.
 
-ghost use Rattle.std.specs.Prelude.{◌≡◌, [], IfOk};
+ghost use Rattle.std.specs.Prelude.{◌≡◌, [], List, IfOk};
 ghost use Rattle.sch_compiled.specs.Soundness.{IsSound};
+ghost use Rattle.sch_model.specs.declared.parts.Head.{Head};
+ghost use Rattle.sch_model.specs.declared.parts.Ns.{Ns};
 ghost use Rattle.sch_plan.specs.Compiled.{compiled, global_lets, walk};
 ghost use Rattle.sch_plan.specs.Lets.{nothing_before};
 ghost use Rattle.sch_plan.specs.Rules.{diagnostic_of};
 ghost use Rattle.sch_plan.specs.Walk.{Answers};
 ghost use Rattle.sch_plan.specs.inner.Ids.{found_in};
 ghost use Rattle.sch_plan.specs.inner.Moved.{moved};
+ghost use Rattle.sch_plan.specs.inner.Planned.{planned, walk_from};
 
 use crate::counts::{is_counted, let_count};
 use crate::faults::broken;
@@ -15,8 +18,8 @@ use crate::ids::by_id;
 use crate::phases::{Choice, chosen};
 use crate::plans::{global_lets, plan_of};
 use crate::scopes::Scopes;
-use crate::walker::Walker;
-use sch_base::MAX_ACTIVE_PATTERNS;
+use crate::walker::{PatternPartsList, Walker};
+use sch_base::{MAX_ACTIVE_PATTERNS, Text};
 use sch_compiled::{LetInForceList, Plan};
 use sch_model::{DiagnosticList, FlatSchema, Head, LetDeclList, Ns, NsList, SchemaError};
 use std::alloc::{AllocError, Global};
@@ -33,8 +36,8 @@ fn begin(
     ensures diagnostics { IfOk result (λ walker. found_in walker.diagnostics.entries ≡ diagnostic_of diagnostics) }
     ensures count { IfOk result (λ walker. walker.count ≡ count) }
 {
-    let seen = Scopes::new(alloc, prefixes)?;
     let diagnostics = by_id(alloc, diagnostics)?;
+    let seen = Scopes::new(alloc, prefixes)?;
     Ok(Walker {
         alloc,
         seen,
@@ -58,7 +61,42 @@ fn walk_global_lets(
     Ok(list)
 }
 
+/// What the walk over what a phase chooses gives the plan.
+struct Walked {
+    phase: Option<Text>,
+    lets: LetInForceList,
+    patterns: PatternPartsList,
+}
+
+/// The walk that has begun: the lets of the schema and the phase, and then the patterns.
+fn walk_all(walker: &mut Walker, lets: LetDeclList, choice: Choice) -> Result<Walked, SchemaError>
+    ensures { (head : Head) (ns : List Ns) → Answers (walk_from (found_in walker.old.diagnostics.entries) walker.old.count walker.old.seen head ns lets choice) (planned head ns result) }
+{
+    let lets = walk_global_lets(walker.alloc, &mut walker.seen, lets, choice.lets)?;
+    let patterns = walker.all_patterns(choice.patterns)?;
+    Ok(Walked {
+        phase: choice.phase,
+        lets,
+        patterns,
+    })
+}
+
 /// The walk over what a phase chooses.
+fn walk_choice(
+    alloc: Global,
+    prefixes: &[Ns],
+    lets: LetDeclList,
+    diagnostics: DiagnosticList,
+    choice: Choice,
+) -> Result<Walked, SchemaError>
+    ensures { (head : Head) → Answers (walk head prefixes.now lets diagnostics choice) (planned head prefixes.now result) }
+{
+    let count = let_count(&lets, &choice)?;
+    let mut walker = begin(alloc, prefixes, diagnostics, count)?;
+    walk_all(&mut walker, lets, choice)
+}
+
+/// The plan of what a phase chooses.
 fn walk(
     alloc: Global,
     head: Head,
@@ -69,11 +107,12 @@ fn walk(
 ) -> Result<Plan, SchemaError>
     ensures { Answers (walk head prefixes lets diagnostics choice) result }
 {
-    let count = let_count(&lets, &choice)?;
-    let mut walker = begin(alloc, prefixes.as_slice(), diagnostics, count)?;
-    let lets = walk_global_lets(alloc, &mut walker.seen, lets, choice.lets)?;
-    let patterns = walker.all_patterns(choice.patterns)?;
-    let plan = plan_of(alloc, head, prefixes, choice.phase, lets, patterns)?;
+    let Walked {
+        phase,
+        lets,
+        patterns,
+    } = walk_choice(alloc, prefixes.as_slice(), lets, diagnostics, choice)?;
+    let plan = plan_of(alloc, head, prefixes, phase, lets, patterns)?;
     Ok(plan)
 }
 

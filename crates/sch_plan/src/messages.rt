@@ -1,6 +1,5 @@
 //! Messages and diagnostics.
 
-ghost use Rattle.std.specs.Prelude.{◌≡◌, IfOk};
 ghost use Rattle.sch_plan.specs.Rules.{message, name_part, one_diagnostic, one_part, value_part};
 ghost use Rattle.sch_plan.specs.Walk.{Answers};
 
@@ -8,46 +7,8 @@ use crate::scopes::Scopes;
 use doc_tree::NodeId;
 use sch_base::{ItemList, Text};
 use sch_compiled::{PlanDiagnostic, PlanPart, PlanPartList};
-use sch_model::{Diagnostic, Part, PartList, SchemaError};
-use std::alloc::{AllocError, Global};
-
-/// A text of its own, where there is one.
-fn copy_text(alloc: Global, text: &Option<Text>) -> Result<Option<Text>, AllocError>
-    ensures { IfOk result (λ copy. copy ≡ text.now) }
-{
-    match text {
-        Some(text) => Ok(Some(Text::copy(alloc, text.as_str())?)),
-        None => Ok(None),
-    }
-}
-
-/// A part of its own.
-fn copy_part(alloc: Global, part: &Part) -> Result<Part, AllocError>
-    ensures { IfOk result (λ copy. copy ≡ part.now) }
-{
-    match part {
-        Part::Chars(text) => Ok(Part::Chars(Text::copy(alloc, text.as_str())?)),
-        Part::ValueOf { node, select } => Ok(Part::ValueOf {
-            node: *node,
-            select: Text::copy(alloc, select.as_str())?,
-        }),
-        Part::Name { node, path } => Ok(Part::Name {
-            node: *node,
-            path: copy_text(alloc, path)?,
-        }),
-    }
-}
-
-/// A message of its own.
-fn copy_parts(alloc: Global, parts: &[Part]) -> Result<PartList, AllocError>
-    ensures { IfOk result (λ copy. copy ≡ parts.now) }
-{
-    let mut list = ItemList::new(alloc);
-    for part in parts {
-        list.push(copy_part(alloc, part)?)?;
-    }
-    Ok(list)
-}
+use sch_model::{Diagnostic, Part, SchemaError};
+use std::alloc::Global;
 
 impl Scopes {
     /// The text of an expression's value.
@@ -59,8 +20,8 @@ impl Scopes {
     }
 
     /// The name of a node.
-    fn name_part(&self, node: NodeId, path: Option<Text>) -> Result<PlanPart, SchemaError>
-        ensures { Answers (name_part self.now node path) result }
+    fn name_part(&self, node: NodeId, path: &Option<Text>) -> Result<PlanPart, SchemaError>
+        ensures { Answers (name_part self.now node path.now) result }
     {
         match path {
             Some(text) => {
@@ -71,28 +32,24 @@ impl Scopes {
         }
     }
 
-    /// A part of a message. Its characters are moved.
-    fn one_part(&self, part: Part) -> Result<PlanPart, SchemaError>
-        ensures { Answers (one_part self.now part) result }
+    /// A part of a message. Its characters are copied.
+    fn one_part(&self, alloc: Global, part: &Part) -> Result<PlanPart, SchemaError>
+        ensures { Answers (one_part self.now part.now) result }
     {
         match part {
-            Part::Chars(text) => Ok(PlanPart::Chars(text)),
-            Part::ValueOf { node, select } => self.value_part(node, select.as_str()),
-            Part::Name { node, path } => self.name_part(node, path),
+            Part::Chars(text) => Ok(PlanPart::Chars(Text::copy(alloc, text.as_str())?)),
+            Part::ValueOf { node, select } => self.value_part(*node, select.as_str()),
+            Part::Name { node, path } => self.name_part(*node, path),
         }
     }
 
     /// A message.
-    pub(crate) fn message(
-        &self,
-        alloc: Global,
-        parts: PartList,
-    ) -> Result<PlanPartList, SchemaError>
-        ensures { Answers (message self.now parts) result }
+    pub(crate) fn message(&self, alloc: Global, parts: &[Part]) -> Result<PlanPartList, SchemaError>
+        ensures { Answers (message self.now parts.now) result }
     {
         let mut list = ItemList::new(alloc);
-        for part in parts.into_vec() {
-            list.push(self.one_part(part)?)?;
+        for part in parts {
+            list.push(self.one_part(alloc, part)?)?;
         }
         Ok(list)
     }
@@ -105,8 +62,7 @@ impl Scopes {
     ) -> Result<PlanDiagnostic, SchemaError>
         ensures { Answers (one_diagnostic self.now diagnostic.now) result }
     {
-        let parts = copy_parts(alloc, diagnostic.message.as_slice())?;
-        let message = self.message(alloc, parts)?;
+        let message = self.message(alloc, diagnostic.message.as_slice())?;
         let id = Text::copy(alloc, diagnostic.id.as_str())?;
         Ok(PlanDiagnostic { id, message })
     }

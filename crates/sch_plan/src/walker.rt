@@ -54,13 +54,13 @@ impl Walker {
         Ok(list)
     }
 
-    /// An assertion. Its texts are moved.
+    /// An assertion. Its texts are moved, but for those of its message.
     fn one_assertion(&self, its: Assertion) -> Result<PlanAssert, SchemaError>
         ensures { Answers (one_assertion (found_in self.now.diagnostics.entries) self.now.seen its) result }
     {
         let test = self.seen.expression(its.node, its.test.as_str())?;
         let diagnostics = self.named_diagnostics(its.diagnostics.as_slice())?;
-        let message = self.seen.message(self.alloc, its.message)?;
+        let message = self.seen.message(self.alloc, its.message.as_slice())?;
         Ok(PlanAssert {
             report: its.report,
             id: its.id,

@@ -7,7 +7,7 @@ use sch_flat::FlatSize;
 
 /// How many rules, assertions and lets there are, and how many bytes and nodes they have in the document of the schema. A
 /// count that would pass the last value of its type stands still there.
-#[derive(Clone, Copy, Debug)]
+#[derive(Clone, Copy)]
 pub(crate) struct Amount {
     pub(crate) rule_count: u64,
     pub(crate) assertion_count: u64,

@@ -22,7 +22,7 @@ use sch_references::RuleOrder;
 use std::alloc::{AllocError, Global};
 
 /// The scale that counts.
-#[derive(Clone, Copy, Debug)]
+#[derive(Clone, Copy)]
 struct Counting;
 
 impl Scale for Counting {

@@ -1,22 +1,15 @@
-use Rattle.std.proofs.Common.{◌≡◌, sym, ◌∙◌}
 use Rattle.std.proofs.lemmas.Result.{err_from_is_err_and}
-use Rattle.std.specs.Vec.Iter.{into_iter_items}
-use Rattle.sch_plan.proofs.Loops.{every_end, every_go, every_refused, one-fewer}
+use Rattle.sch_plan.proofs.Loops.{drop-at, every_end, every_go, every_refused, none-left}
 use Rattle.sch_plan.proofs.scopes.Scopes.message.Goals as goal
 
 pub returns-in_err-one_part : goal.returns-in_err-one_part
 returns-in_err-one_part c =
-    let e : into_iter_items c.into_iter-part-iterator.result ≡ c.args.parts = cc in
     let p = err_from_is_err_and c.from_residual.result c.from_residual.ensures.1 in
-    rw (p.1, p.2, ← e) (every_refused _ _ _ _ _ _ _ c.loop-part.invariant.0 c.in-Some.ensures.steps.0 c.in_err-one_part.ensures)
+    rw (p.1, p.2) (every_refused _ _ _ _ _ _ _ c.loop-part.invariant (drop-at _ _ c.part-item.result c.loop-part-test.true c.part-item.is) c.in_err-one_part.ensures)
 
 pub loop-part-preserved : goal.loop-part-preserved
-loop-part-preserved c = (
-  every_go _ _ _ _ _ _ _ _ c.loop-part.invariant.0 c.in-Some.ensures.steps.0 c.in_ok-one_part.ensures c.in_ok-push.ensures.pushed,
-  one-fewer _ _ _ _ _ c.in-Some.ensures.steps.0 c.in-Some.ensures.steps.1 c.loop-part.invariant.1,
-)
+loop-part-preserved c =
+    every_go _ _ _ _ _ _ _ _ c.loop-part.invariant (drop-at _ _ c.part-item.result c.loop-part-test.true c.part-item.is) c.in_ok-one_part.ensures c.in_ok-push.ensures.pushed
 
 pub returns : goal.returns
-returns c =
-    let e : into_iter_items c.into_iter-part-iterator.result ≡ c.args.parts = cc in
-    rw (← e) (every_end _ _ _ _ c.loop-part.invariant.0 (sym c.loop-part.invariant.1 ∙ c.in-None.ensures.steps.0))
+returns c = every_end _ _ _ _ c.loop-part.invariant (none-left _ _ c.loop-part-test.false)

@@ -15,8 +15,8 @@ returns-in_err-diagnostics c =
 pub returns-in_err-message : goal.returns-in_err-message
 returns-in_err-message c =
     let p = err_from_is_err_and c.from_residual-in_err-message.result c.from_residual-in_err-message.ensures.1 in
-    rw (p.1, p.2) (answers_then _ _ _ _ (rw c.as_str.ensures at c.in_ok-test.ensures) (answers_then _ _ _ _ (rw c.as_slice.ensures at c.in_ok-diagnostics.ensures) (answers_stop _ _ _ c.in_err-message.ensures)))
+    rw (p.1, p.2) (answers_then _ _ _ _ (rw c.as_str.ensures at c.in_ok-test.ensures) (answers_then _ _ _ _ (rw c.as_slice.ensures at c.in_ok-diagnostics.ensures) (answers_stop _ _ _ (rw c.as_slice-2.ensures at c.in_err-message.ensures))))
 
 pub returns : goal.returns
 returns c =
-    answers_then _ _ _ _ (rw c.as_str.ensures at c.in_ok-test.ensures) (answers_then _ _ _ _ (rw c.as_slice.ensures at c.in_ok-diagnostics.ensures) (answers_then _ _ _ _ c.in_ok-message.ensures (answers_goes _)))
+    answers_then _ _ _ _ (rw c.as_str.ensures at c.in_ok-test.ensures) (answers_then _ _ _ _ (rw c.as_slice.ensures at c.in_ok-diagnostics.ensures) (answers_then _ _ _ _ (rw c.as_slice-2.ensures at c.in_ok-message.ensures) (answers_goes _)))
