@@ -10,7 +10,7 @@ use sch_base::Text;
 const DEFAULT_PHASE: &str = "#DEFAULT";
 
 /// What a validation is asked for: the document, by the schema under the phase.
-#[derive(Clone, Copy, Debug)]
+#[derive(Clone, Copy)]
 pub struct Validation<'a> {
     pub phase: &'a str,
     pub schema: &'a Text,
@@ -18,14 +18,14 @@ pub struct Validation<'a> {
 }
 
 /// What is followed: a validation, and the same after each command of the script.
-#[derive(Clone, Copy, Debug)]
+#[derive(Clone, Copy)]
 pub struct ScriptedValidation<'a> {
     pub validation: Validation<'a>,
     pub script: &'a Text,
 }
 
 /// What accepted words ask for.
-#[derive(Debug, Drop)]
+#[derive(Drop)]
 pub enum Command<'a> {
     /// Write what the program says of itself.
     Tell(Notice),

@@ -14,7 +14,7 @@ use sch_io::{Failed, Sink, write_pieces};
 const VERSION: &str = "1.0.0";
 
 /// What the program says of itself.
-#[derive(Clone, Copy, Debug)]
+#[derive(Clone, Copy)]
 pub enum Notice {
     /// The accepted words, and what each status says.
     Help,

@@ -16,7 +16,7 @@ use sch_io::{Failed, Sink, write_all, write_pieces};
 use sch_model::SchemaFault;
 
 /// Why a file is not read as a tree.
-#[derive(Clone, Copy, Debug)]
+#[derive(Clone, Copy)]
 pub(crate) enum FileRefusal {
     /// It has more bytes than a file may have.
     TooLarge,
@@ -25,7 +25,7 @@ pub(crate) enum FileRefusal {
 }
 
 /// Why a document is refused.
-#[derive(Clone, Copy, Debug)]
+#[derive(Clone, Copy)]
 pub(crate) enum DocumentRefusal {
     /// It is not read as a tree.
     File(FileRefusal),
@@ -34,7 +34,7 @@ pub(crate) enum DocumentRefusal {
 }
 
 /// Why an edit script is refused.
-#[derive(Clone, Copy, Debug)]
+#[derive(Clone, Copy)]
 pub(crate) enum ScriptRefusal {
     /// It has more bytes than a script may have.
     TooLarge,
@@ -43,7 +43,7 @@ pub(crate) enum ScriptRefusal {
 }
 
 /// Why a schema is refused.
-#[derive(Debug, Drop)]
+#[derive(Drop)]
 pub(crate) enum SchemaRefusal {
     /// The file of that name is not read as a tree.
     File { name: Text, refusal: FileRefusal },

@@ -16,7 +16,7 @@ use sch_io::{Failed, Sink, write_all};
 use std::alloc::AllocError;
 
 /// What stops a run before its output is whole.
-#[derive(Debug, Drop)]
+#[derive(Drop)]
 pub(crate) enum Stop {
     /// The words are not accepted.
     Usage,
