@@ -37,20 +37,35 @@ impl Answers for Tables {
             "items" => items(alloc),
             "characters" => classes(alloc, input),
             "name parts" => name_parts(alloc, input),
-            "copied" => copy(alloc, Text::copy(alloc, input)?.as_str()),
-            "word" => shown(alloc, &self.words.number(alloc, input)?),
+            "copied" => copied(alloc, input),
             "found" => parts(alloc, &self.words.find(input)),
             "second word" => copy(alloc, self.words.word(1)),
-            _ => {
-                let (prefix, local) = parted(input, ":")?;
-                shown(
-                    alloc,
-                    &self.names.number(alloc, prefix, local, "u")?.index(),
-                )
-            }
+            "word" => self.word(input),
+            _ => self.name(input),
         }
     }
 }
+
+impl Tables {
+    /// The number of a word.
+    fn word(&mut self, word: &str) -> Result<String, Fail> {
+        shown(self.alloc, &self.words.number(self.alloc, word)?)
+    }
+
+    /// The number of a name, whose prefix stands before a colon.
+    fn name(&mut self, name: &str) -> Result<String, Fail> {
+        let (prefix, local) = parted(name, ":")?;
+        let name = self.names.number(self.alloc, prefix, local, "u")?;
+        shown(self.alloc, &name.index())
+    }
+}
+
+/// A text that was copied.
+fn copied(alloc: Global, text: &str) -> Result<String, Fail> {
+    let text = Text::copy(alloc, text)?;
+    copy(alloc, text.as_str())
+}
+
 /// Whether a character, which a word numbers in hexadecimal, is of Char, of S, of NameChar and of NameStartChar.
 fn classes_of(word: &str) -> Result<[bool; 4], Fail> {
     match char::from_u32(u32::from_str_radix(word, 16)?) {

@@ -8,7 +8,7 @@ use std::alloc::Global;
 use std::process::ExitCode;
 use std::test::Fail;
 use test_rows::{Answers, hold_rows, parted};
-use test_texts::{parts, repeated, shown, text};
+use test_texts::{copy, parts, repeated, shown, text};
 
 fn main(rt: HostRuntime) -> Result<ExitCode, Fail> {
     let alloc = rt.alloc();
@@ -50,16 +50,20 @@ fn asked(alloc: Global, kind: &str, document: &str) -> Result<String, Fail> {
     if document.len() > MAX_LIVE_TEXT_BYTES {
         return Err("the document is too long".into());
     }
-    let tree = match load_tree(alloc, document.as_bytes()) {
-        Ok(tree) => tree,
-        Err(error) => return shown(alloc, &error),
-    };
+    match load_tree(alloc, document.as_bytes()) {
+        Ok(tree) => asked_of_tree(alloc, kind, &tree),
+        Err(error) => shown(alloc, &error),
+    }
+}
+
+/// What is asked of the tree of a document.
+fn asked_of_tree(alloc: Global, kind: &str, tree: &Tree) -> Result<String, Fail> {
     match kind {
         "size" => shown(alloc, &tree.live_nodes()),
-        "written" => written(alloc, &tree, 200),
-        "narrow" => written(alloc, &tree, 5),
-        "places" => places(alloc, &tree),
-        _ => nodes_of(alloc, &tree, kind == "string values"),
+        "written" => written(alloc, tree, 200),
+        "narrow" => written(alloc, tree, 5),
+        "places" => places(alloc, tree),
+        _ => nodes_of(alloc, tree, kind == "string values"),
     }
 }
 
@@ -70,17 +74,16 @@ fn nodes_of(alloc: Global, tree: &Tree, are_strings: bool) -> Result<String, Fai
         if !text.is_empty() {
             text.push_str("; ")?;
         }
-        if are_strings {
-            text.push_str(tree.string_value(alloc, *n)?.as_str())?;
-        } else {
-            text.push_str(node_of(alloc, tree, *n)?.as_str())?;
-        }
+        text.push_str(node_of(alloc, tree, *n, are_strings)?.as_str())?;
     }
     Ok(text)
 }
 
-/// A node: its namespace and its local part where it has a name, and the value.
-fn node_of(alloc: Global, tree: &Tree, n: NodeId) -> Result<String, Fail> {
+/// A node: its namespace and its local part where it has a name, and the value; or its string-value.
+fn node_of(alloc: Global, tree: &Tree, n: NodeId, is_string: bool) -> Result<String, Fail> {
+    if is_string {
+        return copy(alloc, tree.string_value(alloc, n)?.as_str());
+    }
     let value = tree.value(n);
     match tree.name(n) {
         Some(name) => {

@@ -96,24 +96,23 @@ fn host_call(rt: &HostRuntime, call: &str) -> Result<String, Fail> {
         "all" => content(rt.alloc(), &mut HostShelf::new(rt), rest),
         "stdout" => told(rt.alloc(), write_all(&mut HostSink::new(rt.stdout()), line)),
         "stderr" => told(rt.alloc(), write_all(&mut HostSink::new(rt.stderr()), line)),
-        "full" => told(
-            rt.alloc(),
-            write_all(&mut HostSink::new(fs::create(rt, rest)?), line),
-        ),
+        "full" => written(rt, rest, &["a line of a test\n"]),
         _ => host_file(rt, rest),
     }
 }
 
+/// What writing texts to a file comes to.
+fn written(rt: &HostRuntime, path: &str, texts: &[&str]) -> Result<String, Fail> {
+    let mut sink = HostSink::new(fs::create(rt, path)?);
+    told(rt.alloc(), write_pieces(&mut sink, texts))
+}
+
 /// What is read of a file into which a text was written twice, and then when it was removed.
 fn host_file(rt: &HostRuntime, text: &str) -> Result<String, Fail> {
-    let alloc = rt.alloc();
-    let path = format!(in alloc; "/tmp/sch_io_{}", process::id(rt.process()))?;
-    write_pieces(
-        &mut HostSink::new(fs::create(rt, path.as_str())?),
-        &[text, text],
-    )?;
-    let read = content(alloc, &mut HostShelf::new(rt), path.as_str())?;
+    let path = format!(in rt.alloc(); "/tmp/sch_io_{}", process::id(rt.process()))?;
+    written(rt, path.as_str(), &[text, text])?;
+    let read = content(rt.alloc(), &mut HostShelf::new(rt), path.as_str())?;
     fs::remove_file(rt, path.as_str())?;
-    let missing = content(alloc, &mut HostShelf::new(rt), path.as_str())?;
-    Ok(format!(in alloc; "{}; {}", read.as_str(), missing.as_str())?)
+    let missing = content(rt.alloc(), &mut HostShelf::new(rt), path.as_str())?;
+    Ok(format!(in rt.alloc(); "{}; {}", read.as_str(), missing.as_str())?)
 }

@@ -38,33 +38,52 @@ impl Answers for Tables {
     }
 }
 
-/// Takes the events that wait, of which there are fewer than 20.
-fn take(reader: &mut Reader, events: &mut LocatedList) -> Result<(), Fail> {
-    for _ in 0..20 {
-        if let Some(event) = reader.next_event() {
-            events.push(event)?;
-        }
+/// A reader, and the events that it gave.
+#[derive(Drop)]
+struct Reading {
+    reader: Reader,
+    events: LocatedList,
+}
+
+impl Reading {
+    /// Reads a piece, and takes what waits then.
+    fn feed(&mut self, piece: &[u8]) -> Result<(), Fail> {
+        self.reader.feed(piece)?;
+        self.take()
     }
-    Ok(())
+
+    /// Ends the text, and takes what waits then.
+    fn finish(&mut self) -> Result<(), Fail> {
+        self.reader.finish()?;
+        self.take()
+    }
+
+    /// Takes the events that wait, of which there are fewer than 20.
+    fn take(&mut self) -> Result<(), Fail> {
+        for _ in 0..20 {
+            if let Some(event) = self.reader.next_event() {
+                self.events.push(event)?;
+            }
+        }
+        Ok(())
+    }
 }
 
 /// The events of a document that comes in pieces: some bytes, nothing, and the later ones, at most so many at a time.
 fn in_pieces(alloc: Global, first: &[u8], rest: &[u8], size: usize) -> Result<String, Fail>
     requires { 0 < size }
 {
-    let mut reader = Reader::new(alloc, Mode::Document);
-    let mut events = LocatedList::new(alloc);
-    reader.feed(first)?;
-    take(&mut reader, &mut events)?;
-    reader.feed(b"")?;
+    let mut reading = Reading {
+        reader: Reader::new(alloc, Mode::Document),
+        events: LocatedList::new(alloc),
+    };
+    reading.feed(first)?;
+    reading.feed(b"")?;
     for piece in rest.chunks(size) {
-        take(&mut reader, &mut events)?;
-        reader.feed(piece)?;
+        reading.feed(piece)?;
     }
-    take(&mut reader, &mut events)?;
-    reader.finish()?;
-    take(&mut reader, &mut events)?;
-    parts(alloc, &events)
+    reading.finish()?;
+    parts(alloc, &reading.events)
 }
 
 /// The events of a document that is cut after so many bytes.

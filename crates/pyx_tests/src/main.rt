@@ -32,19 +32,21 @@ impl Answers for Tables {
             "narrow line" => line_of(alloc, 5, input),
             "unescaped" => copy(alloc, unescape(alloc, input)?.as_str()),
             "bytes fault" => fault_of(alloc, Mode::Document, numbered(alloc, input)?.as_slice()),
-            "front" => lines_of(alloc, &front_of(alloc, input)?, true),
+            "front" => front_of(alloc, input),
             "document fault" => fault_of(alloc, Mode::Document, input.as_bytes()),
             "fragment fault" => fault_of(alloc, Mode::Fragment, input.as_bytes()),
-            "fragment" | "written fragment" => {
-                let events = read_events(alloc, Mode::Fragment, input.as_bytes())?;
-                lines_of(alloc, &events, kind == "fragment")
-            }
-            _ => {
-                let events = read_events(alloc, Mode::Document, input.as_bytes())?;
-                lines_of(alloc, &events, kind == "document")
-            }
+            "fragment" => events_of(alloc, Mode::Fragment, input, true),
+            "written fragment" => events_of(alloc, Mode::Fragment, input, false),
+            "document" => events_of(alloc, Mode::Document, input, true),
+            _ => events_of(alloc, Mode::Document, input, false),
         }
     }
+}
+
+/// The events of a text as they are written, each with its line before it where that is wanted.
+fn events_of(alloc: Global, mode: Mode, text: &str, are_numbered: bool) -> Result<String, Fail> {
+    let events = read_events(alloc, mode, text.as_bytes())?;
+    lines_of(alloc, &events, are_numbered)
 }
 
 /// The events as they are written, each with its line before it where that is wanted.
@@ -59,13 +61,13 @@ fn lines_of(alloc: Global, events: &LocatedList, are_numbered: bool) -> Result<S
     text(alloc, sink.written())
 }
 
-/// The events before the first fault of a document.
-fn front_of(alloc: Global, text: &str) -> Result<LocatedList, Fail> {
+/// The events before the first fault of a document, with their lines.
+fn front_of(alloc: Global, text: &str) -> Result<String, Fail> {
     let front = read_front(alloc, Mode::Document, text.as_bytes())?;
     if front.fault.is_none() {
         return Err("a document without a fault".into());
     }
-    Ok(front.events)
+    lines_of(alloc, &front.events, true)
 }
 
 /// The first fault of a text, which both calls tell alike.

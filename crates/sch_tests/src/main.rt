@@ -4,7 +4,7 @@
 
 ghost use Rattle.std.specs.Prelude.{◌≡◌, ◌<◌};
 
-use sch_cli::{Status, Words, run};
+use sch_cli::{Words, run};
 use sch_io::{MemoryShelf, MemorySink};
 use std::alloc::{AllocError, Global};
 use std::marker::Brand;
@@ -13,6 +13,7 @@ use std::str;
 use std::sync::ledger::{Blank, Ledger};
 use std::test::Fail;
 use test_rows::{Answers, hold_rows};
+use test_texts::repeated;
 use xp_outcome::Steps;
 
 /// How many bytes a sink holds.
@@ -47,7 +48,7 @@ impl Answers for Files {
                     self.put("d.pyx", front)?;
                 }
             }
-            "nested" => self.put("d.pyx", nested(self.alloc, input.parse()?)?.as_slice())?,
+            "repeated" => self.put("d.pyx", repeated(self.alloc, input)?.as_bytes())?,
             "run" => return self.ended(input, 0, ROOM),
             _ => match kind.split_once(' ') {
                 Some(("file", name)) => self.put(name, input.as_bytes())?,
@@ -69,51 +70,45 @@ impl Files {
         Ok(())
     }
 
-    /// How words end, where the shelf's call of that number fails and the output has room for that many bytes.
-    fn ended(&self, words: &str, failing: u64, room: usize) -> Result<String, Fail> {
-        let alloc = self.alloc;
-        let mut shelf = MemoryShelf::new(alloc);
+    /// A shelf with the files, whose call of that number fails.
+    fn shelf(&self, failing: u64) -> Result<MemoryShelf, Fail> {
+        let mut shelf = MemoryShelf::new(self.alloc);
         for file in &self.held {
             shelf.put(file.name.as_str(), file.bytes.as_slice())?;
         }
         shelf.fail_at(failing)?;
-        let mut list = Words::new(alloc);
+        Ok(shelf)
+    }
+
+    /// How words end, where the shelf's call of that number fails and the output has room for that many bytes.
+    fn ended(&self, words: &str, failing: u64, room: usize) -> Result<String, Fail> {
+        let mut shelf = self.shelf(failing)?;
+        let mut list = Words::new(self.alloc);
         for word in words.split(' ') {
             list.push(word)?;
         }
-        let mut out = MemorySink::with_room(alloc, room)?;
-        let mut err = MemorySink::with_room(alloc, ROOM)?;
-        let ends = counted::<Brand>(alloc, &list, &mut shelf, &mut out, &mut err, Blank::new(1));
-        let line = str::from_utf8(err.written())?;
-        let text = str::from_utf8(out.written())?;
-        Ok(format!(in alloc; "{} {line}{text}", ends.code())?)
+        counted::<Brand>(self.alloc, &list, &mut shelf, room, Blank::new(1))
     }
 }
 
-/// Runs words, with a count of steps over the ledger of the blank.
+/// How words end over a shelf by a count over the ledger of the blank: the status, the line on the error output, and the output,
+/// which has room for that many bytes.
 fn counted<L: Ledger>(
     alloc: Global,
     words: &Words,
     shelf: &mut MemoryShelf,
-    out: &mut MemorySink,
-    err: &mut MemorySink,
+    room: usize,
     blank: Blank,
-) -> Status
+) -> Result<String, Fail>
     requires name { blank.name ≡ L.name }
     requires parts { blank.parts ≡ L.parts }
     requires some { 0 < L.parts }
 {
+    let mut out = MemorySink::with_room(alloc, room)?;
+    let mut err = MemorySink::with_room(alloc, ROOM)?;
     let mut steps: Steps<L> = Steps::start(blank);
-    run(alloc, words, shelf, out, err, &mut steps)
-}
-
-/// A document of elements nested that deep.
-fn nested(alloc: Global, depth: usize) -> Result<Vec<u8>, Fail> {
-    let mut text = Vec::new(alloc);
-    for line in [b"(a\n", b")a\n"] {
-        for _ in 0..depth {
-            text.extend_from_slice(line)?;
-        }
-    }
-    Ok(text)
+    let ends = run(alloc, words, shelf, &mut out, &mut err, &mut steps);
+    let line = str::from_utf8(err.written())?;
+    let text = str::from_utf8(out.written())?;
+    Ok(format!(in alloc; "{} {line}{text}", ends.code())?)
 }

@@ -2,6 +2,9 @@
 //! do not hold are written.
 #![tactic(auto)]
 
+ghost use Rattle.std.specs.Prelude.{◌≡◌, true};
+ghost use Rattle.doc_tree.specs.Kinds.{is_document};
+
 use doc_locations::location;
 use doc_tree::{MAX_LIVE_TEXT_BYTES, Tree};
 use name_scopes::load_tree;
@@ -32,22 +35,21 @@ impl Answers for Tables {
     fn answer(&mut self, kind: &str, input: &str) -> Result<String, Fail> {
         match kind {
             "document" => told(self.alloc, input, false),
-            "schema" => told(self.alloc, schema_of(self.alloc, input)?.as_str(), false),
+            "schema" => told_of_lines(self.alloc, input, false),
             _ => {
                 let lines = repeated(self.alloc, input)?;
-                told(
-                    self.alloc,
-                    schema_of(self.alloc, lines.as_str())?.as_str(),
-                    true,
-                )
+                told_of_lines(self.alloc, lines.as_str(), true)
             }
         }
     }
 }
 
-/// The text of a schema that holds these lines.
-fn schema_of(alloc: Global, lines: &str) -> Result<String, Fail> {
-    Ok(format!(in alloc; "(schema\nAxmlns http://purl.oclc.org/dsdl/schematron\n{lines})schema\n")?)
+/// What is told of the schema that holds these lines.
+fn told_of_lines(alloc: Global, lines: &str, is_measured: bool) -> Result<String, Fail> {
+    let text = format!(in alloc;
+        "(schema\nAxmlns http://purl.oclc.org/dsdl/schematron\n{lines})schema\n"
+    )?;
+    told(alloc, text.as_str(), is_measured)
 }
 
 /// What a document's schema is without abstract parts, or how large that is, or the first rule that it breaks.
@@ -59,15 +61,18 @@ fn told(alloc: Global, text: &str, is_measured: bool) -> Result<String, Fail> {
     if !tree.is_document() {
         return Err("no document".into());
     }
-    let raw = match read_schema(alloc, &tree) {
-        Ok(raw) => raw,
-        Err(error) => return broken(alloc, &tree, &error),
-    };
-    match expand(alloc, raw) {
+    match flat_of(alloc, &tree) {
         Ok(flat) if is_measured => size(alloc, &flat),
         Ok(flat) => held(alloc, &flat),
         Err(error) => broken(alloc, &tree, &error),
     }
+}
+
+/// A document's schema without abstract parts.
+fn flat_of(alloc: Global, tree: &Tree) -> Result<FlatSchema, SchemaError>
+    requires { is_document tree.now.nodes ≡ true }
+{
+    expand(alloc, read_schema(alloc, tree)?)
 }
 
 /// A broken rule: its number, the place and the name.

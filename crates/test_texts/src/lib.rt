@@ -39,15 +39,25 @@ fn meant(c: char) -> char {
 /// A text in which each second part between stars is a count and what is repeated: `a*3 b*c` is `abbbc`.
 pub fn repeated(alloc: Global, text: &str) -> Result<String, Fail> {
     let mut whole = String::new(alloc);
-    for (place, part) in text.split('*').enumerate() {
-        if place % 2 == 0 {
-            whole.push_str(part)?;
+    let mut is_repeated = false;
+    for part in text.split('*') {
+        if is_repeated {
+            append_repeated(&mut whole, part)?;
         } else {
-            let (count, part) = first_word(part);
-            whole.push_str(part.repeat(alloc, number(count)?)?.as_str())?;
+            whole.push_str(part)?;
         }
+        is_repeated = !is_repeated;
     }
     Ok(whole)
+}
+
+/// Appends a part as often as its first word says.
+fn append_repeated(whole: &mut String, part: &str) -> Result<(), Fail> {
+    let (count, part) = first_word(part);
+    for _ in 0..number(count)? {
+        whole.push_str(part)?;
+    }
+    Ok(())
 }
 
 /// A text once more.
@@ -80,12 +90,10 @@ pub fn told<E: Display + Drop>(alloc: Global, answer: Result<(), E>) -> Result<S
 
 /// The place of a word among words that stand apart by spaces.
 pub fn place_of(word: &str, words: &str) -> Result<usize, Fail> {
-    for (place, found) in words.split(' ').enumerate() {
-        if found == word {
-            return Ok(place);
-        }
+    match words.split(' ').position(|found| found == word) {
+        Some(place) => Ok(place),
+        None => Err("there is no such word".into()),
     }
-    Err("there is no such word".into())
 }
 
 /// A text in which the words, where there are any, stand for things.
@@ -98,8 +106,14 @@ pub fn with_words<T: Debug>(
     let mut text = text;
     if !words.is_empty() {
         for (thing, word) in things.iter().zip(words.split(' ')) {
-            text = text.replace(alloc, parts(alloc, thing)?.as_str(), word)?;
+            text = with_word(alloc, text.as_str(), thing, word)?;
         }
     }
     Ok(text)
+}
+
+/// A text in which a word stands for a thing.
+fn with_word<T: Debug>(alloc: Global, text: &str, thing: &T, word: &str) -> Result<String, Fail> {
+    let shown = parts(alloc, thing)?;
+    Ok(text.replace(alloc, shown.as_str(), word)?)
 }

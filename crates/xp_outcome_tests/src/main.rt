@@ -47,40 +47,53 @@ impl Answers for Tables {
 }
 
 impl Tables {
-    /// What a call of the recorder comes to; `kids`, `turns` and `let` come so many times.
+    /// What a call of the recorder comes to.
     fn recorder_call(&mut self, word: &str, rest: &str) -> Result<String, Fail> {
+        match word {
+            "read" => return parts(self.alloc, &(self.reads.cells(), self.reads.lets())),
+            "few" => return shown(self.alloc, &self.has_at_most(number(rest)?)),
+            "cut" => self.reads.cut_lets(u32::try_from(number(rest)?)?),
+            "settle" => self.reads.settle(),
+            "clear" => self.reads.clear(),
+            "let" => self.add_let(rest)?,
+            _ => self.add(word, rest)?,
+        }
+        copy(self.alloc, "done")
+    }
+
+    /// Whether the recorder holds at most so many cells, and so many slots.
+    fn has_at_most(&self, count: usize) -> bool {
+        self.reads.cells().len() <= count && self.reads.lets().len() <= count
+    }
+
+    /// Adds the cells that a word names; `kids` and `turns` come so many times.
+    fn add(&mut self, word: &str, count: &str) -> Result<(), Fail> {
         match word {
             "shape" => self.reads.add(Cell::Shape(self.node))?,
             "text" => self.reads.add(Cell::Text(self.node))?,
             "kids" => {
-                for _ in 0..number(rest)? {
+                for _ in 0..number(count)? {
                     self.reads.add(Cell::Kids(self.node))?;
                 }
             }
-            "turns" => {
-                for _ in 0..number(rest)? {
+            _ => {
+                for _ in 0..number(count)? {
                     self.reads.add(Cell::Shape(self.node))?;
                     self.reads.add(Cell::Kids(self.node))?;
                 }
             }
-            "let" => {
-                let (slot, count) = first_word(rest);
-                let slot = u32::try_from(number(slot)?)?;
-                for _ in 0..number(count)? {
-                    self.reads.add_let(slot)?;
-                }
-            }
-            "cut" => self.reads.cut_lets(u32::try_from(number(rest)?)?),
-            "settle" => self.reads.settle(),
-            "clear" => self.reads.clear(),
-            "few" => {
-                let most = number(rest)?;
-                let few = self.reads.cells().len() <= most && self.reads.lets().len() <= most;
-                return shown(self.alloc, &few);
-            }
-            _ => return parts(self.alloc, &(self.reads.cells(), self.reads.lets())),
         }
-        copy(self.alloc, "done")
+        Ok(())
+    }
+
+    /// Adds a slot so many times.
+    fn add_let(&mut self, call: &str) -> Result<(), Fail> {
+        let (slot, count) = first_word(call);
+        let slot = u32::try_from(number(slot)?)?;
+        for _ in 0..number(count)? {
+            self.reads.add_let(slot)?;
+        }
+        Ok(())
     }
 
     /// What a call of the slots comes to.
