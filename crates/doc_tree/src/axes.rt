@@ -21,7 +21,7 @@ pub enum Axis {
 }
 
 /// A node test whose prefixes are resolved (XPath 1.0, section 2.3).
-#[derive(Debug, Drop)]
+#[derive(Drop)]
 pub enum NodeTest {
     /// `node()`
     Any,

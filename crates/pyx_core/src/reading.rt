@@ -10,7 +10,7 @@ use crate::{FeedError, LocatedList, Mode, PyxFault, Reader};
 use std::alloc::{AllocError, Global};
 
 /// The events of a text up to its end, or up to its first fault.
-#[derive(Debug, Drop)]
+#[derive(Drop)]
 pub struct Front {
     /// The events; before a fault those that are completed by the lines before it.
     pub events: LocatedList,

@@ -293,7 +293,10 @@ impl Standing {
             Err(kind) => return Ok(Err(kind)),
         };
         match self.misplaced(&line) {
-            Some(kind) => Ok(Err(kind)),
+            Some(kind) => {
+                drop(line);
+                Ok(Err(kind))
+            }
             None => Ok(Ok(line)),
         }
     }
@@ -341,6 +344,7 @@ impl Standing {
             Err(kind) => return Ok(Some(kind)),
         };
         if let Some(kind) = self.lacking(&line) {
+            drop(line);
             return Ok(Some(kind));
         }
         self.settle(alloc, number, line)?;

@@ -36,7 +36,7 @@ impl<'a> Word<'a> {
 }
 
 /// The node types of a node test (XPath 1.0, section 2.3).
-#[derive(Clone, Copy, Debug, PartialEq, Eq)]
+#[derive(Clone, Copy)]
 pub enum NodeType {
     Comment,
     Chars,

@@ -3,7 +3,7 @@
 use sch_base::Text;
 
 /// The levels of the operators that join operands to chains, loosest first (XPath 1.0, sections 3.3 to 3.5).
-#[derive(Clone, Copy, PartialEq, Eq)]
+#[derive(Clone, Copy)]
 pub enum Level {
     Or,
     And,
