@@ -1,6 +1,6 @@
 -- Texts, comments, instructions and ends taken by a tree under way.
 use Rattle.std.proofs.Common.{◌≡◌, ◌≢◌, ℕ, ◌+◌, suc, Bool, true, false, List, [], ◌∷◌, ◌++◌, length, map, drop, sum_by, Option, None, Some, refl, sym, ap, ◌∙◌, subst, ⊎_elim, true≢false, arith, nat_lt, length-append}
-use Rattle.std.specs.Prelude.{if◌then◌else◌, is_none, nat_le, Err}
+use Rattle.std.specs.Prelude.{if◌then◌else◌, is_none, nat_le}
 use Rattle.std.proofs.lemmas.Bool.{leb-false, leb-true, le-ltb, lt-ltb, cases_eq}
 use Rattle.std.proofs.Math.Seq.{drop-append_seam}
 use Rattle.pyx_core.specs.declared.event.Event.{Event}
@@ -17,13 +17,11 @@ use Rattle.doc_tree.specs.Kinds.{is_element, is_text}
 use Rattle.doc_tree.specs.Laws.{HasWaysUp, WellFormed}
 use Rattle.doc_tree.specs.Scope.{Decl, scope_at, HasScopes}
 use Rattle.name_scopes.specs.declared.build.Loader.{Loader}
-use Rattle.name_scopes.specs.declared.fault.EventError.{EventError}
-use Rattle.name_scopes.specs.declared.fault.EventError.TheVariants.{Kind, Memory}
 use Rattle.name_scopes.specs.declared.fault.DocKind.TheVariants.{TooManyNodes}
 use Rattle.name_scopes.specs.Scoping.{ContentInScope}
 use Rattle.name_scopes.specs.ScopedTree.{written, said_by, unscoped}
 use Rattle.name_scopes.specs.DocFaults.{Standing, in_scope, outer_scopes, node_fault, event_fault, moved}
-use Rattle.name_scopes.specs.inner.Build.{IsLeaf, IsFull, TakesEvent, Loads, Tops, Says, Builds, AreOpen, event_text, leaf_of}
+use Rattle.name_scopes.specs.inner.Build.{IsLeaf, Loads, Tops, Says, Builds, AreOpen, event_text, leaf_of}
 use Rattle.name_scopes.proofs.OpenElements.{open-live, open-apart, tops-apart, tops-other}
 use Rattle.name_scopes.proofs.ScopeGrowth.{grown-scoped}
 use Rattle.name_scopes.proofs.TellLemmas.{tells-leaf, tells-end, Ended, ends-in-one}
@@ -224,10 +222,6 @@ loads-leaf taken place standing old new n e leaf fits ways formed laws grew same
       (builds-leaf [] taken place standing old.tree.nodes old.place loads.builds new.tree.nodes n ways formed laws e leaf fits grew);
   scope_is = same_scope ∙ (loads.scope_is ∙ ap in_scope (scopes-after [] taken place standing old.tree.nodes old.place loads.builds new.tree.nodes n ways formed laws e leaf));
 }
-
-pub leaf-refused : (taken : List Event) (place : Place) (standing : Standing) (old new : Loader) (e : Event) (err : EventError) → IsLeaf e → Loads taken place standing old → IsFull old.tree.nodes err → TakesEvent taken place standing e new (Err err)
-leaf-refused taken place standing old new e (Kind what) leaf loads full = leaf-full [] taken place standing old.tree.nodes old.place loads.builds e leaf full.1 ∙ ap Some (sym full.0)
-leaf-refused taken place standing old new e Memory leaf loads full = tt
 
 -- the end of an element
 pub loads-end : (taken : List Event) (place : Place) (standing : Standing) (old new : Loader) (q count : ℕ) (name : List ℕ) → HasWaysUp old.tree.nodes → parent_of old.tree.nodes old.place ≡ Some q → Fits Document place (event.End name) →

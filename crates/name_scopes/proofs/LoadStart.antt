@@ -1,12 +1,12 @@
 -- A loader in front of all events.
-use Rattle.std.proofs.Common.{◌≡◌, suc, zero, List, [], refl, sym, subst, arith}
+use Rattle.std.proofs.Common.{suc, zero, List, [], refl, sym, subst, arith}
 use Rattle.pyx_core.specs.Nesting.{start}
 use Rattle.doc_tree.specs.Table.{Contents, AllLive, root_alone}
 use Rattle.doc_tree.specs.Scope.{Decl}
 use Rattle.name_scopes.specs.Fragments.{PieceInScope}
 use Rattle.name_scopes.specs.DocFaults.{begin}
 use Rattle.name_scopes.specs.declared.build.Loader.{Loader}
-use Rattle.name_scopes.specs.inner.Build.{Builds, Loads}
+use Rattle.name_scopes.specs.inner.Build.{Builds, IsNew, Loads}
 
 root-scoped : (around : List Decl) → PieceInScope around root_alone.nodes
 root-scoped around zero = tt
@@ -35,8 +35,8 @@ root-builds around = record {
     all_live zero h = refl
     all_live (suc n) h = absurd (omega arith)
 
-pub loads-none : (loader : Loader) → loader.tree ≡ root_alone → loader.place ≡ 0 → loader.scope ≡ [] → Loads [] start begin loader
-loads-none loader is_tree is_place is_scope = record {
-  builds = subst (λ (t : Contents). Builds [] [] start begin t.nodes loader.place) (sym is_tree) (subst (Builds [] [] start begin root_alone.nodes) (sym is_place) (root-builds []));
-  scope_is = is_scope;
+pub loads-none : (loader : Loader) → IsNew loader → Loads [] start begin loader
+loads-none loader new = record {
+  builds = subst (λ (t : Contents). Builds [] [] start begin t.nodes loader.place) (sym new.tree_is) (subst (Builds [] [] start begin root_alone.nodes) (sym new.place_is) (root-builds []));
+  scope_is = new.scope_is;
 }

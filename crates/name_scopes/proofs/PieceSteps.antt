@@ -1,7 +1,7 @@
 -- Events put to a piece under way, one by one.
 use Rattle.std.proofs.Common.{◌≡◌, ℕ, ◌+◌, ◌≤◌, suc, Bool, true, false, ◌||◌, List, [], ◌∷◌, ◌++◌, length, drop, sum_by, None, Some, refl, sym, ap, ap₂, ◌∙◌, subst, true≢false, arith, append_assoc, length-append, nat_lt}
 use Rattle.std.specs.Prelude.{if◌then◌else◌}
-use Rattle.std.proofs.lemmas.Bool.{leb-true}
+use Rattle.std.proofs.lemmas.Bool.{lt-leb}
 use Rattle.std.proofs.lemmas.List.Sums.{sum_by-append, sum_by-cons}
 use Rattle.pyx_core.specs.declared.event.Attr.{Attr}
 use Rattle.pyx_core.specs.declared.event.Event.{Event}
@@ -11,7 +11,7 @@ use Rattle.pyx_core.specs.Nesting.{Place, after}
 use Rattle.doc_tree.specs.limits.TheConstants.{MAX_DEPTH, MAX_LIVE_NODES, MAX_LIVE_TEXT_BYTES}
 use Rattle.doc_tree.specs.Table.{Contents, root_alone, kids_of, decls_of, parent_of, value_in}
 use Rattle.doc_tree.specs.Walks.{above, order, text_bytes}
-use Rattle.doc_tree.specs.Growth.{Grew}
+use Rattle.doc_tree.specs.Growth.{Grew, has_too_many}
 use Rattle.doc_tree.specs.Laws.{HasWaysUp, WellFormed}
 use Rattle.doc_tree.specs.Scope.{Decl, scope_at, HasScopes}
 use Rattle.name_scopes.specs.declared.build.Loader.{Loader}
@@ -20,7 +20,7 @@ use Rattle.name_scopes.specs.declared.fault.EventError.TheVariants.{Kind}
 use Rattle.name_scopes.specs.Declarations.{declarations, plain_attrs}
 use Rattle.name_scopes.specs.DocFaults.{Standing, begin, in_scope, outer_scopes, tag_fault, tag_nodes, moved}
 use Rattle.name_scopes.specs.Fragments.{event_nodes, plain_text}
-use Rattle.name_scopes.specs.inner.Build.{Begins, Builds, IsFull, IsLeaf, IsTooDeep, value_bytes, leaf_of}
+use Rattle.name_scopes.specs.inner.Build.{Begins, Builds, IsLeaf, IsTooDeep, value_bytes, leaf_of}
 use Rattle.name_scopes.specs.inner.Piece.{PieceComes, PieceLoads}
 use Rattle.name_scopes.proofs.OpenElements.{kids-stay, open-apart, open-depth}
 use Rattle.name_scopes.proofs.StepLemmas.{builds-scope, builds-start, start-apart, start-at-root}
@@ -125,11 +125,9 @@ module _ (around : List Decl) (taken : List Event) (place : Place) (standing : S
     pub leaf-little : text_bytes old.tree.nodes + length (value_in (leaf_of e)) ≤ MAX_LIVE_TEXT_BYTES
     leaf-little = omega (arith, comes.little, loads.text, leaf-plain)
 
-    -- it isn't refused
-    pub leaf-few : (what : DocKind) → IsFull old.tree.nodes (Kind what) → ⊥
-    leaf-few what full =
-        let many : MAX_LIVE_NODES ≤ length (order old.tree.nodes) = leb-true MAX_LIVE_NODES (length (order old.tree.nodes)) full.1 in
-        absurd (omega (arith, many, one-node, loads.builds.count))
+    -- there is room for it
+    pub leaf-few : has_too_many old.tree.nodes ≡ false
+    leaf-few = lt-leb MAX_LIVE_NODES (length (order old.tree.nodes)) (omega (arith, one-node, loads.builds.count))
 
     begun : place.begun ≡ true
     begun = loads.builds.inside (comes.inside leaf)

@@ -1,27 +1,18 @@
 //! What stands around a node that comes under another.
 
-ghost use Rattle.std.specs.Prelude.{◌≡◌, ◌++◌, ◌≤◌, length, drop, IfOk, OnOk};
+ghost use Rattle.std.specs.Prelude.{◌≡◌, ◌++◌, ◌≤◌, length, drop, OnOk};
 ghost use Rattle.doc_tree.specs.Table.{decls_of};
 ghost use Rattle.doc_tree.specs.Walks.{above};
 ghost use Rattle.doc_tree.specs.Scope.{scope_at};
 
 use crate::scope::Scope;
 use doc_tree::{NodeId, Tree};
-use std::alloc::{AllocError, Global};
-
-/// The declarations in scope at a node.
-///
-/// Costs the declarations at the node and above it.
-pub(crate) fn scope_around(alloc: Global, tree: &Tree, n: NodeId) -> Result<Scope, AllocError>
-    ensures { IfOk result (λ scope. scope ≡ scope_at tree.now.nodes n) }
-{
-    let mut scope = Scope::new(alloc);
-    declare_above(&mut scope, tree, n)?;
-    Ok(scope)
-}
+use std::alloc::AllocError;
 
 /// Puts what is declared at a node and above it in scope.
-fn declare_above(scope: &mut Scope, tree: &Tree, n: NodeId) -> Result<(), AllocError>
+///
+/// Costs the declarations at the node and above it.
+pub(crate) fn declare_above(scope: &mut Scope, tree: &Tree, n: NodeId) -> Result<(), AllocError>
     ensures { OnOk result (scope.new ≡ scope_at tree.now.nodes n ++ scope.old) }
 {
     tree.laws();

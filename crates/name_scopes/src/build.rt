@@ -6,15 +6,15 @@ ghost use Rattle.std.specs.Option.{option_or, option_to_list};
 ghost use Rattle.pyx_core.specs.declared.event.Event.{Event};
 ghost use Rattle.pyx_core.specs.declared.event.Event.TheVariants as event_kind;
 ghost use Rattle.pyx_core.specs.declared.mode.Mode.TheVariants.{Document};
-ghost use Rattle.pyx_core.specs.Nesting.{Place, after, is_attr, is_name, start};
+ghost use Rattle.pyx_core.specs.Nesting.{Place, after, is_attr, is_name};
 ghost use Rattle.doc_tree.specs.kind.Kind.TheVariants.{Element};
 ghost use Rattle.doc_tree.specs.Table.{element, attribute, numbered, value_in, kind_of, kids_of, attrs_of, decls_of, parent_of};
 ghost use Rattle.doc_tree.specs.Walks.{above, order, text_bytes};
 ghost use Rattle.doc_tree.specs.Growth.{AttributeFits, FitsUnder, Grew, has_too_many};
 ghost use Rattle.name_scopes.specs.Declarations.{declaration_of, declarations, plain_attrs};
 ghost use Rattle.name_scopes.specs.Scoping.{declares_twice};
-ghost use Rattle.name_scopes.specs.DocFaults.{Standing, begin, has_pair, lacks_prefix, moved, same_expanded, tag_fault, tag_nodes};
-ghost use Rattle.name_scopes.specs.inner.Build.{AttributesAll, Begins, Comes, DeclaresAll, IsFull, IsLeaf, IsNamed, IsReady, IsTooDeep, Loads, Receives, TakesEvent, attribute_name, attrs_fault, leaf_of, room_fault, value_bytes};
+ghost use Rattle.name_scopes.specs.DocFaults.{Standing, has_pair, lacks_prefix, moved, same_expanded, tag_fault, tag_nodes};
+ghost use Rattle.name_scopes.specs.inner.Build.{AttributesAll, Begins, Comes, DeclaresAll, IsLeaf, IsNamed, IsNew, IsReady, IsTooDeep, Loads, Receives, TakesEvent, attribute_name, attrs_fault, leaf_of, room_fault, value_bytes};
 
 use crate::declarations::{declared_prefix, is_plain};
 use crate::fault::{DocKind, EventError};
@@ -41,11 +41,10 @@ pub(crate) struct Loader {
 impl Loader {
     /// The root alone.
     pub(crate) fn new(alloc: Global) -> Result<Loader, AllocError>
-        ensures { IfOk result (λ loader. Loads [] start begin loader) }
+        ensures { IfOk result IsNew }
     {
         let tree = Tree::new(alloc)?;
         let place = tree.root();
-        tree.laws();
         Ok(Loader {
             alloc,
             tree,
@@ -104,6 +103,9 @@ impl Loader {
             TakesEvent taken place standing event.now self.new result }
     {
         self.tree.laws();
+        if self.tree.live_nodes() >= MAX_LIVE_NODES {
+            return Err(EventError::Kind(DocKind::TooManyNodes));
+        }
         append_leaf(&mut self.tree, self.place, event)?;
         Ok(())
     }
@@ -200,27 +202,28 @@ pub(crate) fn append_leaf(
     tree: &mut Tree,
     parent: NodeId,
     event: &Event,
-) -> Result<NodeId, EventError>
+) -> Result<NodeId, AllocError>
+    requires leaf { IsLeaf event.now }
     requires receives { Receives tree.old.nodes parent }
     requires fits { FitsUnder tree.old.nodes parent (leaf_of event.now) }
+    requires room { has_too_many tree.old.nodes ≡ false }
     requires little { text_bytes tree.old.nodes + length (value_in (leaf_of event.now)) ≤ MAX_LIVE_TEXT_BYTES }
-    ensures grew { IfOk result (λ n. Grew tree.old.nodes tree.new.nodes parent n (leaf_of event.now)) }
-    ensures room { OnOk result (has_too_many tree.old.nodes ≡ false) }
-    ensures full { IfErr result (IsFull tree.old.nodes) }
+    ensures { IfOk result (λ n. Grew tree.old.nodes tree.new.nodes parent n (leaf_of event.now)) }
 {
-    let appended = match event {
-        Event::Chars { text } => tree.append_node(parent, NewNode::Text(text.as_str())),
+    let node = match event {
+        Event::Chars { text } => NewNode::Text(text.as_str()),
         Event::Pi { target, body } => {
             let id = tree.name_id("", target.as_str(), "")?;
-            tree.append_node(parent, NewNode::Pi(id, body.as_str()))
+            NewNode::Pi(id, body.as_str())
         }
-        Event::Comment { text } => tree.append_node(parent, NewNode::Comment(text.as_str())),
-        Event::Start { name: _, attrs: _ } | Event::End { name: _ } => unreachable!(),
+        Event::Comment { text } => NewNode::Comment(text.as_str()),
+        Event::Start { name: _, attrs: _ } => unreachable!(),
+        Event::End { name: _ } => unreachable!(),
     };
-    match appended {
+    match tree.append_node(parent, node) {
         Ok(n) => Ok(n),
-        Err(AppendError::TooManyNodes) => Err(EventError::Kind(DocKind::TooManyNodes)),
-        Err(AppendError::Memory) => Err(EventError::Memory),
+        Err(AppendError::Memory) => Err(AllocError),
+        Err(AppendError::TooManyNodes) => unreachable!(),
         Err(AppendError::TooDeep) => unreachable!(),
         Err(AppendError::TooMuchText) => unreachable!(),
     }

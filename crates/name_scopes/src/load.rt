@@ -4,12 +4,12 @@ ghost use Rattle.std.specs.Prelude.{◌≡◌, ◌≢◌, ◌≤◌, ◌<◌, �
 ghost use Rattle.pyx_core.specs.declared.event.Event.{Event};
 ghost use Rattle.pyx_core.specs.declared.event.Located.{Located};
 ghost use Rattle.pyx_core.specs.declared.mode.Mode.TheVariants.{Document};
-ghost use Rattle.pyx_core.specs.Nesting.{Place, bare, start};
+ghost use Rattle.pyx_core.specs.Nesting.{Place, bare};
 ghost use Rattle.pyx_core.specs.Reader.{Reads};
 ghost use Rattle.pyx_core.specs.Reading.{events_of};
 ghost use Rattle.name_scopes.specs.ScopedTree.{Scoped};
-ghost use Rattle.name_scopes.specs.DocFaults.{Refuses, Standing, begin, doc_fault};
-ghost use Rattle.name_scopes.specs.inner.Build.{Comes, IsReady, Loads};
+ghost use Rattle.name_scopes.specs.DocFaults.{Refuses, Standing, doc_fault};
+ghost use Rattle.name_scopes.specs.inner.Build.{Comes, IsNew, IsReady, Loads};
 ghost use Rattle.name_scopes.specs.inner.Load.{AreDue, Enter, Going, HasTakenAll, Stands, TakesFound, line_error};
 
 use crate::build::Loader;
@@ -30,12 +30,11 @@ pub fn load_tree(alloc: Global, bytes: &[u8]) -> Result<Tree, LoadError>
 {
     events_nest();
     let mut loader = Loader::new(alloc)?;
-    match read_document(alloc, &mut loader, bytes) {
-        Ok(()) => {
-            let tree = loader.into_tree();
-            tree.laws();
-            Ok(tree)
-        }
+    let read = read_document(alloc, &mut loader, bytes);
+    let tree = loader.into_tree();
+    tree.laws();
+    match read {
+        Ok(()) => Ok(tree),
         Err(error) => Err(error),
     }
 }
@@ -43,7 +42,7 @@ pub fn load_tree(alloc: Global, bytes: &[u8]) -> Result<Tree, LoadError>
 /// Reads a document and takes its events, up to its first fault, where none was taken yet.
 fn read_document(alloc: Global, loader: &mut Loader, bytes: &[u8]) -> Result<(), LoadError>
     requires little { length bytes.now ≤ MAX_LIVE_TEXT_BYTES }
-    requires first { Loads [] start begin loader.old }
+    requires new { IsNew loader.old }
     ensures taken { OnOk result (HasTakenAll bytes.now loader.new) }
     ensures refused { IfErr result (Refuses (doc_fault bytes.now)) }
 {
@@ -136,7 +135,9 @@ fn take_waiting(loader: &mut Loader, reader: &mut Reader) -> Result<(), LoadErro
     ensures none { OnOk result (reader.new.waiting ≡ []) }
 {
     while let Some(found) = reader.next_event() {
-        match take(loader, &found) {
+        let taken = take(loader, &found);
+        drop(found);
+        match taken {
             Ok(()) => (),
             Err(error) => return Err(error),
         }

@@ -1,13 +1,15 @@
 //! The start tags that are open at a place of a fragment.
 
-ghost use Rattle.std.specs.Prelude.{◌≡◌, ◌∷◌, [], List, IfOk, OnOk};
-ghost use Rattle.doc_tree.specs.Scope.{Decl};
+ghost use Rattle.std.specs.Prelude.{◌≡◌, ◌∷◌, [], List, OnOk};
+ghost use Rattle.doc_tree.specs.Scope.{Decl, scope_at};
 ghost use Rattle.name_scopes.specs.Declarations.{declarations};
 ghost use Rattle.name_scopes.specs.DocFaults.{outer_scopes};
 ghost use Rattle.name_scopes.specs.inner.Piece.{Stands, scopes_after};
 
+use crate::around::declare_above;
 use crate::build::declare;
 use crate::scope::Scope;
+use doc_tree::{NodeId, Tree};
 use pyx_core::{Attr, Event};
 use std::alloc::{AllocError, Global};
 
@@ -20,17 +22,24 @@ pub(crate) struct OpenTags {
 }
 
 impl OpenTags {
-    /// None is open; these are in scope around the fragment.
-    pub(crate) fn new(alloc: Global, around: Scope) -> Result<OpenTags, AllocError>
-        ensures { IfOk result (λ tags. Stands (around ∷ []) tags) }
+    /// Nothing is in scope.
+    pub(crate) fn new(alloc: Global) -> OpenTags
+        ensures { Stands [] result }
     {
-        let count = around.len();
-        let mut counts = Vec::new(alloc);
-        counts.push(count)?;
-        Ok(OpenTags {
-            scope: around,
-            counts,
-        })
+        OpenTags {
+            scope: Scope::new(alloc),
+            counts: Vec::new(alloc),
+        }
+    }
+
+    /// Puts what is in scope at a node in scope around the fragment.
+    pub(crate) fn stand_under(&mut self, tree: &Tree, parent: NodeId) -> Result<(), AllocError>
+        requires { Stands [] self.old }
+        ensures { OnOk result (Stands (scope_at tree.now.nodes parent ∷ []) self.new) }
+    {
+        declare_above(&mut self.scope, tree, parent)?;
+        self.counts.push(self.scope.len())?;
+        Ok(())
     }
 
     /// Goes on behind an event; at a start tag its own declarations come in scope.

@@ -1,41 +1,45 @@
 //! A piece under way: the events of a fragment that is known to fit are put one by one.
 
-ghost use Rattle.std.specs.Prelude.{◌≡◌, ◌∷◌, ◌++◌, [], List, ℕ, IfOk, OnOk};
+ghost use Rattle.std.specs.Prelude.{◌≡◌, ◌∷◌, ◌++◌, [], true, List, ℕ, OnOk};
 ghost use Rattle.pyx_core.specs.declared.event.Event.{Event};
 ghost use Rattle.pyx_core.specs.declared.event.Event.TheVariants as event_kind;
 ghost use Rattle.pyx_core.specs.declared.mode.Mode.TheVariants.{Document};
-ghost use Rattle.pyx_core.specs.Nesting.{Place, after, start};
-ghost use Rattle.doc_tree.specs.Scope.{Decl};
-ghost use Rattle.name_scopes.specs.DocFaults.{Standing, begin, moved};
-ghost use Rattle.name_scopes.specs.inner.Build.{IsLeaf};
-ghost use Rattle.name_scopes.specs.inner.Piece.{PieceComes, PieceIsReady, PieceLoads};
+ghost use Rattle.pyx_core.specs.Nesting.{Place, after};
+ghost use Rattle.doc_tree.specs.Scope.{Decl, scope_at};
+ghost use Rattle.name_scopes.specs.DocFaults.{Standing, moved};
+ghost use Rattle.name_scopes.specs.inner.Build.{IsLeaf, IsNew};
+ghost use Rattle.name_scopes.specs.inner.Piece.{IsAcceptable, IsPiece, PieceComes, PieceIsReady, PieceLoads, begins_element};
 
+use crate::around::declare_above;
 use crate::build::{Loader, append_leaf, declare};
 use crate::fault::EventError;
-use crate::recent_names::RecentNames;
-use crate::scope::Scope;
-use doc_tree::Tree;
+use doc_tree::{NodeId, Tree};
 use pyx_core::{Attr, Event};
-use std::alloc::{AllocError, Global};
+use std::alloc::AllocError;
 
 impl Loader {
-    /// The root alone, where these declarations are in scope around it.
-    pub(crate) fn within(alloc: Global, around: Scope) -> Result<Loader, AllocError>
-        ensures { IfOk result (λ loader. PieceLoads around [] start begin loader) }
+    /// Puts a fragment that begins with a start tag and is to come under a node of a tree; no event was put yet.
+    pub(crate) fn put_piece(
+        &mut self,
+        tree: &Tree,
+        parent: NodeId,
+        events: &[Event],
+    ) -> Result<(), AllocError>
+        requires new { IsNew self.old }
+        requires acceptable { IsAcceptable (scope_at tree.now.nodes parent) events.now }
+        requires element { begins_element events.now ≡ true }
+        ensures { OnOk result (IsPiece (scope_at tree.now.nodes parent) events.now self.new.tree.nodes) }
     {
-        let tree = Tree::new(alloc)?;
-        let place = tree.root();
-        Ok(Loader {
-            alloc,
-            tree,
-            place,
-            scope: around,
-            recent: RecentNames::new(place),
-        })
+        declare_above(&mut self.scope, tree, parent)?;
+        for event in events {
+            self.put(event)?;
+        }
+        self.tree.laws();
+        Ok(())
     }
 
     /// Puts an event.
-    pub(crate) fn put(&mut self, event: &Event) -> Result<(), AllocError>
+    fn put(&mut self, event: &Event) -> Result<(), AllocError>
         requires { PieceIsReady self.old event.now }
         ensures { OnOk result ((around : List Decl) (taken : List Event) (place : Place) (standing : Standing) → PieceLoads around taken place standing self.old → PieceComes around taken place standing event.now →
             PieceLoads around (taken ++ event.now ∷ []) (after Document place event.now) (moved standing event.now) self.new) }
@@ -80,10 +84,7 @@ impl Loader {
             PieceLoads around (taken ++ event.now ∷ []) (after Document place event.now) (moved standing event.now) self.new) }
     {
         self.tree.laws();
-        match append_leaf(&mut self.tree, self.place, event) {
-            Ok(_) => Ok(()),
-            Err(EventError::Memory) => Err(AllocError),
-            Err(EventError::Kind(_)) => unreachable!(),
-        }
+        append_leaf(&mut self.tree, self.place, event)?;
+        Ok(())
     }
 }

@@ -1,12 +1,13 @@
 //! The reasons for which the names and the nodes of a fragment keep it from coming under a node.
 
-ghost use Rattle.std.specs.Prelude.{◌≡◌, ◌≤◌, ◌<◌, ◌+◌, ◌∷◌, List, nat_le, sum_by, IfOk, MatchOption};
+ghost use Rattle.std.specs.Prelude.{◌≡◌, ◌≤◌, ◌<◌, ◌+◌, [], ◌∷◌, List, nat_le, sum_by, IfOk, MatchOption};
 ghost use Rattle.pyx_core.specs.declared.event.Event.{Event};
 ghost use Rattle.doc_tree.specs.limits.TheConstants.{MAX_DEPTH};
+ghost use Rattle.doc_tree.specs.Scope.{scope_at};
 ghost use Rattle.name_scopes.specs.Fragments.{event_nodes, is_too_deep, piece_refusal, tag_doubles, tag_lacks_prefix};
-ghost use Rattle.name_scopes.specs.inner.Piece.{deep_from, holds_of_tag, names_refusal};
+ghost use Rattle.name_scopes.specs.inner.Piece.{Stands, deep_from, holds_of_tag, names_refusal};
 
-use crate::around::{count_above, scope_around};
+use crate::around::count_above;
 use crate::build::count_plain;
 use crate::open_tags::OpenTags;
 use crate::scope::Scope;
@@ -26,8 +27,7 @@ pub(crate) fn refuse_piece(
 ) -> Result<Option<EditRefusal>, AllocError>
     ensures { IfOk result (λ found. found ≡ piece_refusal tree.now.nodes parent events.now) }
 {
-    let around = scope_around(alloc, tree, parent)?;
-    if let Some(refusal) = refuse_names(alloc, around, events)? {
+    if let Some(refusal) = refuse_names(alloc, tree, parent, events)? {
         return Ok(Some(refusal));
     }
     tree.laws();
@@ -41,15 +41,31 @@ pub(crate) fn refuse_piece(
     Ok(None)
 }
 
-/// The first reason among those of the names, where these declarations are in scope around the fragment.
+/// The first reason among those of the names.
 fn refuse_names(
     alloc: Global,
-    around: Scope,
+    tree: &Tree,
+    parent: NodeId,
     events: &[Event],
 ) -> Result<Option<EditRefusal>, AllocError>
-    ensures { IfOk result (λ found. found ≡ names_refusal around events.now) }
+    ensures { IfOk result (λ found. found ≡ names_refusal (scope_at tree.now.nodes parent) events.now) }
 {
-    let mut tags = OpenTags::new(alloc, around)?;
+    let mut tags = OpenTags::new(alloc);
+    refuse_tags(alloc, &mut tags, tree, parent, events)
+}
+
+/// The first reason among those of the names, where nothing is in scope yet.
+fn refuse_tags(
+    alloc: Global,
+    tags: &mut OpenTags,
+    tree: &Tree,
+    parent: NodeId,
+    events: &[Event],
+) -> Result<Option<EditRefusal>, AllocError>
+    requires { Stands [] tags.old }
+    ensures { IfOk result (λ found. found ≡ names_refusal (scope_at tree.now.nodes parent) events.now) }
+{
+    tags.stand_under(tree, parent)?;
     let mut doubled = false;
     for event in events {
         tags.take(event)?;

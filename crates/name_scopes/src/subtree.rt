@@ -13,12 +13,9 @@ ghost use Rattle.name_scopes.specs.Fragments.{IsFragment, Refuses, ScopedPiece, 
 ghost use Rattle.name_scopes.specs.inner.Build.{IsLeaf};
 ghost use Rattle.name_scopes.specs.inner.Piece.{IsAcceptable, IsPiece, begins_element, is_start};
 
-use crate::around::scope_around;
 use crate::build::{Loader, append_leaf};
-use crate::fault::EventError;
 use crate::refusal::PieceError;
 use crate::refuse::refuse_piece;
-use crate::scope::Scope;
 use doc_tree::{NodeId, Tree};
 use pyx_core::{Event, EventList};
 use std::alloc::{AllocError, Global};
@@ -47,19 +44,23 @@ pub fn load_subtree(
     if let Some(refusal) = refuse_piece(alloc, tree, parent, events.as_slice())? {
         return Err(PieceError::Refused(refusal));
     }
-    let around = scope_around(alloc, tree, parent)?;
     tree.laws();
-    let piece = build_piece(alloc, around, events.as_slice())?;
+    let piece = build_piece(alloc, tree, parent, events.as_slice())?;
     Ok(piece)
 }
 
-/// The tree of a fragment, where these declarations are in scope around it.
-fn build_piece(alloc: Global, around: Scope, events: &[Event]) -> Result<Tree, AllocError>
-    requires { IsAcceptable around events.now }
-    ensures { IfOk result (λ piece. IsPiece around events.now piece.nodes) }
+/// The tree of a fragment that is to come under a node.
+fn build_piece(
+    alloc: Global,
+    tree: &Tree,
+    parent: NodeId,
+    events: &[Event],
+) -> Result<Tree, AllocError>
+    requires { IsAcceptable (scope_at tree.now.nodes parent) events.now }
+    ensures { IfOk result (λ piece. IsPiece (scope_at tree.now.nodes parent) events.now piece.nodes) }
 {
     if is_start(&events[0]) {
-        load_element(alloc, around, events)
+        load_element(alloc, tree, parent, events)
     } else {
         load_leaf(alloc, &events[0])
     }
@@ -78,18 +79,24 @@ fn is_start(event: &Event) -> bool
     }
 }
 
-/// The tree of one element with its content.
-fn load_element(alloc: Global, around: Scope, events: &[Event]) -> Result<Tree, AllocError>
-    requires acceptable { IsAcceptable around events.now }
+/// The tree of one element with its content, which is to come under a node.
+fn load_element(
+    alloc: Global,
+    tree: &Tree,
+    parent: NodeId,
+    events: &[Event],
+) -> Result<Tree, AllocError>
+    requires acceptable { IsAcceptable (scope_at tree.now.nodes parent) events.now }
     requires element { begins_element events.now ≡ true }
-    ensures { IfOk result (λ piece. IsPiece around events.now piece.nodes) }
+    ensures { IfOk result (λ piece. IsPiece (scope_at tree.now.nodes parent) events.now piece.nodes) }
 {
-    let mut loader = Loader::within(alloc, around)?;
-    for event in events {
-        loader.put(event)?;
+    let mut loader = Loader::new(alloc)?;
+    let put = loader.put_piece(tree, parent, events);
+    let piece = loader.into_tree();
+    match put {
+        Ok(()) => Ok(piece),
+        Err(error) => Err(error),
     }
-    loader.tree.laws();
-    Ok(loader.into_tree())
 }
 
 /// The tree of one text, comment or processing instruction.
@@ -102,9 +109,6 @@ fn load_leaf(alloc: Global, event: &Event) -> Result<Tree, AllocError>
     let mut tree = Tree::new(alloc)?;
     let root = tree.root();
     tree.laws();
-    match append_leaf(&mut tree, root, event) {
-        Ok(_) => Ok(tree),
-        Err(EventError::Memory) => Err(AllocError),
-        Err(EventError::Kind(_)) => unreachable!(),
-    }
+    append_leaf(&mut tree, root, event)?;
+    Ok(tree)
 }

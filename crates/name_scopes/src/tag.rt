@@ -151,6 +151,14 @@ fn repeat_qname(alloc: Global, attrs: &[Attr]) -> Result<bool, AllocError>
     ensures { IfOk result (λ repeats. repeats ≡ has_pair same_qname attrs.now) }
 {
     let mut names = WordTable::new(alloc);
+    number_qnames(alloc, &mut names, attrs)
+}
+
+/// Numbers the QNames of attributes, up to one that comes again; answers whether there is one.
+fn number_qnames(alloc: Global, names: &mut WordTable, attrs: &[Attr]) -> Result<bool, AllocError>
+    requires { names.old ≡ [] }
+    ensures { IfOk result (λ repeats. repeats ≡ has_pair same_qname attrs.now) }
+{
     let mut count = 0usize;
     for attr in attrs {
         let number = names.number(alloc, attr.name.as_str())?;
@@ -174,10 +182,23 @@ pub(crate) fn repeat_expanded(
     ensures { IfOk result (λ repeats. repeats ≡ has_pair (same_expanded scope.now) (plain_attrs attrs.now)) }
 {
     let mut names = NameTable::new(alloc);
+    number_plain(alloc, &mut names, scope, attrs)
+}
+
+/// Numbers the expanded names of attributes, declarations left out, up to one that comes again; answers whether there is one.
+fn number_plain(
+    alloc: Global,
+    names: &mut NameTable,
+    scope: &Scope,
+    attrs: &[Attr],
+) -> Result<bool, AllocError>
+    requires { names.old ≡ [] }
+    ensures { IfOk result (λ repeats. repeats ≡ has_pair (same_expanded scope.now) (plain_attrs attrs.now)) }
+{
     let mut count = 0usize;
     for attr in attrs {
         if is_plain(attr) {
-            let number = number_expanded(alloc, &mut names, scope, attr)?;
+            let number = number_expanded(alloc, names, scope, attr)?;
             names.laws();
             if number.index() != count {
                 return Ok(true);

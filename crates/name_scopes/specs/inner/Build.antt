@@ -8,10 +8,10 @@ use Rattle.pyx_core.specs.declared.mode.Mode.TheVariants.{Document}
 use Rattle.pyx_core.specs.Nesting.{Place, Fits, after}
 use Rattle.doc_tree.specs.limits.TheConstants.{MAX_DEPTH, MAX_LIVE_NODES, MAX_LIVE_TEXT_BYTES}
 use Rattle.doc_tree.specs.Lists.{upto}
-use Rattle.doc_tree.specs.Table.{Table, Name, Content, root, element, text, comment, instruction, AllLive, numbered, content_of, kids_of, attrs_of, kind_of, parent_of, decls_of}
+use Rattle.doc_tree.specs.Table.{Table, Name, Content, root, root_alone, element, text, comment, instruction, AllLive, numbered, content_of, kids_of, attrs_of, kind_of, parent_of, decls_of}
 use Rattle.doc_tree.specs.Walks.{above, ancestors, is_open, order, text_bytes}
 use Rattle.doc_tree.specs.Lines.{Line, starts, declares, has_attribute, lines, closing}
-use Rattle.doc_tree.specs.Growth.{ends_in_text, has_too_many}
+use Rattle.doc_tree.specs.Growth.{ends_in_text}
 use Rattle.doc_tree.specs.Kinds.{holds_kids, is_element, is_text}
 use Rattle.doc_tree.specs.Scope.{Decl, namespace_in, scope_at}
 use Rattle.name_scopes.specs.declared.build.Loader.{Loader}
@@ -185,11 +185,6 @@ abbrev pub IsTooDeep : Table → ℕ → EventError → Type 0
 IsTooDeep T p (Kind what) = (what ≡ TooDeep) × (nat_lt MAX_DEPTH (length (above T p)) ≡ true)
 IsTooDeep T p Memory = Unit {0}
 
--- why a node wasn't appended: there are too many; want of memory comes at any time
-abbrev pub IsFull : Table → EventError → Type 0
-IsFull T (Kind what) = (what ≡ TooManyNodes) × (has_too_many T ≡ true)
-IsFull T Memory = Unit {0}
-
 -- the limit of nodes, for a start tag
 abbrev pub room_fault : ℕ → Option DocKind
 room_fault nodes = if nat_lt MAX_LIVE_NODES nodes then Some TooManyNodes else None
@@ -198,6 +193,12 @@ room_fault nodes = if nat_lt MAX_LIVE_NODES nodes then Some TooManyNodes else No
 pub record Loads (taken : List Event) (place : Place) (standing : Standing) (loader : Loader) : Type 0 where
   pub builds : Builds [] taken place standing loader.tree.nodes loader.place
   pub scope_is : loader.scope ≡ in_scope standing.scopes
+
+-- the loader has built nothing yet
+pub record IsNew (loader : Loader) : Type 0 where
+  pub tree_is : loader.tree ≡ root_alone
+  pub place_is : loader.place ≡ 0
+  pub scope_is : loader.scope ≡ []
 
 -- the event may come
 pub record Comes (taken : List Event) (place : Place) (event : Event) : Type 0 where

@@ -8,38 +8,18 @@ use Rattle.name_scopes.proofs.load.take_waiting.Goals as goal
 pub loop-found-init : goal.loop-found-init
 loop-found-init c = taking-first c.args.reader.now c.args.loader.now
 
-pub take-requires : goal.take-requires
-take-requires c = taking-ready c.args.reader.now c.args.loader.now c.loop-found.reader c.next_event.new.self c.loop-found.loader c.in-Some.found c.loop-found.invariant c.in-Some.ensures.event c.requires
+pub take-taken-requires : goal.take-taken-requires
+take-taken-requires c = taking-ready c.args.reader.now c.args.loader.now c.loop-found.reader c.next_event.new.self c.loop-found.loader c.in-Some.found c.loop-found.invariant c.in-Some.ensures.event c.requires
 
 pub returns-in-Err-clause-entered : goal.returns-in-Err-clause-entered
 returns-in-Err-clause-entered c = λ events taken later going.
-    taking-refused c.args.reader.now c.args.loader.now c.loop-found.reader c.next_event.new.self c.loop-found.loader c.in-Some.found c.loop-found.invariant c.in-Some.ensures.event c.take.new.loader c.in-Err.error
-    c.in-Err.ensures events taken later (taken ++ c.args.reader.now.waiting) going
+    taking-refused c.args.reader.now c.args.loader.now c.loop-found.reader c.next_event.new.self c.loop-found.loader c.in-Some.found c.loop-found.invariant c.in-Some.ensures.event c.take-taken.new.loader c.in-Err.error
+    (rw c.in-Err.is at c.take-taken.ensures) events taken later (taken ++ c.args.reader.now.waiting) going
 
 pub loop-found-preserved : goal.loop-found-preserved
 loop-found-preserved c =
-    taking-on c.args.reader.now c.args.loader.now c.loop-found.reader c.next_event.new.self c.loop-found.loader c.in-Some.found c.loop-found.invariant c.in-Some.ensures.event c.take.new.loader
-    c.in-Ok.ensures (λ fed taken. c.in-Some.ensures.read Document fed taken)
-
-pub loop-found-preserved-in-Ok : goal.loop-found-preserved-in-Ok
-loop-found-preserved-in-Ok c =
-    taking-on c.args.reader.now c.args.loader.now c.loop-found.reader c.next_event.new.self c.loop-found.loader c.in-Some.found c.loop-found.invariant c.in-Some.ensures.event c.take.new.loader
-    c.in-Ok.ensures (λ fed taken. c.in-Some.ensures.read Document fed taken)
-
-pub loop-found-preserved-in-Ok-2 : goal.loop-found-preserved-in-Ok-2
-loop-found-preserved-in-Ok-2 c =
-    taking-on c.args.reader.now c.args.loader.now c.loop-found.reader c.next_event.new.self c.loop-found.loader c.in-Some.found c.loop-found.invariant c.in-Some.ensures.event c.take.new.loader
-    c.in-Ok.ensures (λ fed taken. c.in-Some.ensures.read Document fed taken)
-
-pub loop-found-preserved-in-Ok-3 : goal.loop-found-preserved-in-Ok-3
-loop-found-preserved-in-Ok-3 c =
-    taking-on c.args.reader.now c.args.loader.now c.loop-found.reader c.next_event.new.self c.loop-found.loader c.in-Some.found c.loop-found.invariant c.in-Some.ensures.event c.take.new.loader
-    c.in-Ok.ensures (λ fed taken. c.in-Some.ensures.read Document fed taken)
-
-pub loop-found-preserved-in-Ok-4 : goal.loop-found-preserved-in-Ok-4
-loop-found-preserved-in-Ok-4 c =
-    taking-on c.args.reader.now c.args.loader.now c.loop-found.reader c.next_event.new.self c.loop-found.loader c.in-Some.found c.loop-found.invariant c.in-Some.ensures.event c.take.new.loader
-    c.in-Ok.ensures (λ fed taken. c.in-Some.ensures.read Document fed taken)
+    taking-on c.args.reader.now c.args.loader.now c.loop-found.reader c.next_event.new.self c.loop-found.loader c.in-Some.found c.loop-found.invariant c.in-Some.ensures.event c.take-taken.new.loader
+    (rw c.in-Ok.is at c.take-taken.ensures) (λ fed taken. c.in-Some.ensures.read Document fed taken)
 
 pub returns-clause-entered : goal.returns-clause-entered
 returns-clause-entered c = taking-all c.args.reader.now c.args.loader.now c.loop-found.reader c.loop-found.loader c.loop-found.invariant c.in_default.ensures.event.0

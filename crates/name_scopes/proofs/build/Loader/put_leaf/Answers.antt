@@ -15,17 +15,16 @@ append_leaf-requires-clause-fits c =
     let r = c.requires.ready in
     leaf-fits r.0 r.1.0 r.1.1.0 r.1.1.1.0 c.args.self.now.tree.nodes c.args.self.now.place r.1.1.1.1.0.builds c.args.event.now c.requires.leaf r.1.1.1.1.1.fits
 
+pub append_leaf-requires-clause-room : goal.append_leaf-requires-clause-room
+append_leaf-requires-clause-room c =
+    let r = c.requires.ready in
+    leaf-few r.0 r.1.0 r.1.1.0 r.1.1.1.0 c.args.self.now r.1.1.1.1.0 c.args.event.now c.requires.leaf r.1.1.1.1.1
+
 pub append_leaf-requires-clause-little : goal.append_leaf-requires-clause-little
 append_leaf-requires-clause-little c =
     let r = c.requires.ready in
     leaf-little r.0 r.1.0 r.1.1.0 r.1.1.1.0 c.args.self.now r.1.1.1.1.0 c.args.event.now c.requires.leaf r.1.1.1.1.1
 
-pub unreachable-requires : goal.unreachable-requires
-unreachable-requires c =
-    let r = c.requires.ready in
-    let full = rw c.in-Err-Kind.field-0-is at c.in-Err-Kind.ensures.full in
-    leaf-few r.0 r.1.0 r.1.1.0 r.1.1.1.0 c.args.self.now r.1.1.1.1.0 c.args.event.now c.requires.leaf r.1.1.1.1.1 c.in-Err-Kind.field-0-0 full
-
-pub returns-in-Ok : goal.returns-in-Ok
-returns-in-Ok c = λ around taken place standing loads comes.
-    put-leaf around taken place standing c.args.self.now loads c.args.event.now c.requires.leaf comes _ c.in-Ok.field-0 c.laws.ensures.ways_up c.laws.ensures.well_formed c.laws.ensures.scopes c.in-Ok.ensures.grew refl refl
+pub returns : goal.returns
+returns c = λ around taken place standing loads comes.
+    put-leaf around taken place standing c.args.self.now loads c.args.event.now c.requires.leaf comes _ c.in_ok-append_leaf.field-0 c.laws.ensures.ways_up c.laws.ensures.well_formed c.laws.ensures.scopes c.in_ok-append_leaf.ensures refl refl

@@ -5,7 +5,7 @@ use Rattle.pyx_core.specs.declared.event.Attr.{Attr}
 use Rattle.doc_tree.specs.Numbering.{Numbered}
 use Rattle.name_scopes.specs.DocFaults.{has_pair, same_qname}
 use Rattle.name_scopes.proofs.TagLemmas.{qname_key, qname-sound, qname-complete, new-again, new-once, pair-within, next, IsNew}
-use Rattle.name_scopes.proofs.tag.repeat_qname.Goals as goal
+use Rattle.name_scopes.proofs.tag.number_qnames.Goals as goal
 
 pub returns-then-number-count : goal.returns-then-number-count
 returns-then-number-count c =

@@ -1,7 +1,7 @@
 use Rattle.std.proofs.Common.{◌≡◌, ◌≤◌, false, length, map, take}
 use Rattle.name_scopes.specs.Declarations.{plain_attrs}
 use Rattle.name_scopes.specs.DocFaults.{has_pair, same_expanded, expanded_attr}
-use Rattle.name_scopes.proofs.tag.repeat_expanded.Given as goal
+use Rattle.name_scopes.proofs.tag.number_plain.Given as goal
 
 -- the expanded names so far differ, and each has its number
 abbrev pub invariant-loop-attr : goal.invariant-loop-attr

@@ -6,8 +6,8 @@ use Rattle.doc_tree.specs.Table.{Name}
 use Rattle.name_scopes.specs.Declarations.{is_plain, plain_attrs}
 use Rattle.name_scopes.specs.DocFaults.{has_pair, same_expanded, expanded_attr}
 use Rattle.name_scopes.proofs.TagLemmas.{expanded-sound, expanded-complete, new-again, new-once, pair-kept, kept-more, kept-same, IsNew}
-use Rattle.name_scopes.proofs.tag.repeat_expanded.Goals as goal
-use Rattle.name_scopes.proofs.tag.repeat_expanded.Goals.{then-is_plain+in_ok-number+else-index-count, else-is_plain}
+use Rattle.name_scopes.proofs.tag.number_plain.Goals as goal
+use Rattle.name_scopes.proofs.tag.number_plain.Goals.{then-is_plain+in_ok-number+else-index-count, else-is_plain}
 
 pub returns-then-index-count : goal.returns-then-index-count
 returns-then-index-count c =

@@ -1,7 +1,7 @@
 use Rattle.std.proofs.Common.{◌≡◌, false, map, take}
 use Rattle.name_scopes.specs.DocFaults.{has_pair, same_qname}
 use Rattle.name_scopes.proofs.TagLemmas.{qname_key}
-use Rattle.name_scopes.proofs.tag.repeat_qname.Given as goal
+use Rattle.name_scopes.proofs.tag.number_qnames.Given as goal
 
 -- the names so far differ, and each has its number
 abbrev pub invariant-loop-attr : goal.invariant-loop-attr
