@@ -12,7 +12,7 @@ use Rattle.xp_grammar.proofs.Steps.{step_on}
 use Rattle.xp_grammar.proofs.Drives.{drive_signs}
 use Rattle.xp_parse.specs.declared.stop.Stop.{Stop}
 use Rattle.xp_parse.specs.declared.stop.Stop.TheVariants as stop
-use Rattle.xp_parse.specs.inner.Places.{IsFirst, Took, Refused}
+use Rattle.xp_parse.specs.inner.Places.{IsThere, IsFirst, Took, Refused}
 use Rattle.xp_parse.specs.inner.Parsing.{Stuck, SignsFail}
 
 -- one sign more
@@ -70,6 +70,19 @@ took_shorter t s u r = let e : length s ≡ suc (length u) = ap length r.is in o
 
 pub first_token : (t : Token) (s : List Placed) (f : IsFirst t s) (p : Placed) (rest : List Placed) → s ≡ p ∷ rest → p.token ≡ t
 first_token t s f p rest is = ap (λ q. q.token) (head_is p f.placed rest f.rest (sym is ∙ f.is)) ∙ f.token
+
+-- the same where the token behind it is known
+pub took_here : (t : Token) (s : List Placed) (p : Placed) (u : List Placed) → IsFirst t s → s ≡ p ∷ u → Took t s u
+took_here t s p u f is = record { placed = p; is = is; token = first_token t s f p u is }
+
+pub first_there : (t : Token) (s : List Placed) → IsFirst t s → IsThere s
+first_there t s f = record { placed = f.placed; rest = f.rest; is = f.is }
+
+pub there_on : (s u : List Placed) (f : IsThere s) → u ≡ f.rest → s ≡ f.placed ∷ u
+there_on s u f is = f.is ∙ ap (λ r. f.placed ∷ r) (sym is)
+
+pub there_shorter : (s u : List Placed) (f : IsThere s) → u ≡ f.rest → length u < length s
+there_shorter s u f is = let e : length s ≡ suc (length u) = ap length (there_on s u f is) in omega (arith, e)
 
 pub first_same : (t t' : Token) (s : List Placed) → t ≡ t' → IsFirst t s → IsFirst t' s
 first_same t t' s is f = record { placed = f.placed; rest = f.rest; is = f.is; token = f.token ∙ is }

@@ -23,8 +23,8 @@ use Rattle.xp_grammar.specs.inner.Machine.{Mode, want, need_test, type_open, typ
 use Rattle.xp_parse.specs.declared.stop.Stop.{Stop}
 use Rattle.xp_parse.specs.declared.stop.Stop.TheVariants as stop
 use Rattle.xp_parse.specs.inner.Places.{IsFirst, Took, Refused, NotAt}
-use Rattle.xp_parse.specs.inner.Parsing.{OperandFails, ChainRead, PredicatesSoFar, IsTestMode, TestStops, stops_here, stops_behind, TestFails}
-use Rattle.xp_parse.proofs.Failing.{took_shorter, first_token, none_but_colons}
+use Rattle.xp_parse.specs.inner.Parsing.{EnclosedFails, too_deep, inside_fails, left_open, OperandFails, ChainRead, PredicatesSoFar, IsTestMode, TestStops, stops_here, stops_behind, TestFails}
+use Rattle.xp_parse.proofs.Failing.{took_shorter, took_here, first_token, none_but_colons}
 use Rattle.xp_parse.proofs.Paths.{fresh_start}
 use Rattle.xp_grammar.specs.PatternGrammar.{pattern_axis, step_tree, IsStepPattern, step_pattern, IsRelative, relative, IsMoreSteps, no_more_steps, slash_steps, double_slash_steps}
 use Rattle.xp_grammar.specs.inner.PatternMachine.{TestPart, colons, test, opened, inner, close, mode_of, Place, want_step, behind_step, in_test, inside, first_place, place_of, test_move, named_axis_turn, axis_turn, union_turn, slash_turn, bracket_turn, behind_turn, pattern_turn, pattern_load, pattern_halt}
@@ -44,7 +44,7 @@ into_predicate : (s here m : List Placed) (found : List Expr) → PredicatesSoFa
 into_predicate s here m found so t =
     over_predicates s here found so ∙ ap (pattern_halt MAX_NESTING behind_step) t.is ∙ bracket_over MAX_NESTING t.placed m (omega arith) t.token
 
-pub predicate_fails : (s here m u : List Placed) (found : List Expr) (why : Stop) → PredicatesSoFar MAX_NESTING 0 s here found →
+predicate_fails : (s here m u : List Placed) (found : List Expr) (why : Stop) → PredicatesSoFar MAX_NESTING 0 s here found →
     Took token.OpenBracket here m → OperandFails MAX_NESTING level.Or 1 m u why → FailsAt MAX_NESTING behind_step s u why
 predicate_fails s here m u found why so t f = record {
   stuck = λ nm.
@@ -53,7 +53,7 @@ predicate_fails s here m u found why so t f = record {
       (λ k one. (f.from true 0 false (fresh_start level.Or m (λ x. tt))).stuck nm k one));
 }
 
-pub predicate_unclosed : (s here m v u : List Placed) (found : List Expr) (x : Tree) (why : Stop) → PredicatesSoFar MAX_NESTING 0 s here found →
+predicate_unclosed : (s here m v u : List Placed) (found : List Expr) (x : Tree) (why : Stop) → PredicatesSoFar MAX_NESTING 0 s here found →
     Took token.OpenBracket here m → ChainRead MAX_NESTING level.Or 1 m v x → Refused token.CloseBracket v u why → FailsAt MAX_NESTING behind_step s u why
 predicate_unclosed s here m v u found x why so t r q = record {
   stuck = λ _.
@@ -62,6 +62,14 @@ predicate_unclosed s here m v u found x why so t r q = record {
       (inside_unclosed 63 m v x r q.not_at) in
       subst (λ w. StuckAt MAX_NESTING behind_step s u w) (sym q.why_is) (subst (λ y. StuckAt MAX_NESTING behind_step s y stop.Unexpected) (sym q.kept) there);
 }
+
+pub predicates_stop : (s here u : List Placed) (found : List Expr) (why : Stop) → PredicatesSoFar MAX_NESTING 0 s here found →
+    IsFirst token.OpenBracket here → EnclosedFails MAX_NESTING 0 token.CloseBracket here u why → FailsAt MAX_NESTING behind_step s u why
+predicates_stop s here u found why so f (too_deep over kept is) = absurd (omega (arith, over))
+predicates_stop s here u found why so f (inside_fails p m is room x) =
+    predicate_fails s here m u found why so (took_here token.OpenBracket here p m f is) x
+predicates_stop s here u found why so f (left_open p m v e is room r q) =
+    predicate_unclosed s here m v u found e why so (took_here token.OpenBracket here p m f is) r q
 
 -- node tests
 part_of : (m : Mode) → IsTestMode m → (part : TestPart) × (mode_of part ≡ m)

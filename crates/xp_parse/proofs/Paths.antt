@@ -27,8 +27,8 @@ use Rattle.xp_grammar.proofs.Drives.{drive_test, drive_predicates, drive_filter,
 use Rattle.xp_parse.specs.declared.stop.Stop.{Stop}
 use Rattle.xp_parse.specs.declared.stop.Stop.TheVariants as stop
 use Rattle.xp_parse.specs.inner.Places.{IsFirst, Took, Refused, NotAt, is_step_token, is_at_step, is_slash, is_at_slash}
-use Rattle.xp_parse.specs.inner.Parsing.{rank, Quiet, Settled, Stuck, Fails, FreshSign, Fresh, OperandFails, ChainRead, PathRead, steps_onto, StepsRead, IsClosed, MoreStepsRead, StepRead, TestedRead, PredicatesRead, PrimaryRead, FilterRead, TookNone, Leads, StepsSoFar, trees_onto, PredicatesSoFar}
-use Rattle.xp_parse.proofs.Failing.{took_shorter, took_on, stuck_after, stuck_over, stuck_not_at, none_but_colons}
+use Rattle.xp_parse.specs.inner.Parsing.{EnclosedRead, EnclosedFails, too_deep, inside_fails, left_open, rank, Quiet, Settled, Stuck, Fails, FreshSign, Fresh, OperandFails, ChainRead, PathRead, steps_onto, StepsRead, IsClosed, MoreStepsRead, StepRead, TestedRead, PredicatesRead, PrimaryRead, FilterRead, TookNone, Leads, StepsSoFar, trees_onto, PredicatesSoFar}
+use Rattle.xp_parse.proofs.Failing.{took_shorter, took_here, took_on, stuck_after, stuck_over, stuck_not_at, none_but_colons}
 use Rattle.xp_parse.proofs.Chains.{fails_after}
 
 -- every operator is looser than a path
@@ -571,7 +571,7 @@ over_predicates : (limit d : ℕ) (s here : List Placed) (found : List Expr) (k 
 over_predicates limit d s here found k room so deep =
     drive_predicates limit (so.extends here no_trees (no_predicate d here)) k deep (omega (arith, room, deep))
 
-pub predicates_too_nested : (limit d : ℕ) (s here : List Placed) (found : List Expr) → d ≤ limit → limit ≤ d → PredicatesSoFar limit d s here found →
+predicates_too_nested : (limit d : ℕ) (s here : List Placed) (found : List Expr) → d ≤ limit → limit ≤ d → PredicatesSoFar limit d s here found →
     IsFirst token.OpenBracket here → Fails limit (after full) d s here stop.TooNested
 unfolding load
 predicates_too_nested limit d s here found room over so f =
@@ -587,7 +587,7 @@ bracket_on limit k s m t room =
 pub fresh_start : (n : Level) (s : List Placed) → ((t : List Placed) → FreshSign n true t) → Fresh n true false s
 fresh_start n s h = record { sign = h s; closes = λ x. absurd (cc) }
 
-pub predicate_fails : (limit d : ℕ) (s here m u : List Placed) (found : List Expr) (why : Stop) → suc d ≤ limit → PredicatesSoFar limit d s here found →
+predicate_fails : (limit d : ℕ) (s here m u : List Placed) (found : List Expr) (why : Stop) → suc d ≤ limit → PredicatesSoFar limit d s here found →
     Took token.OpenBracket here m → OperandFails limit level.Or (suc d) m u why → Fails limit (after full) d s u why
 predicate_fails limit d s here m u found why room so t f = record {
   stuck = λ nm k deep.
@@ -625,7 +625,7 @@ pub refused_as : (limit : ℕ) (m : Mode) (k : List Bracket) (s u : List Placed)
 refused_as limit m k s u t why r x =
     subst (λ w. Stuck limit m k s u w) (sym r.why_is) (subst (λ v. Stuck limit m k s v stop.Unexpected) (sym r.kept) x)
 
-pub predicate_unclosed : (limit d : ℕ) (s here m v u : List Placed) (found : List Expr) (x : Tree) (why : Stop) → suc d ≤ limit →
+predicate_unclosed : (limit d : ℕ) (s here m v u : List Placed) (found : List Expr) (x : Tree) (why : Stop) → suc d ≤ limit →
     PredicatesSoFar limit d s here found → Took token.OpenBracket here m → ChainRead limit level.Or (suc d) m v x →
     Refused token.CloseBracket v u why → Fails limit (after full) d s u why
 predicate_unclosed limit d s here m v u found x why room so t r q = record {
@@ -638,10 +638,10 @@ predicate_unclosed limit d s here m v u found x why room so t r q = record {
       (stuck_unclosed limit r.reads.ending (in_predicate ∷ k) v token.CloseBracket r.reads.settled r.reads.quiet q.not_at tt (unclosed_predicate k)));
 }
 
-pub predicates_more : (limit d : ℕ) (s here m v w : List Placed) (found all : List Expr) (e : Expr) → suc d ≤ limit →
+predicates_on : (limit d : ℕ) (s here m v w : List Placed) (found all : List Expr) (e : Expr) → suc d ≤ limit →
     PredicatesSoFar limit d s here found → Took token.OpenBracket here m → ChainRead limit level.Or (suc d) m v (tree_of e) →
     Took token.CloseBracket v w → all ≡ found ++ e ∷ [] → PredicatesSoFar limit d s w all
-predicates_more limit d s here m v w found all e room so t r q grown = record {
+predicates_on limit d s here m v w found all e room so t r q grown = record {
   extends = λ y ts D.
       let inner : IsChain limit level.Or (suc d) m (q.placed ∷ w) (tree_of e) =
       subst (λ l. IsChain limit level.Or (suc d) m l (tree_of e)) q.is r.derives in
@@ -653,6 +653,21 @@ predicates_more limit d s here m v w found all e room so t r q grown = record {
       let a = so.shorter in let b = took_shorter token.OpenBracket here m t in let c = r.reads.shorter in
       let g = took_shorter token.CloseBracket v w q in omega (arith, a, b, c, g);
 }
+
+pub predicates_more : (limit d : ℕ) (s here u : List Placed) (found all : List Expr) (e : Expr) → PredicatesSoFar limit d s here found →
+    IsFirst token.OpenBracket here → EnclosedRead limit d token.CloseBracket here u (tree_of e) → all ≡ found ++ e ∷ [] → PredicatesSoFar limit d s u all
+predicates_more limit d s here u found all e so f r grown =
+    predicates_on limit d s here r.inner r.behind u found all e r.room so (took_here token.OpenBracket here r.opening r.inner f r.is) r.read r.closed grown
+
+pub predicates_stop : (limit d : ℕ) (s here u : List Placed) (found : List Expr) (why : Stop) → d ≤ limit → PredicatesSoFar limit d s here found →
+    IsFirst token.OpenBracket here → EnclosedFails limit d token.CloseBracket here u why → Fails limit (after full) d s u why
+predicates_stop limit d s here u found why room so f (too_deep over kept is) =
+    subst (λ w. Fails limit (after full) d s u w) (sym is) (subst (λ v. Fails limit (after full) d s v stop.TooNested) (sym kept)
+    (predicates_too_nested limit d s here found room over so f))
+predicates_stop limit d s here u found why room so f (inside_fails p m is fits x) =
+    predicate_fails limit d s here m u found why fits so (took_here token.OpenBracket here p m f is) x
+predicates_stop limit d s here u found why room so f (left_open p m v e is fits r q) =
+    predicate_unclosed limit d s here m v u found e why fits so (took_here token.OpenBracket here p m f is) r q
 
 pub predicates_read : (limit d : ℕ) (s here : List Placed) (found : List Expr) → PredicatesSoFar limit d s here found → NotAt token.OpenBracket here →
     PredicatesRead limit d s here found

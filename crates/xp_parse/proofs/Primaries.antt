@@ -21,8 +21,8 @@ use Rattle.xp_grammar.proofs.Drives.{plus_zero}
 use Rattle.xp_parse.specs.declared.stop.Stop.{Stop}
 use Rattle.xp_parse.specs.declared.stop.Stop.TheVariants as stop
 use Rattle.xp_parse.specs.inner.Places.{IsFirst, Took, TookBehind, Refused, NotAt, IsNoPath, is_step_token, is_at_step}
-use Rattle.xp_parse.specs.inner.Parsing.{Quiet, Settled, FailsInCall, OperandFails, ChainRead, PrimaryRead, ArgumentsRead, MoreArgumentsRead, trees_onto, ArgumentsSoFar}
-use Rattle.xp_parse.proofs.Failing.{took_shorter, took_on, stuck_after, stuck_at_end, stuck_at_first, stuck_over, stuck_not_at, none_but_function_open}
+use Rattle.xp_parse.specs.inner.Parsing.{EnclosedRead, EnclosedFails, too_deep, inside_fails, left_open, Quiet, Settled, FailsInCall, OperandFails, ChainRead, PrimaryRead, ArgumentsRead, MoreArgumentsRead, trees_onto, ArgumentsSoFar}
+use Rattle.xp_parse.proofs.Failing.{took_shorter, took_here, took_on, stuck_after, stuck_at_end, stuck_at_first, stuck_over, stuck_not_at, none_but_function_open}
 use Rattle.xp_parse.proofs.Paths.{fresh_start, stuck_unclosed, refused_as, no_operator, snoc_trees, onto_trees, placed_at, no_step_turn}
 
 pub end_fails : (limit d : ℕ) (s : List Placed) → s ≡ [] → OperandFails limit level.Union d s s stop.Unexpected
@@ -118,7 +118,7 @@ number_read limit d offset s u digits e t at is = record {
 }
 
 -- parentheses
-pub parens_too_nested : (limit d : ℕ) (s : List Placed) → limit ≤ d → IsFirst token.OpenParen s → OperandFails limit level.Union d s s stop.TooNested
+parens_too_nested : (limit d : ℕ) (s : List Placed) → limit ≤ d → IsFirst token.OpenParen s → OperandFails limit level.Union d s s stop.TooNested
 unfolding load
 parens_too_nested limit d s over f = record {
   from = λ b j c fresh. record {
@@ -133,7 +133,7 @@ unfolding load
 paren_on limit b j c k s m t room =
     took_on limit (want b j c) k s m token.OpenParen (record { mode = want true 0 false; stack = in_paren ∷ k }) t refl (plus_zero _ _ room)
 
-pub parens_fail : (limit d : ℕ) (s m u : List Placed) (why : Stop) → suc d ≤ limit → Took token.OpenParen s m →
+parens_fail : (limit d : ℕ) (s m u : List Placed) (why : Stop) → suc d ≤ limit → Took token.OpenParen s m →
     OperandFails limit level.Or (suc d) m u why → OperandFails limit level.Union d s u why
 parens_fail limit d s m u why room t f = record {
   from = λ b j c fresh. record {
@@ -172,12 +172,37 @@ parens_read limit d s m v u x room t r q = record {
       omega (arith, a, b, c);
 }
 
-pub parens_closed : (limit d : ℕ) (s m v u : List Placed) (inner : Expr) (out : Result Expr Stop) → suc d ≤ limit → Took token.OpenParen s m →
-    ChainRead limit level.Or (suc d) m v (tree_of inner) → MatchResult out (TookBehind inner token.CloseParen v u) (Refused token.CloseParen v u) →
+parens_stop : (limit d : ℕ) (s u : List Placed) (why : Stop) → IsFirst token.OpenParen s → EnclosedFails limit d token.CloseParen s u why →
+    OperandFails limit level.Union d s u why
+parens_stop limit d s u why f (too_deep over kept is) =
+    subst (λ w. OperandFails limit level.Union d s u w) (sym is) (subst (λ v. OperandFails limit level.Union d s v stop.TooNested) (sym kept)
+    (parens_too_nested limit d s over f))
+parens_stop limit d s u why f (inside_fails p m is room x) = parens_fail limit d s m u why room (took_here token.OpenParen s p m f is) x
+parens_stop limit d s u why f (left_open p m v e is room r q) =
+    parens_unclosed limit d s m v u e why room (took_here token.OpenParen s p m f is) r q
+
+pub parens_closed : (limit d : ℕ) (s u : List Placed) (out : Result Expr Stop) → IsFirst token.OpenParen s →
+    MatchResult out (λ e. EnclosedRead limit d token.CloseParen s u (tree_of e)) (EnclosedFails limit d token.CloseParen s u) →
     MatchResult out (λ e. PrimaryRead limit d s u (tree_of e)) (OperandFails limit level.Union d s u)
-parens_closed limit d s m v u inner out room t r h = MatchResult-weaker out h
-    (λ e k. subst (λ y. PrimaryRead limit d s u (tree_of y)) (sym k.same) (parens_read limit d s m v u (tree_of inner) room t r k.took))
-    (λ why q. parens_unclosed limit d s m v u (tree_of inner) why room t r q)
+parens_closed limit d s u out f h = MatchResult-weaker out h
+    (λ e r. parens_read limit d s r.inner r.behind u (tree_of e) r.room (took_here token.OpenParen s r.opening r.inner f r.is) r.read r.closed)
+    (λ why x. parens_stop limit d s u why f x)
+
+-- an expression and the token behind it
+pub enclosed_read : (limit d : ℕ) (t : Token) (s m v u : List Placed) (p : Placed) (inner : Expr) (out : Result Expr Stop) → s ≡ p ∷ m → suc d ≤ limit →
+    ChainRead limit level.Or (suc d) m v (tree_of inner) → MatchResult out (TookBehind inner t v u) (Refused t v u) →
+    MatchResult out (λ e. EnclosedRead limit d t s u (tree_of e)) (EnclosedFails limit d t s u)
+enclosed_read limit d t s m v u p inner out is room r h = MatchResult-weaker out h
+    (λ e k. record {
+      opening = p;
+      inner = m;
+      behind = v;
+      is = is;
+      room = room;
+      read = subst (λ y. ChainRead limit level.Or (suc d) m v (tree_of y)) (sym k.same) r;
+      closed = k.took;
+    })
+    (λ why q. left_open p m v (tree_of inner) is room r q)
 
 -- calls
 pub call_too_nested : (limit d : ℕ) (name : List ℕ) (s : List Placed) → limit ≤ d → IsFirst (token.Function name) s →

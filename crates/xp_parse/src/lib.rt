@@ -1,7 +1,6 @@
 //! The parser of XPath 1.0 expressions and of XSLT 1.0 match patterns over their tokens.
 #![tactic(auto)]
 
-mod cursor;
 mod error;
 mod mark;
 mod parser;

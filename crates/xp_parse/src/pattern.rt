@@ -2,7 +2,7 @@
 
 ghost use Rattle.std.specs.Prelude.{◌≡◌, MatchResult};
 ghost use Rattle.xp_grammar.specs.declared.token.Token.TheVariants as token;
-ghost use Rattle.xp_parse.specs.inner.Places.{IsFirst};
+ghost use Rattle.xp_parse.specs.inner.Places.{IsFirst, rest_of};
 ghost use Rattle.xp_grammar.specs.inner.PatternMachine.{Place, want_path};
 ghost use Rattle.xp_parse.specs.inner.PatternReading.{IsEndedAt, IsStepPlace, FailsAt, PathFound, MorePathsFound, PatternFound};
 
@@ -15,8 +15,8 @@ use xp_tree::{Join, Level, PathPattern, PatternStart};
 impl<'t, 'a> Parser<'t, 'a> {
     /// Path patterns joined by `|`.
     pub(crate) fn pattern(&mut self) -> Result<Vec<PathPattern>, Stop>
-        ensures { MatchResult result (λ all. PatternFound MAX_NESTING self.old.rest self.new.rest all.items)
-            (FailsAt MAX_NESTING want_path self.old.rest self.new.rest) }
+        ensures { MatchResult result (λ all. PatternFound MAX_NESTING (rest_of self.old) (rest_of self.new) all.items)
+            (FailsAt MAX_NESTING want_path (rest_of self.old) (rest_of self.new)) }
     {
         let first = self.path_pattern()?;
         let mut found = Vec::new(self.alloc);
@@ -26,12 +26,12 @@ impl<'t, 'a> Parser<'t, 'a> {
 
     /// The path patterns behind the first one, put behind those that were found.
     fn more_path_patterns(&mut self, mut found: Vec<PathPattern>) -> Result<Vec<PathPattern>, Stop>
-        ensures { (a : Place) → IsEndedAt a self.old.rest → MatchResult result
-            (λ all. MorePathsFound MAX_NESTING a found.items self.old.rest self.new.rest all.items)
-            (FailsAt MAX_NESTING a self.old.rest self.new.rest) }
+        ensures { (a : Place) → IsEndedAt a (rest_of self.old) → MatchResult result
+            (λ all. MorePathsFound MAX_NESTING a found.items (rest_of self.old) (rest_of self.new) all.items)
+            (FailsAt MAX_NESTING a (rest_of self.old) (rest_of self.new)) }
     {
-        while let Some(_) = self.rest.operator_of(Level::Union) {
-            self.rest.advance();
+        while let Some(_) = self.operator_of(Level::Union) {
+            self.advance();
             let path = self.path_pattern()?;
             found.push(path)?;
         }
@@ -40,10 +40,10 @@ impl<'t, 'a> Parser<'t, 'a> {
 
     /// A path pattern.
     fn path_pattern(&mut self) -> Result<PathPattern, Stop>
-        ensures { MatchResult result (PathFound MAX_NESTING self.old.rest self.new.rest)
-            (FailsAt MAX_NESTING want_path self.old.rest self.new.rest) }
+        ensures { MatchResult result (PathFound MAX_NESTING (rest_of self.old) (rest_of self.new))
+            (FailsAt MAX_NESTING want_path (rest_of self.old) (rest_of self.new)) }
     {
-        let Some(first) = self.rest.token() else {
+        let Some(first) = self.token() else {
             return Err(Stop::Unexpected);
         };
         match first {
@@ -56,76 +56,76 @@ impl<'t, 'a> Parser<'t, 'a> {
 
     /// A path pattern that begins with `/`.
     fn pattern_from_root(&mut self) -> Result<PathPattern, Stop>
-        requires { IsFirst token.Slash self.old.rest }
-        ensures { MatchResult result (PathFound MAX_NESTING self.old.rest self.new.rest)
-            (FailsAt MAX_NESTING want_path self.old.rest self.new.rest) }
+        requires { IsFirst token.Slash (rest_of self.old) }
+        ensures { MatchResult result (PathFound MAX_NESTING (rest_of self.old) (rest_of self.new))
+            (FailsAt MAX_NESTING want_path (rest_of self.old) (rest_of self.new)) }
     {
-        let offset = self.rest.offset();
-        let start = PatternStart::Root;
-        self.rest.advance();
-        if !self.rest.at_step() {
-            let steps = Vec::new(self.alloc);
+        let offset = self.offset();
+        self.advance();
+        if !self.at_step() {
             return Ok(PathPattern {
                 offset,
-                start,
-                steps,
+                start: PatternStart::Root,
+                steps: Vec::new(self.alloc),
             });
         }
         let steps = self.step_patterns(Join::Slash)?;
         Ok(PathPattern {
             offset,
-            start,
+            start: PatternStart::Root,
             steps,
         })
     }
 
     /// A path pattern that begins with `//`.
     fn pattern_from_anywhere(&mut self) -> Result<PathPattern, Stop>
-        requires { IsFirst token.DoubleSlash self.old.rest }
-        ensures { MatchResult result (PathFound MAX_NESTING self.old.rest self.new.rest)
-            (FailsAt MAX_NESTING want_path self.old.rest self.new.rest) }
+        requires { IsFirst token.DoubleSlash (rest_of self.old) }
+        ensures { MatchResult result (PathFound MAX_NESTING (rest_of self.old) (rest_of self.new))
+            (FailsAt MAX_NESTING want_path (rest_of self.old) (rest_of self.new)) }
     {
-        let offset = self.rest.offset();
-        let start = PatternStart::Root;
-        self.rest.advance();
+        let offset = self.offset();
+        self.advance();
         let steps = self.step_patterns(Join::DoubleSlash)?;
         Ok(PathPattern {
             offset,
-            start,
+            start: PatternStart::Root,
             steps,
         })
     }
 
     /// A path pattern that begins with a step.
     fn pattern_from_here(&mut self) -> Result<PathPattern, Stop>
-        requires { IsStepPlace want_path self.old.rest }
-        ensures { MatchResult result (PathFound MAX_NESTING self.old.rest self.new.rest)
-            (FailsAt MAX_NESTING want_path self.old.rest self.new.rest) }
+        requires { IsStepPlace want_path (rest_of self.old) }
+        ensures { MatchResult result (PathFound MAX_NESTING (rest_of self.old) (rest_of self.new))
+            (FailsAt MAX_NESTING want_path (rest_of self.old) (rest_of self.new)) }
     {
-        let offset = self.rest.offset();
-        let start = PatternStart::Here;
+        let offset = self.offset();
         let steps = self.step_patterns(Join::Nothing)?;
         Ok(PathPattern {
             offset,
-            start,
+            start: PatternStart::Here,
             steps,
         })
     }
 
     /// A path pattern that begins with a function's name.
     fn pattern_from_call(&mut self, name: &str) -> Result<PathPattern, Stop>
-        requires { IsFirst (token.Function name.now) self.old.rest }
-        ensures { MatchResult result (PathFound MAX_NESTING self.old.rest self.new.rest)
-            (FailsAt MAX_NESTING want_path self.old.rest self.new.rest) }
+        requires { IsFirst (token.Function name.now) (rest_of self.old) }
+        ensures { MatchResult result (PathFound MAX_NESTING (rest_of self.old) (rest_of self.new))
+            (FailsAt MAX_NESTING want_path (rest_of self.old) (rest_of self.new)) }
     {
-        let offset = self.rest.offset();
+        let offset = self.offset();
         let start = self.id_key_pattern(name)?;
-        let found = Vec::new(self.alloc);
-        let steps = self.more_step_patterns(found)?;
-        Ok(PathPattern {
-            offset,
-            start,
-            steps,
-        })
+        match self.more_step_patterns(Vec::new(self.alloc)) {
+            Ok(steps) => Ok(PathPattern {
+                offset,
+                start,
+                steps,
+            }),
+            Err(stop) => {
+                drop(start);
+                Err(stop)
+            }
+        }
     }
 }

@@ -2,7 +2,7 @@
 
 ghost use Rattle.std.specs.Prelude.{◌≡◌, MatchResult, codes};
 ghost use Rattle.xp_grammar.specs.declared.token.Token.TheVariants as token;
-ghost use Rattle.xp_parse.specs.inner.Places.{IsFirst, Took, Refused};
+ghost use Rattle.xp_parse.specs.inner.Places.{IsFirst, Took, Refused, rest_of};
 ghost use Rattle.xp_grammar.specs.inner.PatternMachine.{want_path};
 ghost use Rattle.xp_parse.specs.inner.PatternReading.{FailsAt, CallFound, NoLiteral};
 
@@ -16,9 +16,9 @@ use xp_tree::PatternStart;
 impl<'t, 'a> Parser<'t, 'a> {
     /// `id` or `key` with its literals, whose name stands at the place.
     pub(crate) fn id_key_pattern(&mut self, name: &str) -> Result<PatternStart, Stop>
-        requires { IsFirst (token.Function name.now) self.old.rest }
-        ensures { MatchResult result (CallFound MAX_NESTING self.old.rest self.new.rest)
-            (FailsAt MAX_NESTING want_path self.old.rest self.new.rest) }
+        requires { IsFirst (token.Function name.now) (rest_of self.old) }
+        ensures { MatchResult result (CallFound MAX_NESTING (rest_of self.old) (rest_of self.new))
+            (FailsAt MAX_NESTING want_path (rest_of self.old) (rest_of self.new)) }
     {
         match name {
             "id" => self.id_pattern(),
@@ -29,45 +29,42 @@ impl<'t, 'a> Parser<'t, 'a> {
 
     /// `id` with its literal.
     fn id_pattern(&mut self) -> Result<PatternStart, Stop>
-        requires { IsFirst (token.Function (codes "id")) self.old.rest }
-        ensures { MatchResult result (CallFound MAX_NESTING self.old.rest self.new.rest)
-            (FailsAt MAX_NESTING want_path self.old.rest self.new.rest) }
+        requires { IsFirst (token.Function (codes "id")) (rest_of self.old) }
+        ensures { MatchResult result (CallFound MAX_NESTING (rest_of self.old) (rest_of self.new))
+            (FailsAt MAX_NESTING want_path (rest_of self.old) (rest_of self.new)) }
     {
-        self.rest.advance();
-        self.rest.take(Mark::OpenParen)?;
+        self.advance();
+        self.take(Mark::OpenParen)?;
         let value = self.literal()?;
-        self.rest.take(Mark::CloseParen)?;
+        self.take(Mark::CloseParen)?;
         Ok(PatternStart::Id { value })
     }
 
     /// `key` with its literals.
     fn key_pattern(&mut self) -> Result<PatternStart, Stop>
-        requires { IsFirst (token.Function (codes "key")) self.old.rest }
-        ensures { MatchResult result (CallFound MAX_NESTING self.old.rest self.new.rest)
-            (FailsAt MAX_NESTING want_path self.old.rest self.new.rest) }
+        requires { IsFirst (token.Function (codes "key")) (rest_of self.old) }
+        ensures { MatchResult result (CallFound MAX_NESTING (rest_of self.old) (rest_of self.new))
+            (FailsAt MAX_NESTING want_path (rest_of self.old) (rest_of self.new)) }
     {
-        self.rest.advance();
-        self.rest.take(Mark::OpenParen)?;
+        self.advance();
+        self.take(Mark::OpenParen)?;
         let name = self.literal()?;
-        self.rest.take(Mark::Comma)?;
+        self.take(Mark::Comma)?;
         let value = self.literal()?;
-        self.rest.take(Mark::CloseParen)?;
+        self.take(Mark::CloseParen)?;
         Ok(PatternStart::Key { name, value })
     }
 
     /// Takes a literal.
     fn literal(&mut self) -> Result<Text, Stop>
-        ensures { MatchResult result (λ value. Took (token.Literal value) self.old.rest self.new.rest)
-            (NoLiteral self.old.rest self.new.rest) }
+        ensures { MatchResult result (λ value. Took (token.Literal value) (rest_of self.old) (rest_of self.new))
+            (NoLiteral (rest_of self.old) (rest_of self.new)) }
     {
-        let Some(first) = self.rest.token() else {
+        let Some(first) = self.token() else {
             return Err(Stop::Unexpected);
         };
         match first {
-            Token::Literal(value) => {
-                self.rest.advance();
-                Ok(Text::copy(self.alloc, value.as_str())?)
-            }
+            Token::Literal(value) => Ok(self.take_word(value)?),
             _ => Err(Stop::Unexpected),
         }
     }

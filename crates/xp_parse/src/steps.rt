@@ -8,6 +8,7 @@ ghost use Rattle.xp_grammar.specs.declared.token.NodeType.TheVariants as node_ty
 ghost use Rattle.xp_tree.specs.declared.terms.StepTest.TheVariants as test;
 ghost use Rattle.xp_grammar.specs.Parts.{everywhere, name_test, type_test};
 ghost use Rattle.xp_grammar.specs.inner.Machine.{Ending, after, full, need_step, need_test, type_open, type_inner};
+ghost use Rattle.xp_parse.specs.inner.Places.{rest_of};
 ghost use Rattle.xp_parse.specs.inner.Parsing.{Fails, StepsRead, MoreStepsRead, StepRead, TestedRead, TestRead, TypeRead, PredicatesRead, IsClosed, TestFails, TargetRead, Leads};
 
 use crate::mark::Mark;
@@ -16,7 +17,7 @@ use crate::stop::Stop;
 use sch_base::{MAX_NESTING, Text};
 use std::alloc::{AllocError, Global};
 use xp_grammar::{NodeType, Token};
-use xp_tree::{AxisName, Expr, Level, Step, StepTest};
+use xp_tree::{AxisName, Expr, Step, StepTest};
 
 /// The step `descendant-or-self::node()` that `//` stands for.
 pub(crate) fn everywhere(alloc: Global, offset: u32) -> Step
@@ -50,8 +51,9 @@ fn name_test(alloc: Global, name: &str) -> Result<StepTest, AllocError>
 {
     match name.split_once(':') {
         Some((prefix, local)) => {
-            let prefix = Some(Text::copy(alloc, prefix)?);
+            let prefix = Text::copy(alloc, prefix)?;
             let local = Text::copy(alloc, local)?;
+            let prefix = Some(prefix);
             Ok(StepTest::Named { prefix, local })
         }
         None => {
@@ -69,8 +71,8 @@ impl<'t, 'a> Parser<'t, 'a> {
     #[cycle(parser)]
     pub(crate) fn steps(&mut self, mut found: Vec<Step>, depth: usize) -> Result<Vec<Step>, Stop>
         requires { depth ≤ MAX_NESTING }
-        ensures { MatchResult result (λ all. StepsRead MAX_NESTING depth found.items self.old.rest self.new.rest all.items)
-            (Fails MAX_NESTING need_step depth self.old.rest self.new.rest) }
+        ensures { MatchResult result (λ all. StepsRead MAX_NESTING depth found.items (rest_of self.old) (rest_of self.new) all.items)
+            (Fails MAX_NESTING need_step depth (rest_of self.old) (rest_of self.new)) }
     {
         let first = self.step(depth)?;
         found.push(first)?;
@@ -85,9 +87,9 @@ impl<'t, 'a> Parser<'t, 'a> {
         depth: usize,
     ) -> Result<Vec<Step>, Stop>
         requires { depth ≤ MAX_NESTING }
-        ensures { (e : Ending) → IsClosed e self.old.rest → MatchResult result
-            (λ all. MoreStepsRead MAX_NESTING depth e found.items self.old.rest self.new.rest all.items)
-            (Fails MAX_NESTING (after e) depth self.old.rest self.new.rest) }
+        ensures { (e : Ending) → IsClosed e (rest_of self.old) → MatchResult result
+            (λ all. MoreStepsRead MAX_NESTING depth e found.items (rest_of self.old) (rest_of self.new) all.items)
+            (Fails MAX_NESTING (after e) depth (rest_of self.old) (rest_of self.new)) }
     {
         while self.lead(&mut found)? {
             let step = self.step(depth)?;
@@ -98,19 +100,19 @@ impl<'t, 'a> Parser<'t, 'a> {
 
     /// Takes `/`, or `//` with the step that it stands for; answers whether one of them stood there.
     fn lead(&mut self, found: &mut Vec<Step>) -> Result<bool, Stop>
-        ensures { MatchResult result (Leads self.old.rest self.new.rest found.old.items found.new.items) (λ why. why ≡ stop.Memory) }
+        ensures { MatchResult result (Leads (rest_of self.old) (rest_of self.new) found.old.items found.new.items) (λ why. why ≡ stop.Memory) }
     {
-        let offset = self.rest.offset();
-        let Some(first) = self.rest.token() else {
+        let offset = self.offset();
+        let Some(first) = self.token() else {
             return Ok(false);
         };
         match first {
             Token::Slash => {
-                self.rest.advance();
+                self.advance();
                 Ok(true)
             }
             Token::DoubleSlash => {
-                self.rest.advance();
+                self.advance();
                 found.push(everywhere(self.alloc, offset))?;
                 Ok(true)
             }
@@ -122,29 +124,29 @@ impl<'t, 'a> Parser<'t, 'a> {
     #[cycle(parser)]
     fn step(&mut self, depth: usize) -> Result<Step, Stop>
         requires { depth ≤ MAX_NESTING }
-        ensures { MatchResult result (StepRead MAX_NESTING depth self.old.rest self.new.rest)
-            (Fails MAX_NESTING need_step depth self.old.rest self.new.rest) }
+        ensures { MatchResult result (StepRead MAX_NESTING depth (rest_of self.old) (rest_of self.new))
+            (Fails MAX_NESTING need_step depth (rest_of self.old) (rest_of self.new)) }
     {
-        let offset = self.rest.offset();
-        let Some(first) = self.rest.token() else {
+        let offset = self.offset();
+        let Some(first) = self.token() else {
             return Err(Stop::Unexpected);
         };
         match first {
             Token::Dot => {
-                self.rest.advance();
+                self.advance();
                 Ok(self.whole_node(offset, AxisName::SelfNode))
             }
             Token::DoubleDot => {
-                self.rest.advance();
+                self.advance();
                 Ok(self.whole_node(offset, AxisName::Parent))
             }
             Token::At => {
-                self.rest.advance();
+                self.advance();
                 self.tested(offset, AxisName::Attribute, depth)
             }
             Token::Axis(axis) => {
-                self.rest.advance();
-                self.rest.take(Mark::DoubleColon)?;
+                self.advance();
+                self.take(Mark::DoubleColon)?;
                 self.tested(offset, *axis, depth)
             }
             Token::Star | Token::PrefixStar(_) | Token::Name(_) | Token::NodeType(_) => {
@@ -165,39 +167,43 @@ impl<'t, 'a> Parser<'t, 'a> {
     #[cycle(parser)]
     fn tested(&mut self, offset: u32, axis: AxisName, depth: usize) -> Result<Step, Stop>
         requires { depth ≤ MAX_NESTING }
-        ensures { MatchResult result (TestedRead MAX_NESTING depth offset axis self.old.rest self.new.rest)
-            (Fails MAX_NESTING need_test depth self.old.rest self.new.rest) }
+        ensures { MatchResult result (TestedRead MAX_NESTING depth offset axis (rest_of self.old) (rest_of self.new))
+            (Fails MAX_NESTING need_test depth (rest_of self.old) (rest_of self.new)) }
     {
-        let test_offset = self.rest.offset();
+        let test_offset = self.offset();
         let test = self.test()?;
-        let predicates = self.predicates(depth)?;
-        Ok(Step::new(offset, axis, test, test_offset, predicates))
+        match self.predicates(depth) {
+            Ok(predicates) => Ok(Step::new(offset, axis, test, test_offset, predicates)),
+            Err(stop) => {
+                drop(test);
+                Err(stop)
+            }
+        }
     }
 
     /// A node test.
     pub(crate) fn test(&mut self) -> Result<StepTest, Stop>
-        ensures { MatchResult result (TestRead self.old.rest self.new.rest)
-            (TestFails need_test self.old.rest self.new.rest) }
+        ensures { MatchResult result (TestRead (rest_of self.old) (rest_of self.new))
+            (TestFails need_test (rest_of self.old) (rest_of self.new)) }
     {
-        let Some(first) = self.rest.token() else {
+        let Some(first) = self.token() else {
             return Err(Stop::Unexpected);
         };
         match first {
             Token::Star => {
-                self.rest.advance();
+                self.advance();
                 Ok(StepTest::Star)
             }
             Token::PrefixStar(prefix) => {
-                self.rest.advance();
-                let prefix = Text::copy(self.alloc, prefix.as_str())?;
+                let prefix = self.take_word(prefix)?;
                 Ok(StepTest::InPrefix { prefix })
             }
             Token::Name(name) => {
-                self.rest.advance();
+                self.advance();
                 Ok(name_test(self.alloc, name.as_str())?)
             }
             Token::NodeType(node_type) => {
-                self.rest.advance();
+                self.advance();
                 self.typed(*node_type)
             }
             _ => Err(Stop::Unexpected),
@@ -206,14 +212,14 @@ impl<'t, 'a> Parser<'t, 'a> {
 
     /// What stands behind a node type.
     fn typed(&mut self, node_type: NodeType) -> Result<StepTest, Stop>
-        ensures { MatchResult result (TypeRead node_type self.old.rest self.new.rest)
-            (TestFails (type_open node_type) self.old.rest self.new.rest) }
+        ensures { MatchResult result (TypeRead node_type (rest_of self.old) (rest_of self.new))
+            (TestFails (type_open node_type) (rest_of self.old) (rest_of self.new)) }
     {
-        self.rest.take(Mark::OpenParen)?;
+        self.take(Mark::OpenParen)?;
         match node_type {
             NodeType::Pi => self.target(),
             _ => {
-                self.rest.take(Mark::CloseParen)?;
+                self.take(Mark::CloseParen)?;
                 Ok(type_test(node_type))
             }
         }
@@ -221,21 +227,20 @@ impl<'t, 'a> Parser<'t, 'a> {
 
     /// What stands in the parentheses of `processing-instruction`.
     fn target(&mut self) -> Result<StepTest, Stop>
-        ensures { MatchResult result (TargetRead self.old.rest self.new.rest)
-            (TestFails (type_inner node_type.Pi) self.old.rest self.new.rest) }
+        ensures { MatchResult result (TargetRead (rest_of self.old) (rest_of self.new))
+            (TestFails (type_inner node_type.Pi) (rest_of self.old) (rest_of self.new)) }
     {
-        let Some(first) = self.rest.token() else {
+        let Some(first) = self.token() else {
             return Err(Stop::Unexpected);
         };
         match first {
             Token::CloseParen => {
-                self.rest.advance();
+                self.advance();
                 Ok(StepTest::Pi)
             }
             Token::Literal(target) => {
-                self.rest.advance();
-                let target = Text::copy(self.alloc, target.as_str())?;
-                self.rest.take(Mark::CloseParen)?;
+                let target = self.take_word(target)?;
+                self.take(Mark::CloseParen)?;
                 Ok(StepTest::PiNamed { target })
             }
             _ => Err(Stop::Unexpected),
@@ -246,18 +251,13 @@ impl<'t, 'a> Parser<'t, 'a> {
     #[cycle(parser)]
     pub(crate) fn predicates(&mut self, depth: usize) -> Result<Vec<Expr>, Stop>
         requires { depth ≤ MAX_NESTING }
-        ensures { MatchResult result (λ found. PredicatesRead MAX_NESTING depth self.old.rest self.new.rest found.items)
-            (Fails MAX_NESTING (after full) depth self.old.rest self.new.rest) }
+        ensures { MatchResult result (λ found. PredicatesRead MAX_NESTING depth (rest_of self.old) (rest_of self.new) found.items)
+            (Fails MAX_NESTING (after full) depth (rest_of self.old) (rest_of self.new)) }
     {
         let mut found = Vec::new(self.alloc);
-        while self.rest.is_at(Mark::OpenBracket) {
-            if depth >= MAX_NESTING {
-                return Err(Stop::TooNested);
-            }
-            self.rest.advance();
-            let predicate = self.chain(Level::Or, depth + 1)?;
+        while self.is_at(Mark::OpenBracket) {
+            let predicate = self.enclosed(Mark::CloseBracket, depth)?;
             found.push(predicate)?;
-            self.rest.take(Mark::CloseBracket)?;
         }
         Ok(found)
     }

@@ -1,10 +1,11 @@
 //! The fault where a parser stopped.
 
 ghost use Rattle.std.specs.Prelude.{◌≡◌};
+ghost use Rattle.xp_parse.specs.inner.Places.{rest_of};
 ghost use Rattle.xp_parse.specs.inner.Stopped.{at_end_fault, stopped_fault, finished};
 
-use crate::cursor::Cursor;
 use crate::error::ParseError;
+use crate::parser::Parser;
 use crate::stop::Stop;
 use xp_grammar::{SyntaxFault, SyntaxKind};
 
@@ -26,20 +27,20 @@ fn fault_at_end(whole: bool, end: u32) -> SyntaxFault
 }
 
 /// The fault of a parser that stopped at these tokens.
-pub(crate) fn fault_of(rest: &Cursor, stop: Stop, whole: bool, end: u32) -> ParseError
-    ensures { result ≡ stopped_fault stop rest.now whole end }
+pub(crate) fn fault_of(parser: &Parser, stop: Stop, whole: bool, end: u32) -> ParseError
+    ensures { result ≡ stopped_fault stop (rest_of parser.now) whole end }
 {
     match stop {
         Stop::Memory => ParseError::Memory,
         Stop::TooNested => {
-            let offset = rest.offset();
+            let offset = parser.offset();
             let kind = SyntaxKind::TooNested;
             ParseError::Fault(SyntaxFault { kind, offset })
         }
         Stop::Unexpected => {
-            let offset = rest.offset();
+            let offset = parser.offset();
             let kind = SyntaxKind::Unexpected;
-            match rest.token() {
+            match parser.token() {
                 Some(_) => ParseError::Fault(SyntaxFault { kind, offset }),
                 None => ParseError::Fault(fault_at_end(whole, end)),
             }
@@ -50,17 +51,17 @@ pub(crate) fn fault_of(rest: &Cursor, stop: Stop, whole: bool, end: u32) -> Pars
 /// What was read, if no token is left and the text was read whole; else the fault where the parser stopped.
 pub(crate) fn finished<T: Drop>(
     read: Result<T, Stop>,
-    rest: &Cursor,
+    parser: &Parser,
     whole: bool,
     end: u32,
 ) -> Result<T, ParseError>
-    ensures { result ≡ finished read rest.now whole end }
+    ensures { result ≡ finished read (rest_of parser.now) whole end }
 {
     match read {
-        Err(stop) => Err(fault_of(rest, stop, whole, end)),
-        Ok(part) => match rest.token() {
+        Err(stop) => Err(fault_of(parser, stop, whole, end)),
+        Ok(part) => match parser.token() {
             None if whole => Ok(part),
-            _ => Err(fault_of(rest, Stop::Unexpected, whole, end)),
+            _ => Err(fault_of(parser, Stop::Unexpected, whole, end)),
         },
     }
 }

@@ -5,7 +5,6 @@ ghost use Rattle.xp_tree.specs.PatternTree.{pattern_of};
 ghost use Rattle.xp_tree.specs.View.{tree_of};
 ghost use Rattle.xp_parse.specs.Whole.{Faults, IsWhole, IsWholePattern, PatternFaults};
 
-use crate::cursor::Cursor;
 use crate::error::ParseError;
 use crate::parser::Parser;
 use crate::stopped::finished;
@@ -24,12 +23,9 @@ pub fn parse_tokens(
 ) -> Result<Expr, ParseError>
     ensures { MatchResult result (λ e. IsWhole MAX_NESTING whole tokens.now (tree_of e)) (Faults MAX_NESTING tokens.now whole end) }
 {
-    let mut parser = Parser {
-        alloc,
-        rest: Cursor::new(tokens),
-    };
+    let mut parser = Parser::new(alloc, tokens);
     let read = parser.chain(Level::Or, 0);
-    finished(read, &parser.rest, whole, end)
+    finished(read, &parser, whole, end)
 }
 
 /// The pattern that the tokens are, or the first fault; the tokens were read up to a place, to the end of the text or
@@ -42,11 +38,8 @@ pub fn parse_pattern_tokens(
 ) -> Result<Pattern, ParseError>
     ensures { MatchResult result (λ p. IsWholePattern MAX_NESTING whole tokens.now (pattern_of p)) (PatternFaults MAX_NESTING tokens.now whole end) }
 {
-    let mut parser = Parser {
-        alloc,
-        rest: Cursor::new(tokens),
-    };
+    let mut parser = Parser::new(alloc, tokens);
     let read = parser.pattern();
-    let paths = finished(read, &parser.rest, whole, end)?;
+    let paths = finished(read, &parser, whole, end)?;
     Ok(Pattern { paths })
 }

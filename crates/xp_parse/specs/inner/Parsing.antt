@@ -13,6 +13,7 @@ use Rattle.xp_tree.specs.Tree.{Tree, Steps, Operands, Trees, step, tree}
 use Rattle.xp_tree.specs.View.{tree_of, operand_of, step_of, operands_seen, steps_seen, trees_seen}
 use Rattle.xp_grammar.specs.declared.token.Placed.{Placed}
 use Rattle.xp_grammar.specs.declared.token.NodeType.{NodeType}
+use Rattle.xp_grammar.specs.declared.token.Token.{Token}
 use Rattle.xp_grammar.specs.declared.token.NodeType.TheVariants as node_type
 use Rattle.xp_grammar.specs.declared.token.Token.TheVariants as token
 use Rattle.xp_grammar.specs.Parts.{offset_at, level_of, everywhere}
@@ -20,7 +21,7 @@ use Rattle.xp_grammar.specs.Grammar.{IsSigns, IsTest, IsChain, IsOperand, IsOper
 use Rattle.xp_grammar.specs.inner.Machine.{Bracket, in_arguments, Ending, full, bare, at_root, Mode, want, need_step, need_test, type_open, type_inner, type_close, after, moves, turn, end_turn, halt, start, IsPending, IsLimited}
 use Rattle.xp_parse.specs.declared.stop.Stop.{Stop}
 use Rattle.xp_parse.specs.declared.stop.Stop.TheVariants as stop
-use Rattle.xp_parse.specs.inner.Places.{NotAt, Took}
+use Rattle.xp_parse.specs.inner.Places.{NotAt, Refused, Took}
 
 -- how tightly a level binds
 abbrev pub rank : Level → ℕ
@@ -218,6 +219,24 @@ pub data TestStops : Mode → List Placed → List Placed → Type 0 where
 
 pub record TestFails (m : Mode) (s u : List Placed) (why : Stop) : Type 0 where
   pub stops : IsNoMemory why → (why ≡ stop.Unexpected) × TestStops m s u
+
+-- an expression was read behind the first token, and this token behind it
+pub record EnclosedRead (limit d : ℕ) (close : Token) (s u : List Placed) (e : Tree) : Type 0 where
+  pub opening : Placed
+  pub inner : List Placed
+  pub behind : List Placed
+  pub is : s ≡ opening ∷ inner
+  pub room : suc d ≤ limit
+  pub read : ChainRead limit level.Or (suc d) inner behind e
+  pub closed : Took close behind u
+
+-- no expression fits, or none was read, or the token isn't behind it
+pub data EnclosedFails (limit d : ℕ) (close : Token) (s u : List Placed) (why : Stop) : Type 0 where
+  too_deep : limit ≤ d → u ≡ s → why ≡ stop.TooNested → EnclosedFails limit d close s u why
+  inside_fails : (opening : Placed) (inner : List Placed) → s ≡ opening ∷ inner → suc d ≤ limit →
+      OperandFails limit level.Or (suc d) inner u why → EnclosedFails limit d close s u why
+  left_open : (opening : Placed) (inner behind : List Placed) (e : Tree) → s ≡ opening ∷ inner → suc d ≤ limit →
+      ChainRead limit level.Or (suc d) inner behind e → Refused close behind u why → EnclosedFails limit d close s u why
 
 -- predicates were read
 pub record PredicatesRead (limit d : ℕ) (s u : List Placed) (found : List Expr) : Type 0 where

@@ -1,5 +1,5 @@
 -- Places in a list of tokens.
-use Rattle.std.specs.Prelude.{◌≡◌, Bool, true, false, List, [], ◌∷◌}
+use Rattle.std.specs.Prelude.{◌≡◌, Bool, true, false, List, [], ◌∷◌, drop}
 use Rattle.xp_tree.specs.declared.terms.Level.{Level}
 use Rattle.xp_tree.specs.declared.terms.Operator.{Operator}
 use Rattle.xp_tree.specs.declared.terms.Operator.TheVariants as operator
@@ -9,8 +9,13 @@ use Rattle.xp_grammar.specs.declared.token.Placed.{Placed}
 use Rattle.xp_grammar.specs.declared.token.Token.{Token}
 use Rattle.xp_parse.specs.declared.mark.Mark.{Mark}
 use Rattle.xp_parse.specs.declared.mark.Mark.TheVariants as mark
+use Rattle.xp_parse.specs.declared.parser.Parser.{Parser}
 use Rattle.xp_parse.specs.declared.stop.Stop.{Stop}
 use Rattle.xp_parse.specs.declared.stop.Stop.TheVariants as stop
+
+-- the tokens that a parser has not taken yet
+unfoldable pub rest_of : Parser → List Placed
+rest_of p = drop p.at p.tokens.now
 
 -- the token of a mark
 abbrev pub token_of : Mark → Token
@@ -33,6 +38,12 @@ pub record IsFirst (t : Token) (s : List Placed) : Type 0 where
   pub rest : List Placed
   pub is : s ≡ placed ∷ rest
   pub token : placed.token ≡ t
+
+-- a token stands first
+pub record IsThere (s : List Placed) : Type 0 where
+  pub placed : Placed
+  pub rest : List Placed
+  pub is : s ≡ placed ∷ rest
 
 -- the token stood first and was taken
 pub record Took (t : Token) (s u : List Placed) : Type 0 where

@@ -5,13 +5,13 @@ use Rattle.xp_grammar.specs.declared.token.Token.TheVariants as token
 use Rattle.xp_grammar.specs.inner.Machine.{full, need_test}
 use Rattle.xp_tree.specs.View.{tree_of}
 use Rattle.xp_parse.specs.inner.Places.{StandsFirst}
-use Rattle.xp_parse.specs.inner.Parsing.{Leads}
+use Rattle.xp_parse.specs.inner.Parsing.{Leads, too_deep, inside_fails}
 use Rattle.xp_parse.proofs.Exits.{exits}
-use Rattle.xp_parse.proofs.Failing.{took_of, took_shorter, first_same, stuck_at_end, stuck_at_first}
+use Rattle.xp_parse.proofs.Failing.{took_of, took_shorter, first_same, first_there, there_on, there_shorter, stuck_at_end, stuck_at_first}
 use Rattle.xp_parse.proofs.Chains.{operand_of_chain, operand_of_path, chain_rest_fails, chain_alone, chain_read, operands_start, operands_fail, operands_more, operands_read, signed_fails, unsigned_read, signed_read, signs_length, weight_small}
-use Rattle.xp_parse.proofs.Paths.{root_read, root_fails, root_steps_read, anywhere_fails, anywhere_read, here_fails, here_read, filter_fails, filter_alone_read, filter_path_read, base_fails, bare_filter_read, filter_read, lead_shorter, more_steps_fail, steps_more, more_steps_read, steps_read, dot_read, parent_read, at_steps, axis_steps, axis_fails, no_step_begins, child_steps, test_token, test_fails, predicates_too_nested, predicate_fails, predicate_unclosed, predicates_more, predicates_read}
+use Rattle.xp_parse.proofs.Paths.{root_read, root_fails, root_steps_read, anywhere_fails, anywhere_read, here_fails, here_read, filter_fails, filter_alone_read, filter_path_read, base_fails, bare_filter_read, filter_read, lead_shorter, more_steps_fail, steps_more, more_steps_read, steps_read, dot_read, parent_read, at_steps, axis_steps, axis_fails, no_step_begins, child_steps, test_token, test_fails, predicates_stop, predicates_more, predicates_read}
 use Rattle.xp_parse.proofs.NodeTests.{test_refused}
-use Rattle.xp_parse.proofs.Primaries.{end_fails, no_primary, variable_read, literal_read, number_read, parens_too_nested, parens_fail, parens_closed, call_too_nested, call_unopened, call_fails, call_unclosed, call_read, no_arguments_read, first_fails, arguments_read, arguments_start, argument_fails, arguments_more, more_arguments_read, fails_suc, arguments_suc, operand_fails_suc, chain_suc}
+use Rattle.xp_parse.proofs.Primaries.{end_fails, no_primary, variable_read, literal_read, number_read, parens_closed, enclosed_read, call_too_nested, call_unopened, call_fails, call_unclosed, call_read, no_arguments_read, first_fails, arguments_read, arguments_start, argument_fails, arguments_more, more_arguments_read, fails_suc, arguments_suc, operand_fails_suc, chain_suc}
 use Rattle.xp_parse.proofs.parser.Parser.+parser.Goals as goal
 
 pub arguments-returns-then-is_at : goal.arguments-returns-then-is_at
@@ -47,8 +47,9 @@ call-returns-in_err-take-2 n c = let f = c.requires.first in
     (call_unclosed MAX_NESTING _ _ _ _ _ _ _ _ _ (omega (arith, c.if-depth-ge-MAX_NESTING.false)) (took_of _ _ _ f (c.advance.ensures f.placed f.rest f.is)) c.in_ok-take.ensures (arguments_suc _ _ _ _ _ c.in_ok-args.ensures) c.in_err-take-2.ensures)
 
 pub call-returns : goal.call-returns
-call-returns n c = let f = c.requires.first in
-    call_read MAX_NESTING c.args.depth c.args.offset c.args.name _ _ _ _ _ _ _ (omega (arith, c.if-depth-ge-MAX_NESTING.false)) (took_of _ _ _ f (c.advance.ensures f.placed f.rest f.is)) c.in_ok-take.ensures (arguments_suc _ _ _ _ _ c.in_ok-args.ensures) c.in_ok-take-2.ensures c.requires.offset c.call.ensures
+call-returns n c =
+    let f = first_same _ _ _ (ap token.Function (sym (c.in_ok-name.ensures ∙ c.as_str.ensures))) c.requires.first in
+    call_read MAX_NESTING c.args.depth _ _ _ _ _ _ _ _ _ (omega (arith, c.if-depth-ge-MAX_NESTING.false)) (took_of _ _ _ f (c.advance.ensures f.placed f.rest f.is)) c.in_ok-take.ensures (arguments_suc _ _ _ _ _ c.in_ok-args.ensures) c.in_ok-take-2.ensures c.offset-offset.ensures c.call.ensures
 
 pub chain-returns-in_err-rest : goal.chain-returns-in_err-rest
 chain-returns-in_err-rest n c =
@@ -64,6 +65,25 @@ chain-returns n c =
     let r = c.in_ok-first.ensures in
     chain_read MAX_NESTING _ _ _ _ _ _ _ _ _ _ _ r c.in-Some.ensures (c.in_ok-rest.ensures r.reads.ending r.reads.settled r.reads.quiet) c.offset-offset.ensures
     (ap tree_of c.in_ok-first-2.ensures.ok) (c.at_level.ensures ∙ c.new-2.ensures c.args.level)
+
+pub enclosed-returns-then-depth-ge-MAX_NESTING : goal.enclosed-returns-then-depth-ge-MAX_NESTING
+enclosed-returns-then-depth-ge-MAX_NESTING n c = too_deep c.if-depth-ge-MAX_NESTING.true refl refl
+
+pub enclosed-chain-requires : goal.enclosed-chain-requires
+enclosed-chain-requires n c =
+    let f = c.requires.first in let shorter = there_shorter _ _ f (c.advance.ensures f.placed f.rest f.is) in
+    (omega (arith, c.decreases, shorter), omega (arith, c.if-depth-ge-MAX_NESTING.false))
+
+pub enclosed-returns-in_err-inner : goal.enclosed-returns-in_err-inner
+enclosed-returns-in_err-inner n c =
+    let f = c.requires.first in
+    exits _ _ _ c.in_err-inner.field-0.0 c.from_residual.ensures.1
+    (inside_fails f.placed _ (there_on _ _ f (c.advance.ensures f.placed f.rest f.is)) (omega (arith, c.if-depth-ge-MAX_NESTING.false)) (operand_fails_suc _ _ _ _ _ _ c.in_err-inner.ensures))
+
+pub enclosed-returns : goal.enclosed-returns
+enclosed-returns n c =
+    let f = c.requires.first in
+    enclosed_read MAX_NESTING _ _ _ _ _ _ f.placed _ _ (there_on _ _ f (c.advance.ensures f.placed f.rest f.is)) (omega (arith, c.if-depth-ge-MAX_NESTING.false)) (chain_suc _ _ _ _ _ _ c.in_ok-inner.ensures) c.take_behind.ensures
 
 pub filter-returns-in_err-predicates : goal.filter-returns-in_err-predicates
 filter-returns-in_err-predicates n c =
@@ -125,20 +145,6 @@ pub from_root-returns : goal.from_root-returns
 from_root-returns n c =
     let f = c.requires.first in
     root_steps_read MAX_NESTING _ _ _ _ _ _ _ _ c.requires.depth (took_of _ _ _ f (c.advance.ensures f.placed f.rest f.is)) (sym c.at_step.ensures ∙ c.if-not-at_step.false) c.offset-offset.ensures c.new-steps.ensures.items c.in_ok-steps.ensures c.from_root-2.ensures
-
-pub in_parens-returns-then-depth-ge-MAX_NESTING : goal.in_parens-returns-then-depth-ge-MAX_NESTING
-in_parens-returns-then-depth-ge-MAX_NESTING n c = parens_too_nested MAX_NESTING _ _ c.if-depth-ge-MAX_NESTING.true c.requires.first
-
-pub in_parens-returns-in_err-inner : goal.in_parens-returns-in_err-inner
-in_parens-returns-in_err-inner n c =
-    let f = c.requires.first in
-    exits _ _ _ c.in_err-inner.field-0.0 c.from_residual.ensures.1
-    (parens_fail MAX_NESTING _ _ _ _ _ (omega (arith, c.if-depth-ge-MAX_NESTING.false)) (took_of _ _ _ f (c.advance.ensures f.placed f.rest f.is)) (operand_fails_suc _ _ _ _ _ _ c.in_err-inner.ensures))
-
-pub in_parens-returns : goal.in_parens-returns
-in_parens-returns n c =
-    let f = c.requires.first in
-    parens_closed MAX_NESTING _ _ _ _ _ _ _ (omega (arith, c.if-depth-ge-MAX_NESTING.false)) (took_of _ _ _ f (c.advance.ensures f.placed f.rest f.is)) (chain_suc _ _ _ _ _ _ c.in_ok-inner.ensures) c.take_behind.ensures
 
 pub more_arguments-loop-self-init : goal.more_arguments-loop-self-init
 more_arguments-loop-self-init n c =
@@ -238,48 +244,45 @@ pub path-returns-in_default : goal.path-returns-in_default
 path-returns-in_default n c =
     end_fails MAX_NESTING _ _ c.in_default.ensures
 
-pub predicates-returns-then-depth-ge-MAX_NESTING : goal.predicates-returns-then-depth-ge-MAX_NESTING
-predicates-returns-then-depth-ge-MAX_NESTING n c =
-    predicates_too_nested MAX_NESTING _ _ _ _ c.requires c.if-depth-ge-MAX_NESTING.true c.loop-found.invariant c.loop-found-test.ensures
+pub predicates-enclosed-requires : goal.predicates-enclosed-requires
+predicates-enclosed-requires n c =
+    let shorter = c.loop-self.invariant.shorter in
+    (omega (arith, c.decreases, shorter), (c.requires, first_there _ _ c.loop-self-test.ensures))
 
 pub predicates-returns-in_err-predicate : goal.predicates-returns-in_err-predicate
 predicates-returns-in_err-predicate n c =
-    let f = c.loop-found-test.ensures in
     exits _ _ _ c.in_err-predicate.field-0.0 c.from_residual.ensures.1
-    (predicate_fails MAX_NESTING _ _ _ _ _ _ _ (omega (arith, c.if-depth-ge-MAX_NESTING.false)) c.loop-found.invariant (took_of _ _ _ f (c.advance.ensures f.placed f.rest f.is)) (operand_fails_suc _ _ _ _ _ _ c.in_err-predicate.ensures))
+    (predicates_stop MAX_NESTING _ _ _ _ _ _ c.requires c.loop-self.invariant c.loop-self-test.ensures c.in_err-predicate.ensures)
 
-pub predicates-returns-in_err-take : goal.predicates-returns-in_err-take
-predicates-returns-in_err-take n c =
-    let f = c.loop-found-test.ensures in
-    exits _ _ _ c.in_err-take.field-0.0 c.from_residual-in_err-take.ensures.1
-    (predicate_unclosed MAX_NESTING _ _ _ _ _ _ _ _ _ (omega (arith, c.if-depth-ge-MAX_NESTING.false)) c.loop-found.invariant (took_of _ _ _ f (c.advance.ensures f.placed f.rest f.is)) (chain_suc _ _ _ _ _ _ c.in_ok-predicate.ensures) c.in_err-take.ensures)
-
-pub predicates-loop-found-preserved : goal.predicates-loop-found-preserved
-predicates-loop-found-preserved n c =
-    let f = c.loop-found-test.ensures in
-    predicates_more MAX_NESTING _ _ _ _ _ _ _ _ _ (omega (arith, c.if-depth-ge-MAX_NESTING.false)) c.loop-found.invariant (took_of _ _ _ f (c.advance.ensures f.placed f.rest f.is)) (chain_suc _ _ _ _ _ _ c.in_ok-predicate.ensures) c.in_ok-take.ensures c.in_ok-push.ensures.items
+pub predicates-loop-self-preserved : goal.predicates-loop-self-preserved
+predicates-loop-self-preserved n c =
+    predicates_more MAX_NESTING _ _ _ _ _ _ _ c.loop-self.invariant c.loop-self-test.ensures c.in_ok-predicate.ensures c.in_ok-push.ensures.items
 
 pub predicates-returns : goal.predicates-returns
 predicates-returns n c =
-    predicates_read MAX_NESTING _ _ _ _ c.loop-found.invariant c.loop-found-test.ensures
+    predicates_read MAX_NESTING _ _ _ _ c.loop-self.invariant c.loop-self-test.ensures
 
 pub primary-returns-in_default : goal.primary-returns-in_default
 primary-returns-in_default n c = end_fails MAX_NESTING _ _ c.in_default.ensures
 
-pub primary-returns-in_ok-name-in-Variable : goal.primary-returns-in_ok-name-in-Variable
-primary-returns-in_ok-name-in-Variable n c =
-    let f = first_same _ _ _ (c.in-Variable.is ∙ ap token.Variable (sym (c.in_ok-name-in-Variable.ensures ∙ c.as_str.ensures))) c.in-Some.ensures in
-    variable_read MAX_NESTING _ _ _ _ _ _ (took_of _ _ _ f (c.advance.ensures f.placed f.rest f.is)) c.offset-offset.ensures c.variable.ensures
+pub primary-returns-in_ok-take_word-in-Variable : goal.primary-returns-in_ok-take_word-in-Variable
+primary-returns-in_ok-take_word-in-Variable n c =
+    let f = first_same _ _ _ (c.in-Variable.is ∙ ap token.Variable (sym c.in_ok-take_word-in-Variable.ensures.copied)) c.in-Some.ensures in
+    variable_read MAX_NESTING _ _ _ _ _ _ (took_of _ _ _ f (c.take_word.ensures.took f.placed f.rest f.is)) c.offset-offset.ensures c.variable.ensures
 
-pub primary-returns-in_ok-value-in-Literal : goal.primary-returns-in_ok-value-in-Literal
-primary-returns-in_ok-value-in-Literal n c =
-    let f = first_same _ _ _ (c.in-Literal.is ∙ ap token.Literal (sym (c.in_ok-value-in-Literal.ensures ∙ c.as_str-in-Literal.ensures))) c.in-Some.ensures in
-    literal_read MAX_NESTING _ _ _ _ _ _ (took_of _ _ _ f (c.advance-in-Literal.ensures f.placed f.rest f.is)) c.offset-offset.ensures c.literal.ensures
+pub primary-returns-in_ok-take_word-in-Literal : goal.primary-returns-in_ok-take_word-in-Literal
+primary-returns-in_ok-take_word-in-Literal n c =
+    let f = first_same _ _ _ (c.in-Literal.is ∙ ap token.Literal (sym c.in_ok-take_word-in-Literal.ensures.copied)) c.in-Some.ensures in
+    literal_read MAX_NESTING _ _ _ _ _ _ (took_of _ _ _ f (c.take_word-in-Literal.ensures.took f.placed f.rest f.is)) c.offset-offset.ensures c.literal.ensures
 
-pub primary-returns-in_ok-digits-in-Number : goal.primary-returns-in_ok-digits-in-Number
-primary-returns-in_ok-digits-in-Number n c =
-    let f = first_same _ _ _ (c.in-Number.is ∙ ap token.Number (sym (c.in_ok-digits-in-Number.ensures ∙ c.as_str-in-Number.ensures))) c.in-Some.ensures in
-    number_read MAX_NESTING _ _ _ _ _ _ (took_of _ _ _ f (c.advance-in-Number.ensures f.placed f.rest f.is)) c.offset-offset.ensures c.number.ensures
+pub primary-returns-in_ok-take_word-in-Number : goal.primary-returns-in_ok-take_word-in-Number
+primary-returns-in_ok-take_word-in-Number n c =
+    let f = first_same _ _ _ (c.in-Number.is ∙ ap token.Number (sym c.in_ok-take_word-in-Number.ensures.copied)) c.in-Some.ensures in
+    number_read MAX_NESTING _ _ _ _ _ _ (took_of _ _ _ f (c.take_word-in-Number.ensures.took f.placed f.rest f.is)) c.offset-offset.ensures c.number.ensures
+
+pub primary-returns-in-OpenParen : goal.primary-returns-in-OpenParen
+primary-returns-in-OpenParen n c =
+    parens_closed MAX_NESTING _ _ _ _ (first_same _ _ _ c.in-OpenParen.is c.in-Some.ensures) c.enclosed.ensures
 
 pub primary-returns-in_default-first : goal.primary-returns-in_default-first
 primary-returns-in_default-first n c =
@@ -353,7 +356,5 @@ pub tested-returns-in_err-test : goal.tested-returns-in_err-test
 tested-returns-in_err-test n c =
     exits _ _ _ c.in_err-test.field-0.0 c.from_residual.ensures.1 (test_refused MAX_NESTING need_test _ _ _ _ c.requires c.in_err-test.ensures)
 
-pub tested-returns-in_err-predicates : goal.tested-returns-in_err-predicates
-tested-returns-in_err-predicates n c =
-    exits _ _ _ c.in_err-predicates.field-0.0 c.from_residual-in_err-predicates.ensures.1
-    (test_fails MAX_NESTING _ _ _ _ _ _ c.requires c.in_ok-test.ensures.tests c.in_err-predicates.ensures)
+pub tested-returns-in-Err : goal.tested-returns-in-Err
+tested-returns-in-Err n c = test_fails MAX_NESTING _ _ _ _ _ _ c.requires c.in_ok-test.ensures.tests c.in-Err.ensures

@@ -7,7 +7,7 @@ use Rattle.xp_parse.proofs.parser.Parser.pattern_from_root.Goals as goal
 pub returns-then-not-at_step : goal.returns-then-not-at_step
 returns-then-not-at_step c =
     let f = c.requires in
-    root_found _ _ _ (took_of _ _ _ f (c.advance.ensures f.placed f.rest f.is)) (sym c.at_step.ensures ∙ c.if-not-at_step.true) c.offset-offset.ensures refl c.new-steps.ensures.items
+    root_found _ _ _ (took_of _ _ _ f (c.advance.ensures f.placed f.rest f.is)) (sym c.at_step.ensures ∙ c.if-not-at_step.true) c.offset-offset.ensures refl c.new.ensures.items
 
 pub returns-in_err-steps : goal.returns-in_err-steps
 returns-in_err-steps c =

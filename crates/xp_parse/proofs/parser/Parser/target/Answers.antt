@@ -14,7 +14,7 @@ pub returns-in_err-take-in-Literal : goal.returns-in_err-take-in-Literal
 returns-in_err-take-in-Literal c =
     let f = first_same _ _ _ c.in-Literal.is c.in-Some.ensures in
     exits _ _ _ c.in_err-take-in-Literal.field-0.0 c.from_residual-in_err-take-in-Literal.ensures.1
-    (target_unclosed _ _ _ c.in-Literal.target _ (took_of _ _ _ f (c.advance-in-Literal.ensures f.placed f.rest f.is)) c.in_err-take-in-Literal.ensures)
+    (target_unclosed _ _ _ c.in-Literal.target _ (took_of _ _ _ f (c.take_word.ensures.took f.placed f.rest f.is)) c.in_err-take-in-Literal.ensures)
 
 pub returns-in-CloseParen : goal.returns-in-CloseParen
 returns-in-CloseParen c =
@@ -23,8 +23,8 @@ returns-in-CloseParen c =
 
 pub returns-in_ok-take-in-Literal : goal.returns-in_ok-take-in-Literal
 returns-in_ok-take-in-Literal c =
-    let f = first_same _ _ _ (c.in-Literal.is ∙ ap token.Literal (sym (c.in_ok-target-in-Literal.ensures ∙ c.as_str.ensures))) c.in-Some.ensures in
-    target_some _ _ _ c.in_ok-target-in-Literal.target (took_of _ _ _ f (c.advance-in-Literal.ensures f.placed f.rest f.is)) c.in_ok-take-in-Literal.ensures
+    let f = first_same _ _ _ (c.in-Literal.is ∙ ap token.Literal (sym c.in_ok-target-in-Literal.ensures.copied)) c.in-Some.ensures in
+    target_some _ _ _ c.in_ok-target-in-Literal.target (took_of _ _ _ f (c.take_word.ensures.took f.placed f.rest f.is)) c.in_ok-take-in-Literal.ensures
 
 pub returns-in_default-first : goal.returns-in_default-first
 returns-in_default-first c = record {

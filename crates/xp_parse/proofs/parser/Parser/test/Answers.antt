@@ -15,12 +15,12 @@ returns-in-Star c =
 
 pub returns-in_ok-prefix-in-PrefixStar : goal.returns-in_ok-prefix-in-PrefixStar
 returns-in_ok-prefix-in-PrefixStar c =
-    let f = first_same _ _ _ (c.in-PrefixStar.is ∙ ap token.PrefixStar (sym (c.in_ok-prefix-in-PrefixStar.ensures ∙ c.as_str.ensures))) c.in-Some.ensures in
-    prefix_read _ _ _ (took_of _ _ _ f (c.advance-in-PrefixStar.ensures f.placed f.rest f.is))
+    let f = first_same _ _ _ (c.in-PrefixStar.is ∙ ap token.PrefixStar (sym c.in_ok-prefix-in-PrefixStar.ensures.copied)) c.in-Some.ensures in
+    prefix_read _ _ _ (took_of _ _ _ f (c.take_word.ensures.took f.placed f.rest f.is))
 
 pub returns-in_ok-name_test-in-Name : goal.returns-in_ok-name_test-in-Name
 returns-in_ok-name_test-in-Name c =
-    let f = first_same _ _ _ (c.in-Name.is ∙ ap token.Name (sym c.as_str-in-Name.ensures)) c.in-Some.ensures in
+    let f = first_same _ _ _ (c.in-Name.is ∙ ap token.Name (sym c.as_str.ensures)) c.in-Some.ensures in
     name_read _ _ _ _ c.in_ok-name_test-in-Name.ensures (took_of _ _ _ f (c.advance-in-Name.ensures f.placed f.rest f.is))
 
 pub returns-in-NodeType : goal.returns-in-NodeType
