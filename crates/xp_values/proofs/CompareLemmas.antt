@@ -1,5 +1,5 @@
 -- Texts as numbers, one after another.
-use Rattle.std.proofs.Common.{◌≡◌, ℕ, ◌+◌, ◌<◌, suc, zero, List, [], ◌∷◌, ◌++◌, length, take, map, get_or, Result, Ok, Err, refl, sym, ap, subst, ◌∙◌, arith}
+use Rattle.std.proofs.Common.{◌≡◌, ℕ, ◌+◌, ◌<◌, suc, zero, List, [], ◌∷◌, ◌++◌, length, take, map, get_or, Result, Ok, Err, refl, sym, ap, ap₂, subst, ◌∙◌, arith}
 use Rattle.std.specs.Prelude.{IsErrAnd}
 use Rattle.std.proofs.lemmas.List.{take_more, map-append}
 use Rattle.xp_values.specs.declared.numbers.Num.{Num}
@@ -10,33 +10,36 @@ use Rattle.xp_values.specs.declared.values.EvalError.{EvalError}
 use Rattle.xp_values.specs.declared.values.EvalError.TheVariants.{Fault, Memory}
 use Rattle.xp_values.specs.Outcomes.{Gives, then_of}
 
+-- one after another, whichever way they are grouped
+regrouped : (r : Result Num EvalFault) (s t : Result (List Num) EvalFault) →
+    then_of r (λ x. then_of (then_of s (λ xs. then_of t (λ ys. Ok (xs ++ ys)))) (λ all. Ok (x ∷ all)))
+    ≡ then_of (then_of r (λ x. then_of s (λ xs. Ok (x ∷ xs)))) (λ xs. then_of t (λ ys. Ok (xs ++ ys)))
+regrouped (Err fault) s t = refl
+regrouped (Ok x) (Err fault) t = refl
+regrouped (Ok x) (Ok xs) (Err fault) = refl
+regrouped (Ok x) (Ok xs) (Ok ys) = refl
+
+alone : (t : Result (List Num) EvalFault) → t ≡ then_of t (λ ys. Ok ys)
+alone (Ok ys) = refl
+alone (Err fault) = refl
+
+-- the texts of two lists
+numbers_append : (texts more : List (List ℕ)) → all_numbers (texts ++ more) ≡ then_of (all_numbers texts) (λ xs. then_of (all_numbers more) (λ ys. Ok (xs ++ ys)))
+numbers_append [] more = alone (all_numbers more)
+numbers_append (t ∷ texts) more =
+    ap (λ r. then_of (text_to_number t) (λ x. then_of r (λ all. Ok (x ∷ all)))) (numbers_append texts more) ∙ regrouped (text_to_number t) (all_numbers texts) (all_numbers more)
+
 -- one more text
-pub numbers_more : (texts : List (List ℕ)) (text : List ℕ) (numbers : List Num) (number : Num) → all_numbers texts ≡ Ok numbers → text_to_number text ≡ Ok number →
+numbers_more : (texts : List (List ℕ)) (text : List ℕ) (numbers : List Num) (number : Num) → all_numbers texts ≡ Ok numbers → text_to_number text ≡ Ok number →
     all_numbers (texts ++ text ∷ []) ≡ Ok (numbers ++ number ∷ [])
-numbers_more [] text numbers number so e = let none : numbers ≡ [] = (cc) in rw (e, none) refl
-numbers_more (t ∷ texts) text numbers number so e = by (text_to_number t) refl (all_numbers texts) refl so (λ xs k. numbers_more texts text xs number k e)
-  where
-    by : (r : Result Num EvalFault) → text_to_number t ≡ r → (s : Result (List Num) EvalFault) → all_numbers texts ≡ s
-        → then_of r (λ x. then_of s (λ xs. Ok (x ∷ xs))) ≡ Ok numbers
-        → ((xs : List Num) → all_numbers texts ≡ Ok xs → all_numbers (texts ++ text ∷ []) ≡ Ok (xs ++ number ∷ []))
-        → all_numbers ((t ∷ texts) ++ text ∷ []) ≡ Ok (numbers ++ number ∷ [])
-    by (Err fault) er s es h more = absurd (cc)
-    by (Ok x) er (Err fault) es h more = absurd (cc)
-    by (Ok x) er (Ok xs) es h more = let same : numbers ≡ x ∷ xs = (cc) in rw (er, more xs es, same) refl
+numbers_more texts text numbers number so e =
+    numbers_append texts (text ∷ []) ∙ ap₂ (λ r t. then_of r (λ xs. then_of (then_of t (λ x. Ok (x ∷ []))) (λ ys. Ok (xs ++ ys)))) so e
 
 -- a fault at one text is that of all
-pub numbers_fault : (texts more : List (List ℕ)) (text : List ℕ) (numbers : List Num) (fault : EvalFault) → all_numbers texts ≡ Ok numbers → text_to_number text ≡ Err fault →
+numbers_fault : (texts more : List (List ℕ)) (text : List ℕ) (numbers : List Num) (fault : EvalFault) → all_numbers texts ≡ Ok numbers → text_to_number text ≡ Err fault →
     all_numbers (texts ++ text ∷ more) ≡ Err fault
-numbers_fault [] more text numbers fault so e = rw e refl
-numbers_fault (t ∷ texts) more text numbers fault so e = by (text_to_number t) refl (all_numbers texts) refl so (λ xs k. numbers_fault texts more text xs fault k e)
-  where
-    by : (r : Result Num EvalFault) → text_to_number t ≡ r → (s : Result (List Num) EvalFault) → all_numbers texts ≡ s
-        → then_of r (λ x. then_of s (λ xs. Ok (x ∷ xs))) ≡ Ok numbers
-        → ((xs : List Num) → all_numbers texts ≡ Ok xs → all_numbers (texts ++ text ∷ more) ≡ Err fault)
-        → all_numbers ((t ∷ texts) ++ text ∷ more) ≡ Err fault
-    by (Err other) er s es h rest = absurd (cc)
-    by (Ok x) er (Err other) es h rest = absurd (cc)
-    by (Ok x) er (Ok xs) es h rest = rw (er, rest xs es) refl
+numbers_fault texts more text numbers fault so e =
+    numbers_append texts (text ∷ more) ∙ ap₂ (λ r t. then_of r (λ xs. then_of (then_of t (λ x. then_of (all_numbers more) (λ rest. Ok (x ∷ rest)))) (λ ys. Ok (xs ++ ys)))) so e
 
 -- the answer at one text is that of all, where it is a fault
 pub error_of_all : (texts more : List (List ℕ)) (text : List ℕ) (numbers : List Num) (error : EvalError) → all_numbers texts ≡ Ok numbers →

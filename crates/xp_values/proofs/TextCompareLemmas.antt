@@ -1,5 +1,5 @@
 -- Comparisons with one text.
-use Rattle.std.proofs.Common.{◌≡◌, ℕ, ◌+◌, ◌<◌, ◌≤◌, Bool, true, false, not, ◌||◌, if◌then◌else◌, List, [], ◌∷◌, length, map, take, get_or, Ok, refl, sym, ap, ap₂, ◌∙◌}
+use Rattle.std.proofs.Common.{◌≡◌, ℕ, ◌+◌, ◌<◌, ◌≤◌, Bool, true, false, not, ◌||◌, if◌then◌else◌, List, [], ◌∷◌, length, map, take, get_or, Result, Ok, Err, refl, sym, ap, ap₂, ◌∙◌}
 use Rattle.std.specs.Prelude.{bytes_eq}
 use Rattle.std.specs.Bool.{Decides}
 use Rattle.std.specs.List.{list_any}
@@ -12,8 +12,14 @@ use Rattle.doc_tree.specs.Table.{Table}
 use Rattle.doc_tree.specs.Walks.{string_value_of}
 use Rattle.xp_tree.specs.declared.operators.Comparison.{Comparison}
 use Rattle.xp_values.specs.declared.values.Value.{Value}
-use Rattle.xp_values.specs.declared.values.Value.TheVariants.{NodeSet, Chars}
-use Rattle.xp_values.specs.Comparisons.{is_order, is_unequal, text_test, some_pair, texts_compared, compare}
+use Rattle.xp_values.specs.declared.numbers.Num.{Num}
+use Rattle.xp_values.specs.declared.values.EvalFault.{EvalFault}
+use Rattle.xp_values.specs.declared.values.Value.TheVariants.{NodeSet, Truth, Number, Chars}
+use Rattle.xp_values.specs.Conversions.{to_number, truth_number}
+use Rattle.xp_values.specs.Numerals.{text_to_number}
+use Rattle.xp_values.specs.Outcomes.{then_of}
+use Rattle.xp_values.specs.inner.Comparing.{number_compared}
+use Rattle.xp_values.specs.Comparisons.{is_order, is_unequal, number_test, text_test, some_pair, texts_compared, compare}
 
 -- a loop that stops at the first item that passes
 module _ (p : ℕ → Bool) (items : List ℕ) (i : ℕ) where
@@ -58,3 +64,30 @@ text_then_set T op a b ns text left right = rw (left, right) (sym (pairs_left op
 pub set_with_text : (T : Table) (op : Comparison) (a : Value) (ns text : List ℕ) → is_order op ≡ false → a ≡ NodeSet ns →
     compare T op a (Chars text) ≡ Ok (list_any (λ n. text_test op (string_value_of T n) text) ns)
 set_with_text T op a ns text unordered is = rw (is, unordered) (ap Ok (pairs_right (text_test op) (string_value_of T) ns text))
+
+-- a lone number beside another
+lone_numbers : (op : Comparison) (left right : Result Num EvalFault) →
+    then_of (then_of left (λ x. Ok (x ∷ []))) (λ xs. then_of (then_of right (λ y. Ok (y ∷ []))) (λ ys. Ok (some_pair (number_test op) xs ys))) ≡ number_compared op left right
+lone_numbers op (Err fault) right = refl
+lone_numbers op (Ok x) (Err fault) = refl
+lone_numbers op (Ok x) (Ok y) = ap Ok (or-false (number_test op x y || false) ∙ or-false (number_test op x y))
+
+-- a value that is no node-set at the left of a text, compared by numbers
+pub truth_by_number : (T : Table) (op : Comparison) (a : Value) (truth : Bool) (text : List ℕ) → is_order op ≡ true → a ≡ Truth truth →
+    compare T op a (Chars text) ≡ number_compared op (to_number T a) (text_to_number text)
+truth_by_number T op a truth text ordered is = rw (is, ordered) (lone_numbers op (Ok (truth_number truth)) (text_to_number text))
+
+pub text_by_number : (T : Table) (op : Comparison) (a : Value) (left text : List ℕ) → is_order op ≡ true → a ≡ Chars left →
+    compare T op a (Chars text) ≡ number_compared op (to_number T a) (text_to_number text)
+text_by_number T op a left text ordered is = rw (is, ordered) (lone_numbers op (text_to_number left) (text_to_number text))
+
+number_by_number : (T : Table) (op : Comparison) (number : Num) (text : List ℕ) → compare T op (Number number) (Chars text) ≡ number_compared op (Ok number) (text_to_number text)
+number_by_number T op number text = by (is_order op) refl
+  where
+    by : (ordered : Bool) → is_order op ≡ ordered → compare T op (Number number) (Chars text) ≡ number_compared op (Ok number) (text_to_number text)
+    by true e = rw e (lone_numbers op (Ok number) (text_to_number text))
+    by false e = rw e (lone_numbers op (Ok number) (text_to_number text))
+
+pub lone_by_number : (T : Table) (op : Comparison) (a : Value) (number : Num) (text : List ℕ) → a ≡ Number number →
+    compare T op a (Chars text) ≡ number_compared op (to_number T a) (text_to_number text)
+lone_by_number T op a number text is = rw is (number_by_number T op number text)

@@ -1,2 +1,3 @@
+pub mod Comparing
 pub mod Positions
 pub mod Replacing

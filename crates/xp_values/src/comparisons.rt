@@ -5,6 +5,9 @@ ghost use Rattle.std.specs.List.{list_any};
 ghost use Rattle.doc_tree.specs.Walks.{string_value_of};
 ghost use Rattle.xp_values.specs.declared.values.Value.TheVariants as value_kinds;
 ghost use Rattle.xp_values.specs.Comparisons.{is_node_set, is_truth, is_number, is_order, whole_test, number_test, some_pair, all_numbers, numbers_of, numbers_compared, go_by_truths, go_by_numbers, compare};
+ghost use Rattle.xp_values.specs.Conversions.{to_number};
+ghost use Rattle.xp_values.specs.Numerals.{text_to_number};
+ghost use Rattle.xp_values.specs.inner.Comparing.{number_compared};
 ghost use Rattle.xp_values.specs.Outcomes.{Gives};
 
 use crate::conversions::{number_in, to_number, to_truth, truth_number};
@@ -68,12 +71,23 @@ pub fn compare_text(
             Ok(number_test(op, left, right))
         }
         Value::Chars(left) if !is_order(op) => Ok(text_test(op, left.as_str(), text)),
-        _ => {
-            let left = to_number(alloc, tree, a)?;
-            let right = number_in(text)?;
-            Ok(number_test(op, left, right))
-        }
+        _ => number_compared(alloc, tree, a, op, text),
     }
+}
+
+/// Compares the number of a value with that of a text.
+fn number_compared(
+    alloc: Global,
+    tree: &Tree,
+    a: &Value,
+    op: Comparison,
+    text: &str,
+) -> Result<bool, EvalError>
+    ensures { Gives result (number_compared op (to_number tree.now.nodes a.now) (text_to_number text.now)) }
+{
+    let left = to_number(alloc, tree, a)?;
+    let right = number_in(text)?;
+    Ok(number_test(op, left, right))
 }
 
 /// Compares some nodes with a text (XPath 1.0, section 3.4), as `compare` does where they are a node-set and the text is a
@@ -195,17 +209,29 @@ fn numbers_of_nodes(
 }
 
 /// Whether some pair of numbers passes.
-fn some_numbers(op: Comparison, left: &[Num], right: &[Num]) -> bool
+fn some_numbers(op: Comparison, mut left: &[Num], right: &[Num]) -> bool
     ensures { result ≡ some_pair (number_test op) left.now right.now }
 {
-    left.iter().any(|x| some_number(op, *x, right))
+    while let [x, rest @ ..] = left {
+        if some_number(op, *x, right) {
+            return true;
+        }
+        left = rest;
+    }
+    false
 }
 
 /// Whether a number passes with some other.
-fn some_number(op: Comparison, x: Num, right: &[Num]) -> bool
+fn some_number(op: Comparison, x: Num, mut right: &[Num]) -> bool
     ensures { result ≡ list_any (number_test op x) right.now }
 {
-    right.iter().any(|y| number_test(op, x, *y))
+    while let [y, rest @ ..] = right {
+        if number_test(op, x, *y) {
+            return true;
+        }
+        right = rest;
+    }
+    false
 }
 
 /// Compares two numbers: `!=` holds of NaN, and nothing else does.

@@ -114,10 +114,16 @@ fn are_spaces(text: &[u8]) -> bool
 }
 
 /// Whether all the digits are 0.
-fn are_zeros(digits: &[u8]) -> bool
+fn are_zeros(mut digits: &[u8]) -> bool
     ensures { result ≡ are_zeros digits.now }
 {
-    digits.iter().all(|digit| *digit == b'0')
+    while let [digit, rest @ ..] = digits {
+        if *digit != b'0' {
+            return false;
+        }
+        digits = rest;
+    }
+    true
 }
 
 /// The number with these digits before and after its point.

@@ -1,6 +1,6 @@
 //! Comparisons by texts (XPath 1.0, section 3.4).
 
-ghost use Rattle.std.specs.Prelude.{◌≡◌, map, IfOk};
+ghost use Rattle.std.specs.Prelude.{◌≡◌, ◌++◌, map, IfOk, OnOk};
 ghost use Rattle.std.specs.List.{list_any};
 ghost use Rattle.doc_tree.specs.Walks.{string_value_of};
 ghost use Rattle.xp_values.specs.Comparisons.{is_unequal, text_test, some_pair, texts_of, texts_compared};
@@ -106,25 +106,51 @@ fn texts_of_nodes(
     ensures { IfOk result (λ texts. texts ≡ map (string_value_of tree.now.nodes) nodes.now) }
 {
     let mut texts = ItemList::new(alloc);
-    for n in nodes.as_slice() {
-        let text = tree.string_value(alloc, *n)?;
-        texts.push(text)?;
-    }
+    push_texts(alloc, tree, nodes.as_slice(), &mut texts)?;
     Ok(texts)
 }
 
+/// Puts each node's string-value at the end of some texts.
+fn push_texts(
+    alloc: Global,
+    tree: &Tree,
+    mut nodes: &[NodeId],
+    texts: &mut ItemList<Text>,
+) -> Result<(), AllocError>
+    ensures { OnOk result (texts.new ≡ texts.old ++ map (string_value_of tree.now.nodes) nodes.now) }
+{
+    while let [n, rest @ ..] = nodes {
+        let text = tree.string_value(alloc, *n)?;
+        texts.push(text)?;
+        nodes = rest;
+    }
+    Ok(())
+}
+
 /// Whether some pair of texts passes.
-fn some_texts(op: Comparison, left: &[Text], right: &[Text]) -> bool
+fn some_texts(op: Comparison, mut left: &[Text], right: &[Text]) -> bool
     ensures { result ≡ some_pair (text_test op) left.now right.now }
 {
-    left.iter().any(|x| some_text(op, x.as_str(), right))
+    while let [x, rest @ ..] = left {
+        if some_text(op, x.as_str(), right) {
+            return true;
+        }
+        left = rest;
+    }
+    false
 }
 
 /// Whether a text passes with some other.
-fn some_text(op: Comparison, x: &str, right: &[Text]) -> bool
+fn some_text(op: Comparison, x: &str, mut right: &[Text]) -> bool
     ensures { result ≡ list_any (text_test op x.now) right.now }
 {
-    right.iter().any(|y| text_test(op, x, y.as_str()))
+    while let [y, rest @ ..] = right {
+        if text_test(op, x, y.as_str()) {
+            return true;
+        }
+        right = rest;
+    }
+    false
 }
 
 /// Compares two texts by `=` or `!=`.

@@ -1,0 +1,11 @@
+use Rattle.std.proofs.Common.{◌≡◌, length}
+use Rattle.std.specs.List.{list_any}
+use Rattle.xp_values.specs.Comparisons.{number_test}
+use Rattle.xp_values.proofs.comparisons.some_number.Given as goal
+
+-- the numbers before these do not pass
+abbrev pub invariant-loop-right : goal.invariant-loop-right
+invariant-loop-right l = list_any (number_test l.op l.x) l.right ≡ list_any (number_test l.op l.x) l.fn.right
+
+abbrev pub decreases-loop-right : goal.decreases-loop-right
+decreases-loop-right l = length l.right
