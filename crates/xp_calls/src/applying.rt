@@ -15,7 +15,7 @@ use crate::arguments::{
     length_in, named_node, nodes_at, number_at, number_of, text_at, text_of, truth_at,
 };
 use crate::caller::Caller;
-use crate::converting::{number_value, text_value};
+use crate::converting::{allocated, number_value, text_value};
 use crate::joining::join;
 use crate::language::in_language;
 use doc_tree::NodeId;
@@ -81,9 +81,9 @@ impl Caller<'_> {
                 as_value(translate(alloc, text_at(args, 0), text_at(args, 1), text_at(args, 2)))
             }
             Function::Lang => self.is_in_language(at.node, text_at(args, 0), reads),
-            Function::Floor => Ok(Value::Number(number_at(args, 0))),
-            Function::Ceiling => Ok(Value::Number(number_at(args, 0))),
-            Function::Round => Ok(Value::Number(number_at(args, 0))),
+            Function::Floor | Function::Ceiling | Function::Round => {
+                Ok(Value::Number(number_at(args, 0)))
+            }
         }
     }
 
@@ -98,8 +98,11 @@ impl Caller<'_> {
         ensures { Ran (text_or_own self.now.tree.now.nodes at.now args.now) (shown result) reads.old reads.new steps.old steps.new }
     {
         match args.first() {
-            Some(value) => Ok(Text::copy(self.alloc, text_of(value))?),
-            None => self.text_in(&node_set_of(self.alloc, at.node)?, reads, steps),
+            Some(value) => allocated(Text::copy(self.alloc, text_of(value))),
+            None => match node_set_of(self.alloc, at.node) {
+                Ok(own) => self.text_in(&own, reads, steps),
+                Err(error) => Err(error),
+            },
         }
     }
 
@@ -115,7 +118,10 @@ impl Caller<'_> {
     {
         match args.first() {
             Some(value) => Ok(number_of(value)),
-            None => self.number_in(&node_set_of(self.alloc, at.node)?, reads, steps),
+            None => match node_set_of(self.alloc, at.node) {
+                Ok(own) => self.number_in(&own, reads, steps),
+                Err(error) => Err(error),
+            },
         }
     }
 
@@ -129,8 +135,10 @@ impl Caller<'_> {
     ) -> Result<Value, EvalError>
         ensures { Ran (bind (text_or_own self.now.tree.now.nodes at.now args.now) (λ text. done (values.Number (string_length text)))) (shown result) reads.old reads.new steps.old steps.new }
     {
-        let text = self.text_or_own(at, args, reads, steps)?;
-        Ok(Value::Number(string_length(text.as_str())))
+        match self.text_or_own(at, args, reads, steps) {
+            Ok(text) => Ok(Value::Number(string_length(text.as_str()))),
+            Err(error) => Err(error),
+        }
     }
 
     /// `normalize-space`.
@@ -143,8 +151,10 @@ impl Caller<'_> {
     ) -> Result<Value, EvalError>
         ensures { Ran (bind (text_or_own self.now.tree.now.nodes at.now args.now) (λ text. done (values.Chars (normalize_space text)))) (shown result) reads.old reads.new steps.old steps.new }
     {
-        let text = self.text_or_own(at, args, reads, steps)?;
-        as_chars(normalize_space(self.alloc, text.as_str()))
+        match self.text_or_own(at, args, reads, steps) {
+            Ok(text) => as_chars(normalize_space(self.alloc, text.as_str())),
+            Err(error) => Err(error),
+        }
     }
 
     /// `lang`.
@@ -156,8 +166,10 @@ impl Caller<'_> {
     ) -> Result<Value, EvalError>
         ensures { (count : ℕ) → Ran (as_truth (in_language self.now.tree.now.nodes n wanted.now)) (shown result) reads.old reads.new count count }
     {
-        let truth = in_language(self.tree, n, wanted, reads)?;
-        Ok(Value::Truth(truth))
+        match in_language(self.tree, n, wanted, reads) {
+            Ok(truth) => Ok(Value::Truth(truth)),
+            Err(_) => Err(EvalError::Memory),
+        }
     }
 }
 

@@ -16,33 +16,30 @@ pub fn wanted(function: Function, place: usize) -> Want
     ensures { result ≡ wanted function place }
 {
     match function {
-        Function::Last => Want::AsItIs,
-        Function::Position => Want::AsItIs,
-        Function::Current => Want::AsItIs,
-        Function::Count => Want::AsItIs,
-        Function::Sum => Want::AsItIs,
-        Function::LocalName => Want::AsItIs,
-        Function::NamespaceUri => Want::AsItIs,
-        Function::Name => Want::AsItIs,
-        Function::String => Want::AsText,
-        Function::Number => Want::AsNumber,
-        Function::Boolean => Want::AsItIs,
-        Function::Not => Want::AsItIs,
-        Function::True => Want::AsItIs,
-        Function::False => Want::AsItIs,
-        Function::Concat => Want::AsText,
-        Function::StartsWith => Want::AsText,
-        Function::Contains => Want::AsText,
-        Function::SubstringBefore => Want::AsText,
-        Function::SubstringAfter => Want::AsText,
+        Function::String
+        | Function::Concat
+        | Function::StartsWith
+        | Function::Contains
+        | Function::SubstringBefore
+        | Function::SubstringAfter
+        | Function::StringLength
+        | Function::NormalizeSpace
+        | Function::Translate
+        | Function::Lang => Want::AsText,
+        Function::Number | Function::Floor | Function::Ceiling | Function::Round => Want::AsNumber,
         Function::Substring => text_then_numbers(place),
-        Function::StringLength => Want::AsText,
-        Function::NormalizeSpace => Want::AsText,
-        Function::Translate => Want::AsText,
-        Function::Lang => Want::AsText,
-        Function::Floor => Want::AsNumber,
-        Function::Ceiling => Want::AsNumber,
-        Function::Round => Want::AsNumber,
+        Function::Last
+        | Function::Position
+        | Function::Current
+        | Function::Count
+        | Function::Sum
+        | Function::LocalName
+        | Function::NamespaceUri
+        | Function::Name
+        | Function::Boolean
+        | Function::Not
+        | Function::True
+        | Function::False => Want::AsItIs,
     }
 }
 

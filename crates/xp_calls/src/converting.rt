@@ -1,6 +1,6 @@
 //! Conversions and comparisons that record what they take (XPath 1.0, sections 3.4, 3.5 and 4).
 
-ghost use Rattle.std.specs.Prelude.{◌≡◌, ℕ, List, pos};
+ghost use Rattle.std.specs.Prelude.{◌≡◌, ℕ, List, pos, Ok, IfOk};
 ghost use Rattle.xp_outcome.specs.Recorded.{Recorded};
 ghost use Rattle.xp_outcome.specs.Running.{Ran};
 ghost use Rattle.xp_meaning.specs.Conversions.{as_wanted, compare_in, compared_nodes, first_of, nodes_of, number_in, sum_from, sum_in, text_in};
@@ -65,8 +65,10 @@ fn take_compared<L: Ledger>(
     if is_truth(right) {
         return Ok(());
     }
-    take_texts(tree, nodes_of(left), reads, steps)?;
-    take_texts(tree, nodes_of(right), reads, steps)
+    match take_texts(tree, nodes_of(left), reads, steps) {
+        Ok(()) => take_texts(tree, nodes_of(right), reads, steps),
+        Err(error) => Err(error),
+    }
 }
 
 /// The numbers of some nodes added in turn, each sum in range.
@@ -80,6 +82,16 @@ fn sum_of(alloc: Global, tree: &Tree, nodes: &[NodeId]) -> Result<Num, EvalError
         sum = arith(ArithOp::Add, sum, number)?;
     }
     Ok(sum)
+}
+
+/// A text, if there was memory for it.
+pub(crate) fn allocated(text: Result<Text, AllocError>) -> Result<Text, EvalError>
+    ensures { (meant : List ℕ) → IfOk text (λ t. t ≡ meant) → Gives result (Ok meant) }
+{
+    match text {
+        Ok(text) => Ok(text),
+        Err(_) => Err(EvalError::Memory),
+    }
 }
 
 /// The text that a run answers with, as a value.
@@ -112,8 +124,10 @@ impl Caller<'_> {
     ) -> Result<Text, EvalError>
         ensures { Ran (text_in self.now.tree.now.nodes value.now) (shown result) reads.old reads.new steps.old steps.new }
     {
-        take_texts(self.tree, first_of(nodes_of(value)), reads, steps)?;
-        Ok(xp_values::to_text(self.alloc, self.tree, value)?)
+        match take_texts(self.tree, first_of(nodes_of(value)), reads, steps) {
+            Ok(()) => allocated(xp_values::to_text(self.alloc, self.tree, value)),
+            Err(_) => Err(EvalError::Memory),
+        }
     }
 
     /// The value as a number.
@@ -125,8 +139,10 @@ impl Caller<'_> {
     ) -> Result<Num, EvalError>
         ensures { Ran (number_in self.now.tree.now.nodes value.now) (shown result) reads.old reads.new steps.old steps.new }
     {
-        take_texts(self.tree, first_of(nodes_of(value)), reads, steps)?;
-        xp_values::to_number(self.alloc, self.tree, value)
+        match take_texts(self.tree, first_of(nodes_of(value)), reads, steps) {
+            Ok(()) => xp_values::to_number(self.alloc, self.tree, value),
+            Err(_) => Err(EvalError::Memory),
+        }
     }
 
     /// Compares two values.
@@ -140,8 +156,10 @@ impl Caller<'_> {
     ) -> Result<bool, EvalError>
         ensures { Ran (compare_in self.now.tree.now.nodes operator left.now right.now) (shown result) reads.old reads.new steps.old steps.new }
     {
-        take_compared(self.tree, left, right, reads, steps)?;
-        xp_values::compare(self.alloc, self.tree, operator, left, right)
+        match take_compared(self.tree, left, right, reads, steps) {
+            Ok(()) => xp_values::compare(self.alloc, self.tree, operator, left, right),
+            Err(_) => Err(EvalError::Memory),
+        }
     }
 
     /// Compares a value with a text, as `compare_in` does where the text is a value. The text takes no reads, and no copy of
@@ -156,8 +174,10 @@ impl Caller<'_> {
     ) -> Result<bool, EvalError>
         ensures { Ran (compare_in self.now.tree.now.nodes operator left.now (value_kinds.Chars text.now)) (shown result) reads.old reads.new steps.old steps.new }
     {
-        take_texts(self.tree, nodes_of(left), reads, steps)?;
-        xp_values::compare_text(self.alloc, self.tree, operator, left, text)
+        match take_texts(self.tree, nodes_of(left), reads, steps) {
+            Ok(()) => xp_values::compare_text(self.alloc, self.tree, operator, left, text),
+            Err(_) => Err(EvalError::Memory),
+        }
     }
 
     /// Compares some nodes with a text, as `compare_in` does where they are a node-set and the text is a value. Neither is
@@ -172,8 +192,10 @@ impl Caller<'_> {
     ) -> Result<bool, EvalError>
         ensures { Ran (compare_in self.now.tree.now.nodes operator (value_kinds.NodeSet nodes.now) (value_kinds.Chars text.now)) (shown result) reads.old reads.new steps.old steps.new }
     {
-        take_texts(self.tree, nodes, reads, steps)?;
-        xp_values::compare_nodes(self.alloc, self.tree, operator, nodes, text)
+        match take_texts(self.tree, nodes, reads, steps) {
+            Ok(()) => xp_values::compare_nodes(self.alloc, self.tree, operator, nodes, text),
+            Err(_) => Err(EvalError::Memory),
+        }
     }
 
     /// The sum of the numbers of some nodes (XPath 1.0, section 4.4): their string-values are all taken, and then each is
@@ -186,8 +208,10 @@ impl Caller<'_> {
     ) -> Result<Num, EvalError>
         ensures { Ran (sum_in self.now.tree.now.nodes nodes.now) (shown result) reads.old reads.new steps.old steps.new }
     {
-        take_texts(self.tree, nodes, reads, steps)?;
-        sum_of(self.alloc, self.tree, nodes)
+        match take_texts(self.tree, nodes, reads, steps) {
+            Ok(()) => sum_of(self.alloc, self.tree, nodes),
+            Err(_) => Err(EvalError::Memory),
+        }
     }
 
     /// The value as it is wanted.

@@ -1,15 +1,26 @@
-use Rattle.std.proofs.Common.{◌∙◌, ap, ap₂, sym, not, length}
+use Rattle.std.proofs.Common.{◌≡◌, ◌⊎◌, inl, inr, List, ◌∙◌, ap, ap₂, sym, not, length}
+use Rattle.doc_tree.specs.Table.{Table}
+use Rattle.xp_typed_tree.specs.declared.function.Function.{Function}
+use Rattle.xp_typed_tree.specs.declared.function.Function.TheVariants.{Floor, Ceiling, Round}
 use Rattle.xp_outcome.specs.Evaluation.{done, given}
 use Rattle.xp_outcome.proofs.Runs.{ran_alike, ran_done}
 use Rattle.xp_meaning.proofs.Exits.{ran_done_at, ran_given}
+use Rattle.xp_values.specs.declared.values.Value.{Value}
 use Rattle.xp_values.specs.declared.values.Value.TheVariants.{Truth, Number, Chars}
 use Rattle.xp_values.specs.declared.values.EvalFault.{EvalFault}
 use Rattle.xp_values.specs.Texts.{begins_with, contains, substring_before, substring_after, substring, translate}
 use Rattle.xp_meaning.specs.Names.{local_in, uri_in, written_in, name_at}
 use Rattle.xp_meaning.specs.Conversions.{sum_in}
-use Rattle.xp_meaning.specs.Functions.{as_chars, as_number, as_truth, counted}
+use Rattle.xp_meaning.specs.declared.context.Context.{Context}
+use Rattle.xp_meaning.specs.Functions.{applied, as_chars, as_number, as_truth, counted, number_at}
 use Rattle.xp_meaning.specs.Language.{in_language}
 use Rattle.xp_calls.proofs.caller.Caller.apply.Goals as goal
+
+-- numbers are whole
+kept_whole : (T : Table) (at : Context) (vs : List Value) (f : Function) → (f ≡ Floor) ⊎ ((f ≡ Ceiling) ⊎ (f ≡ Round)) → applied T f at vs ≡ done (Number (number_at vs 0))
+kept_whole T at vs f (inl is) = ap (λ g. applied T g at vs) is
+kept_whole T at vs f (inr (inl is)) = ap (λ g. applied T g at vs) is
+kept_whole T at vs f (inr (inr is)) = ap (λ g. applied T g at vs) is
 
 pub returns-in-Last : goal.returns-in-Last
 returns-in-Last g c = rw c.in-Last.is (ran_done_at _ _ _ c.counted.ensures)
@@ -119,10 +130,5 @@ returns-in-Translate g c =
     (ran_given _ _ _ _ (c.as_value-in-Translate.ensures _ c.translate.ensures)))
 
 pub returns-in-Floor : goal.returns-in-Floor
-returns-in-Floor g c = rw c.in-Floor.is (ran_done_at _ _ _ (ap Number c.number_at-in-Floor.ensures))
-
-pub returns-in-Ceiling : goal.returns-in-Ceiling
-returns-in-Ceiling g c = rw c.in-Ceiling.is (ran_done_at _ _ _ (ap Number c.number_at-in-Ceiling.ensures))
-
-pub returns-in-Round : goal.returns-in-Round
-returns-in-Round g c = rw c.in-Round.is (ran_done_at _ _ _ (ap Number c.number_at-in-Round.ensures))
+returns-in-Floor g c =
+    ran_alike (kept_whole c.args.self.now.tree.now.nodes c.args.at.now c.args.args.now c.args.function c.in-Floor.is) (ran_done_at _ _ _ (ap Number c.number_at-in-Floor.ensures))

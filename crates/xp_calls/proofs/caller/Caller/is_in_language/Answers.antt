@@ -1,9 +1,8 @@
 use Rattle.xp_outcome.proofs.Runs.{ran_bind, ran_done, ran_stop}
-use Rattle.xp_meaning.proofs.Exits.{exit_memory}
 use Rattle.xp_calls.proofs.caller.Caller.is_in_language.Goals as goal
 
-pub returns-in_err-truth : goal.returns-in_err-truth
-returns-in_err-truth c = λ count. exit_memory _ c.from_residual.ensures.1 (ran_stop _ _ (c.in_err-truth.ensures count))
+pub returns-in-Err : goal.returns-in-Err
+returns-in-Err c = λ count. ran_stop _ _ (c.in-Err.ensures count)
 
-pub returns : goal.returns
-returns c = λ count. ran_bind _ (c.in_ok-truth.ensures count) (ran_done _ _ _)
+pub returns-in-Ok : goal.returns-in-Ok
+returns-in-Ok c = λ count. ran_bind _ (c.in-Ok.ensures count) (ran_done _ _ _)
