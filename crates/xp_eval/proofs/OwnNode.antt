@@ -98,10 +98,11 @@ module _ (T : Table) (L : Lets) where
 -- the context node, and then the literal
 pub own_then : (T : Table) (op : Comparison) (n : ℕ) (text : List ℕ) (m : Evaluation EvalFault Value) (next : Value → Evaluation EvalFault Value) →
     m ≡ visits 3 (done (NodeSet (n ∷ []))) → next (NodeSet (n ∷ [])) ≡ visit (bind (compare_in T op (NodeSet (n ∷ [])) (Chars text)) (λ truth. done (Truth truth))) →
-    visit (bind m next) ≡ own_compared T op n text
+    bind m next ≡ own_compared T op n text
 unfolding visits visit
 own_then T op n text m next first rest =
     let truth : Evaluation EvalFault Value = bind (compare_in T op (NodeSet (n ∷ [])) (Chars text)) (λ truth. done (Truth truth)) in
-    ap (λ k. visit (bind k next)) first
-    ∙ ap visit (bind-visits 3 (done (NodeSet (n ∷ []))) next ∙ ap (visits 3) (bind-done (NodeSet (n ∷ [])) next ∙ rest) ∙ behind-behind [] [] 3 1 truth)
-    ∙ behind-behind [] [] 1 4 truth
+    ap (λ k. bind k next) first
+    ∙ bind-visits 3 (done (NodeSet (n ∷ []))) next
+    ∙ ap (visits 3) (bind-done (NodeSet (n ∷ [])) next ∙ rest)
+    ∙ behind-behind [] [] 3 1 truth

@@ -65,22 +65,11 @@ pub gather_begins_alone : {F X A B : Type 0} (act : ℕ → X → Evaluation F A
 gather_begins_alone {B = B} act piece acc i xs is {held} {before} =
     subst (λ m. Onto m held before (gathering act piece done acc i xs) held before) (bind-right (gather act piece i xs)) (gather_begins act piece done acc i xs is)
 
--- an answer whose only error is want of memory
-pub ran_alloc : {A : Type 0} (r : Result A AllocError) (w : A) (held : Recorded) (n : ℕ) → IfOk r (λ v. v ≡ w) → Ran {F = EvalFault} (done w) (shown_alloc r) held held n n
-ran_alloc (Ok v) w held n is = ran_done_at w held n is
-ran_alloc (Err e) w held n h = ran_late (done w) held n
-
 -- `?` hands on want of memory where nodes are put into a list
 pub exit_found : (P : AllocError → Type 0) (ns : List ℕ) {m : Evaluation EvalFault (List ℕ)} {held now : Recorded} {before after : ℕ} → (r : Result Unit AllocError) → IsErrAnd r P →
     Ran m (Err no_memory) held now before after → Ran m (shown_found ns r) held now before after
 exit_found P ns (Ok v) h ran = absurd h
 exit_found P ns (Err d) h ran = ran
-
--- `?` hands on an error of evaluation where nodes are come to
-pub exit_reached : {m : Evaluation EvalFault (List ℕ)} {held now : Recorded} {before after : ℕ} → (r : Result Reached EvalError) (e : EvalError) → IsErrAnd r (λ d. d ≡ e) →
-    Ran m (Err (stop_of e)) held now before after → Ran m (shown_reached r) held now before after
-exit_reached (Ok v) e h ran = absurd h
-exit_reached {m} {held} {now} {before} {after} (Err d) e h ran = subst (λ x. Ran m (Err (stop_of x)) held now before after) (sym h) ran
 
 -- an operation that has a fault, or an answer
 pub ran_given_fault : {A : Type 0} (meant : Result A EvalFault) (f : EvalFault) (held : Recorded) (n : ℕ) → meant ≡ Err f → Ran (given meant) (Err (faulted f)) held held n n

@@ -1,3 +1,4 @@
+pub mod Answers
 pub mod Candidates
 pub mod OwnNode
 pub mod Reaching

@@ -1,12 +1,15 @@
 //! The candidates of steps: the nodes on an axis that pass a test (XPath 1.0, sections 2.2 and 2.3).
 
-ghost use Rattle.std.specs.Prelude.{◌≡◌, [], ◌++◌, if◌then◌else◌, true, length, IfOk, OnOk};
+ghost use Rattle.std.specs.Prelude.{◌≡◌, [], ◌++◌, if◌then◌else◌, true, length, Ok, IfOk, OnOk};
 ghost use Rattle.doc_axes.specs.Axes.{axis_nodes, backwards, is_reverse};
 ghost use Rattle.xp_typed_tree.specs.declared.expr.TypedStep.{out-TypedStep};
 ghost use Rattle.xp_outcome.specs.Running.{Ran};
-ghost use Rattle.xp_meaning.specs.Results.{shown_alloc};
+ghost use Rattle.doc_axes.specs.Sets.{in_order};
+ghost use Rattle.xp_values.specs.Outcomes.{Gives};
+ghost use Rattle.xp_meaning.specs.Results.{shown};
 ghost use Rattle.xp_eval.specs.inner.Candidates.{found, candidates_of, plain_step_from, shown_found};
 
+use crate::answers::allocated;
 use crate::evaluator::Evaluator;
 use doc_axes::{into_document_order, push_passing};
 use doc_tree::{Axis, NodeId, NodeList, Tree};
@@ -16,6 +19,7 @@ use std::sync::ledger::Ledger;
 use xp_calls::{Caller, read_axis};
 use xp_outcome::{Recorder, Steps};
 use xp_typed_tree::TypedStep;
+use xp_values::EvalError;
 
 impl Evaluator<'_> {
     /// The nodes that a step without predicates selects from a set of nodes, in document order: the candidates at all of
@@ -26,14 +30,14 @@ impl Evaluator<'_> {
         nodes: &[NodeId],
         reads: &mut Recorder,
         steps: &mut Steps<L>,
-    ) -> Result<NodeList, AllocError>
-        ensures { Ran (plain_step_from self.now.caller.tree.now.nodes step.now nodes.now) (shown_alloc result) reads.old reads.new steps.old steps.new }
+    ) -> Result<NodeList, EvalError>
+        ensures { Ran (plain_step_from self.now.caller.tree.now.nodes step.now nodes.now) (shown result) reads.old reads.new steps.old steps.new }
     {
         let mut selected = ItemList::new(self.caller.alloc);
         for n in nodes {
             self.push_candidates(step, *n, &mut selected, reads, steps)?;
         }
-        into_document_order(self.caller.alloc, self.caller.tree, selected)
+        in_document_order(self.caller.alloc, self.caller.tree, selected)
     }
 
     /// The nodes on the axis from a node that pass the test, in the axis's own order.
@@ -43,8 +47,8 @@ impl Evaluator<'_> {
         n: NodeId,
         reads: &mut Recorder,
         steps: &mut Steps<L>,
-    ) -> Result<NodeList, AllocError>
-        ensures { Ran (candidates_of self.now.caller.tree.now.nodes step.now n) (shown_alloc result) reads.old reads.new steps.old steps.new }
+    ) -> Result<NodeList, EvalError>
+        ensures { Ran (candidates_of self.now.caller.tree.now.nodes step.now n) (shown result) reads.old reads.new steps.old steps.new }
     {
         let mut list = ItemList::new(self.caller.alloc);
         self.push_candidates(step, n, &mut list, reads, steps)?;
@@ -98,6 +102,17 @@ pub(crate) fn is_plain(step: &TypedStep) -> bool
     ensures { result ≡ true → (out-TypedStep step.now).predicates.items ≡ [] }
 {
     step.predicates.as_slice().is_empty()
+}
+
+/// Nodes in document order, each once (XPath 1.0, section 3.3).
+pub(crate) fn in_document_order(
+    alloc: Global,
+    tree: &Tree,
+    nodes: NodeList,
+) -> Result<NodeList, EvalError>
+    ensures { Gives result (Ok (in_order tree.now.nodes nodes)) }
+{
+    allocated(into_document_order(alloc, tree, nodes))
 }
 
 /// Nodes in an axis's own order, put in document order: turned round where the axis runs backwards (XPath 1.0, section 2.4).

@@ -1,8 +1,10 @@
 //! The choice of nodes by the values of predicates (XPath 1.0, section 2.4), and of sets of nodes.
 
-ghost use Rattle.std.specs.Prelude.{◌≡◌, [], ◌∷◌, ◌++◌, true, Some, length, flat_map, IfOk, IfSome};
+ghost use Rattle.std.specs.Prelude.{◌≡◌, [], ◌∷◌, ◌++◌, true, Some, length, flat_map, Ok, IfOk, IfSome};
 ghost use Rattle.doc_tree.specs.Table.{Table};
 ghost use Rattle.doc_axes.specs.Sets.{in_order};
+ghost use Rattle.xp_values.specs.declared.values.Value.TheVariants as value_kinds;
+ghost use Rattle.xp_values.specs.Outcomes.{Gives};
 ghost use Rattle.xp_meaning.specs.Conversions.{nodes_of};
 ghost use Rattle.xp_typed_tree.specs.TypedView.{typed_tree_of, typed_seen};
 ghost use Rattle.xp_outcome.specs.Evaluation.{visit, reading, variable};
@@ -13,14 +15,15 @@ ghost use Rattle.xp_meaning.specs.Paths.{holds_at};
 ghost use Rattle.xp_meaning.specs.Evaluation.{Lets, meaning, meanings, values, slot_value};
 ghost use Rattle.xp_eval.specs.inner.Wants.{wanted_by, lone_let};
 
-use doc_axes::into_document_order;
+use crate::answers::set_value;
+use crate::candidates::in_document_order;
 use doc_tree::{NodeId, NodeList, Tree};
 use sch_base::ItemList;
 use std::alloc::{AllocError, Global};
 use xp_calls::{nodes_of, wanted};
 use xp_meaning::Want;
 use xp_typed_tree::{Function, TypedExpr};
-use xp_values::{Num, Value, to_truth};
+use xp_values::{EvalError, Num, Value, to_truth};
 
 /// Whether a predicate holds at a position: a number where it is the position, another value by its truth.
 pub(crate) fn holds_at(position: u32, value: &Value) -> bool
@@ -44,15 +47,15 @@ pub(crate) fn size_of(nodes: &[NodeId]) -> Result<u32, AllocError>
     }
 }
 
-/// The union of the node-sets among some values, in document order.
-pub(crate) fn union_of(alloc: Global, tree: &Tree, values: &[Value]) -> Result<NodeList, AllocError>
-    ensures { IfOk result (λ nodes. nodes ≡ in_order tree.now.nodes (flat_map nodes_of values.now)) }
+/// The union of the node-sets among some values, in document order, as a value.
+pub(crate) fn union_of(alloc: Global, tree: &Tree, values: &[Value]) -> Result<Value, EvalError>
+    ensures { Gives result (Ok (value_kinds.NodeSet (in_order tree.now.nodes (flat_map nodes_of values.now)))) }
 {
     let mut all = ItemList::new(alloc);
     for value in values {
         all.push_all(nodes_of(value))?;
     }
-    into_document_order(alloc, tree, all)
+    set_value(in_document_order(alloc, tree, all))
 }
 
 /// The first list and then the second; the other itself where one is empty.
@@ -68,16 +71,6 @@ pub(crate) fn joined(list: NodeList, more: NodeList) -> Result<NodeList, AllocEr
     let mut all = list;
     all.push_all(more.as_slice())?;
     Ok(all)
-}
-
-/// The nodes of a node-set, none of another value, as a list of its own.
-pub(crate) fn nodes_in(alloc: Global, value: Value) -> NodeList
-    ensures { result ≡ nodes_of value }
-{
-    match value {
-        Value::NodeSet(nodes) => nodes,
-        _ => ItemList::new(alloc),
-    }
 }
 
 /// What the operand at a place is converted to: an argument as its function wants it, an operand of a union not at all.

@@ -2,12 +2,13 @@
 //!
 //! Each function answers what its definition in xp_meaning gives, and stops at the first fault.
 
-ghost use Rattle.std.specs.Prelude.{◌≡◌, [], ◌∷◌, None, Some, flat_map, IfOk};
+ghost use Rattle.std.specs.Prelude.{◌≡◌, [], ◌∷◌, None, Some, flat_map};
 ghost use Rattle.doc_axes.specs.Sets.{in_order};
 ghost use Rattle.xp_values.specs.declared.values.Value.TheVariants as value_kinds;
-ghost use Rattle.xp_outcome.specs.Evaluation.{done, bind};
+ghost use Rattle.xp_outcome.specs.Evaluation.{done, given, bind};
 ghost use Rattle.xp_outcome.specs.Running.{Ran};
 ghost use Rattle.xp_meaning.specs.Conversions.{nodes_of, number_in, compare_in};
+ghost use Rattle.xp_meaning.specs.Operators.{negated};
 ghost use Rattle.xp_meaning.specs.Results.{shown};
 ghost use Rattle.xp_typed_tree.specs.declared.expr.Compared.{out-Compared};
 ghost use Rattle.xp_typed_tree.specs.TypedView.{typed_tree_of, typed_seen, place_of, compared_list_seen, combined_list_seen, typed_steps_seen};
@@ -18,14 +19,15 @@ ghost use Rattle.xp_eval.specs.Steps.{step_meant};
 ghost use Rattle.xp_eval.specs.inner.Reaching.{nodes_reached, shown_reached};
 ghost use Rattle.xp_eval.specs.inner.Wants.{wanted_by};
 
-use crate::candidates::{is_plain, to_document_order};
-use crate::choosing::{holds_at, joined, lone, lone_slot, nodes_in, size_of, union_of, wanted_by};
+use crate::answers::{
+    holds_in, nodes_in, number_value, reached_set, set_value, text_value, truth_value,
+};
+use crate::candidates::{in_document_order, is_plain, to_document_order};
+use crate::choosing::{joined, lone, lone_slot, size_of, union_of, wanted_by};
 use crate::own_node::own_comparison;
 use crate::reached::Reached;
-use doc_axes::into_document_order;
 use doc_tree::{NodeId, NodeList};
-use sch_base::{ItemList, Text};
-use std::alloc::{AllocError, Global};
+use sch_base::ItemList;
 use std::sync::ledger::Ledger;
 use xp_calls::{Caller, negate};
 use xp_meaning::{Context, Lets};
@@ -52,42 +54,41 @@ impl Evaluator<'_> {
     ) -> Result<Value, EvalError>
         ensures { Ran (meaning self.now.caller.tree.now.nodes self.now.lets.now (typed_tree_of expr.now) at.now) (shown result) reads.old reads.new steps.old steps.new }
     {
-        if let Some(literal) = own_comparison(self.caller.tree, expr, at.node) {
-            return self.compare_own(at.node, literal.operator, literal.text, reads, steps);
-        }
         steps.tick();
         match expr {
-            TypedExpr::Or(operands) => {
-                Ok(Value::Truth(self.some_true(operands, at, reads, steps)?))
-            }
-            TypedExpr::And(operands) => {
-                Ok(Value::Truth(self.all_true(operands, at, reads, steps)?))
-            }
+            TypedExpr::Or(operands) => truth_value(self.some_true(operands, at, reads, steps)),
+            TypedExpr::And(operands) => truth_value(self.all_true(operands, at, reads, steps)),
             TypedExpr::Compare { first, rest } => {
-                let value = self.evaluate(first, at, reads, steps)?;
-                self.compare_rest(rest, value, at, reads, steps)
+                if let Some(literal) = own_comparison(self.caller.tree, first, rest, at.node) {
+                    return self.compare_own(at.node, literal.operator, literal.text, reads, steps);
+                }
+                match self.evaluate(first, at, reads, steps) {
+                    Ok(value) => self.compare_rest(rest, value, at, reads, steps),
+                    Err(error) => Err(error),
+                }
             }
-            TypedExpr::Arith { first, rest } => {
-                let number = self.operand_number(first, at, reads, steps)?;
-                let result = self.combine_rest(rest, number, at, reads, steps)?;
-                Ok(Value::Number(result))
-            }
+            TypedExpr::Arith { first, rest } => match self.operand_number(first, at, reads, steps) {
+                Ok(number) => number_value(self.combine_rest(rest, number, at, reads, steps)),
+                Err(error) => Err(error),
+            },
             TypedExpr::Negate { count, operand } => {
-                let number = self.operand_number(operand, at, reads, steps)?;
-                Ok(Value::Number(negate(*count, number)?))
+                self.negate_value(*count, operand, at, reads, steps)
             }
             TypedExpr::Union(operands) => self.union_value(operands, at, reads, steps),
             TypedExpr::Path { start, steps: path } => {
-                let begin = self.start_nodes(start, at, reads, steps)?;
-                let nodes = self.path_nodes(path, at.current, begin, reads, steps)?;
-                Ok(Value::NodeSet(nodes))
+                match self.start_nodes(start, at, reads, steps) {
+                    Ok(begin) => set_value(self.path_nodes(path, at.current, begin, reads, steps)),
+                    Err(error) => Err(error),
+                }
             }
             TypedExpr::Filter { base, predicates } => {
-                let set = self.operand_nodes(base, at, reads, steps)?;
-                Ok(Value::NodeSet(self.filter(predicates, at.current, set, reads, steps)?))
+                match self.operand_nodes(base, at, reads, steps) {
+                    Ok(set) => set_value(self.filter(predicates, at.current, set, reads, steps)),
+                    Err(error) => Err(error),
+                }
             }
             TypedExpr::Variable { slot, .. } => self.variable(*slot, reads),
-            TypedExpr::Literal { value } => Ok(text_value(self.caller.alloc, value)?),
+            TypedExpr::Literal { value } => text_value(self.caller.alloc, value),
             TypedExpr::Number { value } => Ok(whole_value(value)),
             TypedExpr::Call { function, args } => {
                 self.call_value(*function, args, at, reads, steps)
@@ -176,9 +177,32 @@ impl Evaluator<'_> {
                 .caller
                 .compare_text_in(operand.operator, value, text.as_str(), reads, steps);
         }
-        let right = self.evaluate(&operand.expr, at, reads, steps)?;
-        self.caller
-            .compare_in(operand.operator, value, &right, reads, steps)
+        match self.evaluate(&operand.expr, at, reads, steps) {
+            Ok(right) => self
+                .caller
+                .compare_in(operand.operator, value, &right, reads, steps),
+            Err(error) => Err(error),
+        }
+    }
+
+    /// The value of minus signs before an operand (XPath 1.0, section 3.5).
+    #[cycle(evaluation)]
+    fn negate_value<L: Ledger>(
+        &self,
+        signs: u32,
+        operand: &TypedExpr,
+        at: &Context,
+        reads: &mut Recorder,
+        steps: &mut Steps<L>,
+    ) -> Result<Value, EvalError>
+        ensures { Ran (bind (bind (meaning self.now.caller.tree.now.nodes self.now.lets.now (typed_tree_of operand.now) at.now) (number_in self.now.caller.tree.now.nodes))
+            (λ x. bind (given (negated signs x)) (λ y. done (value_kinds.Number y))))
+            (shown result) reads.old reads.new steps.old steps.new }
+    {
+        match self.operand_number(operand, at, reads, steps) {
+            Ok(number) => Ok(Value::Number(negate(signs, number)?)),
+            Err(error) => Err(error),
+        }
     }
 
     /// Arithmetic on a number and later operands, from left to right: each operand is converted and combined before the
@@ -213,8 +237,10 @@ impl Evaluator<'_> {
     ) -> Result<Num, EvalError>
         ensures { Ran (bind (meaning self.now.caller.tree.now.nodes self.now.lets.now (typed_tree_of operand.now) at.now) (number_in self.now.caller.tree.now.nodes)) (shown result) reads.old reads.new steps.old steps.new }
     {
-        let value = self.evaluate(operand, at, reads, steps)?;
-        self.caller.number_in(&value, reads, steps)
+        match self.evaluate(operand, at, reads, steps) {
+            Ok(value) => self.caller.number_in(&value, reads, steps),
+            Err(error) => Err(error),
+        }
     }
 
     /// The nodes of an operand, which is a node-set.
@@ -228,8 +254,7 @@ impl Evaluator<'_> {
     ) -> Result<NodeList, EvalError>
         ensures { Ran (bind (meaning self.now.caller.tree.now.nodes self.now.lets.now (typed_tree_of operand.now) at.now) (λ v. done (nodes_of v))) (shown result) reads.old reads.new steps.old steps.new }
     {
-        let value = self.evaluate(operand, at, reads, steps)?;
-        Ok(nodes_in(self.caller.alloc, value))
+        nodes_in(self.caller.alloc, self.evaluate(operand, at, reads, steps))
     }
 
     /// The union of node-sets, as a value (XPath 1.0, section 3.3).
@@ -245,9 +270,10 @@ impl Evaluator<'_> {
             (λ vs. done (value_kinds.NodeSet (in_order self.now.caller.tree.now.nodes (flat_map nodes_of vs)))))
             (shown result) reads.old reads.new steps.old steps.new }
     {
-        let sets = self.values(operands, None, at, reads, steps)?;
-        let nodes = union_of(self.caller.alloc, self.caller.tree, sets.as_slice())?;
-        Ok(Value::NodeSet(nodes))
+        match self.values(operands, None, at, reads, steps) {
+            Ok(sets) => union_of(self.caller.alloc, self.caller.tree, sets.as_slice()),
+            Err(error) => Err(error),
+        }
     }
 
     /// What a function gives for arguments (XPath 1.0, section 3.2).
@@ -266,11 +292,13 @@ impl Evaluator<'_> {
     {
         match lone_slot(function, operands) {
             Some(slot) => self.call_on_let(function, slot, at, reads, steps),
-            None => {
-                let arguments = self.values(operands, Some(function), at, reads, steps)?;
-                self.caller
-                    .apply(function, at, arguments.as_slice(), reads, steps)
-            }
+            None => match self.values(operands, Some(function), at, reads, steps) {
+                Ok(arguments) => {
+                    self.caller
+                        .apply(function, at, arguments.as_slice(), reads, steps)
+                }
+                Err(error) => Err(error),
+            },
         }
     }
 
@@ -310,10 +338,7 @@ impl Evaluator<'_> {
         match start {
             TypedStart::Root => Ok(Reached::One(self.caller.tree.root())),
             TypedStart::Here => Ok(Reached::One(at.node)),
-            TypedStart::From(base) => {
-                let list = self.operand_nodes(base, at, reads, steps)?;
-                Ok(Reached::Set(list))
-            }
+            TypedStart::From(base) => reached_set(self.operand_nodes(base, at, reads, steps)),
         }
     }
 
@@ -334,8 +359,7 @@ impl Evaluator<'_> {
             let selected = self.step_set(step, current, nodes.as_slice(), reads, steps)?;
             nodes = Reached::Set(selected);
         }
-        let list = nodes.into_list(self.caller.alloc)?;
-        Ok(list)
+        nodes.into_list(self.caller.alloc)
     }
 
     /// The nodes that a step selects from one node, in document order: those of `step_at`, turned round where the axis runs
@@ -352,8 +376,10 @@ impl Evaluator<'_> {
         ensures { Ran (step_from self.now.caller.tree.now.nodes (step_meant self.now.caller.tree.now.nodes self.now.lets.now step.now) current (n ∷ [])) (shown result) reads.old reads.new steps.old steps.new }
     {
         self.caller.tree.laws();
-        let nodes = self.step_at(step, current, n, reads, steps)?;
-        Ok(to_document_order(step.axis, nodes))
+        match self.step_at(step, current, n, reads, steps) {
+            Ok(nodes) => Ok(to_document_order(step.axis, nodes)),
+            Err(error) => Err(error),
+        }
     }
 
     /// The nodes that a step selects from a set of nodes, in document order.
@@ -368,20 +394,36 @@ impl Evaluator<'_> {
     ) -> Result<NodeList, EvalError>
         ensures { Ran (step_from self.now.caller.tree.now.nodes (step_meant self.now.caller.tree.now.nodes self.now.lets.now step.now) current nodes.now) (shown result) reads.old reads.new steps.old steps.new }
     {
-        if let Some(only) = lone(nodes) {
-            return self.step_from_one(step, current, *only, reads, steps);
+        match lone(nodes) {
+            Some(only) => self.step_from_one(step, current, *only, reads, steps),
+            None => {
+                if is_plain(step) {
+                    self.plain_step(step, nodes, reads, steps)
+                } else {
+                    self.step_from_each(step, current, nodes, reads, steps)
+                }
+            }
         }
-        if is_plain(step) {
-            let plain = self.plain_step(step, nodes, reads, steps)?;
-            return Ok(plain);
-        }
+    }
+
+    /// The nodes that a step selects from nodes, in document order: those of `step_at` at each of them, joined.
+    #[cycle(evaluation)]
+    fn step_from_each<L: Ledger>(
+        &self,
+        step: &TypedStep,
+        current: NodeId,
+        nodes: &[NodeId],
+        reads: &mut Recorder,
+        steps: &mut Steps<L>,
+    ) -> Result<NodeList, EvalError>
+        ensures { Ran (step_from self.now.caller.tree.now.nodes (step_meant self.now.caller.tree.now.nodes self.now.lets.now step.now) current nodes.now) (shown result) reads.old reads.new steps.old steps.new }
+    {
         let mut selected = ItemList::new(self.caller.alloc);
         for n in nodes {
             let found = self.step_at(step, current, *n, reads, steps)?;
             selected = joined(selected, found)?;
         }
-        let set = into_document_order(self.caller.alloc, self.caller.tree, selected)?;
-        Ok(set)
+        in_document_order(self.caller.alloc, self.caller.tree, selected)
     }
 
     /// The nodes that a step selects at a node, in the axis's own order (XPath 1.0, section 2.1).
@@ -396,11 +438,16 @@ impl Evaluator<'_> {
     ) -> Result<NodeList, EvalError>
         ensures { Ran (step_at self.now.caller.tree.now.nodes (step_meant self.now.caller.tree.now.nodes self.now.lets.now step.now) current n) (shown result) reads.old reads.new steps.old steps.new }
     {
-        let nodes = self.candidates(step, n, reads, steps)?;
-        if nodes.is_empty() {
-            return Ok(nodes);
+        match self.candidates(step, n, reads, steps) {
+            Ok(nodes) => {
+                if nodes.is_empty() {
+                    Ok(nodes)
+                } else {
+                    self.filter(&step.predicates, current, nodes, reads, steps)
+                }
+            }
+            Err(error) => Err(error),
         }
-        self.filter(&step.predicates, current, nodes, reads, steps)
     }
 
     /// The nodes for which predicates hold, each of which filters what the one before it has left.
@@ -445,19 +492,11 @@ impl Evaluator<'_> {
                 size,
                 current,
             };
-            let value = self.evaluate(predicate, &at, reads, steps)?;
-            kept.push_if(*n, holds_at(position, &value))?;
+            let stays = holds_in(position, self.evaluate(predicate, &at, reads, steps))?;
+            kept.push_if(*n, stays)?;
         }
         Ok(kept)
     }
-}
-
-/// A literal as a value.
-fn text_value(alloc: Global, value: &Text) -> Result<Value, AllocError>
-    ensures { IfOk result (λ v. v ≡ value_kinds.Chars value.now) }
-{
-    let text = Text::copy(alloc, value.as_str())?;
-    Ok(Value::Chars(text))
 }
 
 /// A whole number as a value.

@@ -1,6 +1,7 @@
 //! The evaluation of expressions of XPath 1.0: values or first faults, with what is read and counted on the way.
 #![tactic(auto)]
 
+mod answers;
 mod calling;
 mod candidates;
 mod choosing;

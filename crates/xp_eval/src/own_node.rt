@@ -20,6 +20,7 @@ ghost use Rattle.xp_meaning.specs.Evaluation.{Lets, meaning, compared, comparand
 ghost use Rattle.xp_eval.specs.Steps.{step_meant};
 ghost use Rattle.xp_eval.specs.inner.OwnNode.{own_step, own_compared};
 
+use crate::answers::truth_value;
 use crate::candidates::is_plain;
 use crate::choosing::lone;
 use crate::evaluator::Evaluator;
@@ -39,8 +40,8 @@ pub(crate) struct Literal<'e> {
 }
 
 impl Evaluator<'_> {
-    /// What the comparison of the context node, which `.` gives, with a literal gives. The comparison, `.`, its step, the
-    /// node on the step's axis and the literal are a visit each.
+    /// What the comparison of the context node, which `.` gives, with a literal gives. `.`, its step, the node on the step's
+    /// axis and the literal are a visit each.
     pub(crate) fn compare_own<L: Ledger>(
         &self,
         n: NodeId,
@@ -51,30 +52,31 @@ impl Evaluator<'_> {
     ) -> Result<Value, EvalError>
         ensures { Ran (own_compared self.now.caller.tree.now.nodes operator n literal.now) (shown result) reads.old reads.new steps.old steps.new }
     {
-        steps.tick_times(5);
+        steps.tick_times(4);
         let own = slice::from_ref(&n);
-        let truth = self
-            .caller
-            .compare_nodes_in(operator, own, literal, reads, steps)?;
-        Ok(Value::Truth(truth))
+        truth_value(
+            self.caller
+                .compare_nodes_in(operator, own, literal, reads, steps),
+        )
     }
 }
 
-/// The literal that is compared with `.` in an expression which is that comparison alone, where the context node lives.
-pub(crate) fn own_comparison<'e>(tree: &Tree, expr: &'e TypedExpr, n: NodeId) -> Option<Literal<'e>>
+/// The literal that is compared with `.` where the operands are these two alone, and the context node lives.
+pub(crate) fn own_comparison<'e>(
+    tree: &Tree,
+    first: &TypedExpr,
+    rest: &'e [Compared],
+    n: NodeId,
+) -> Option<Literal<'e>>
     ensures { IfSome result (λ literal. (L : Lets) (c : Context) → c.node ≡ n →
-        meaning tree.now.nodes L (typed_tree_of expr.now) c ≡ own_compared tree.now.nodes literal.operator n literal.text.now) }
+        bind (meaning tree.now.nodes L (typed_tree_of first.now) c) (λ v. compared tree.now.nodes (comparands_meant tree.now.nodes L (compared_list_seen rest.now)) v c)
+        ≡ own_compared tree.now.nodes literal.operator n literal.text.now) }
 {
-    match expr {
-        TypedExpr::Compare { first, rest } => {
-            let literal = lone_literal(rest)?;
-            if is_own_node(tree, first, n) {
-                Some(literal)
-            } else {
-                None
-            }
-        }
-        _ => None,
+    let literal = lone_literal(rest)?;
+    if is_own_node(tree, first, n) {
+        Some(literal)
+    } else {
+        None
     }
 }
 

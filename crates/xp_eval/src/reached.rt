@@ -1,12 +1,15 @@
 //! The nodes that a location path has come to (XPath 1.0, section 2).
 
-ghost use Rattle.std.specs.Prelude.{◌≡◌, IfOk};
+ghost use Rattle.std.specs.Prelude.{◌≡◌, Ok};
+ghost use Rattle.xp_values.specs.Outcomes.{Gives};
 ghost use Rattle.xp_eval.specs.inner.Reaching.{nodes_reached};
 
+use crate::answers::allocated;
 use doc_tree::{NodeId, NodeList};
 use sch_base::ItemList;
-use std::alloc::{AllocError, Global};
+use std::alloc::Global;
 use std::slice;
+use xp_values::EvalError;
 
 /// The nodes that a path has come to: the one at which it begins, of which no list is made, or those that an expression or
 /// a step has selected.
@@ -28,11 +31,11 @@ impl Reached {
     }
 
     /// The nodes as a list. Takes memory where it is made of one node.
-    pub(crate) fn into_list(self, alloc: Global) -> Result<NodeList, AllocError>
-        ensures { IfOk result (λ nodes. nodes ≡ nodes_reached self) }
+    pub(crate) fn into_list(self, alloc: Global) -> Result<NodeList, EvalError>
+        ensures { Gives result (Ok (nodes_reached self)) }
     {
         match self {
-            Reached::One(n) => ItemList::of_one(alloc, n),
+            Reached::One(n) => allocated(ItemList::of_one(alloc, n)),
             Reached::Set(nodes) => Ok(nodes),
         }
     }

@@ -1,6 +1,6 @@
 //! The values of variables (XPath 1.0, section 3.1).
 
-ghost use Rattle.std.specs.Prelude.{◌≡◌, ℕ, IfOk};
+ghost use Rattle.std.specs.Prelude.{ℕ, Ok};
 ghost use Rattle.xp_values.specs.Outcomes.{Gives};
 ghost use Rattle.xp_outcome.specs.Evaluation.{reading, variable};
 ghost use Rattle.xp_outcome.specs.Running.{Ran};
@@ -8,9 +8,10 @@ ghost use Rattle.xp_outcome.specs.Slots.{in_slot};
 ghost use Rattle.xp_meaning.specs.Results.{shown};
 ghost use Rattle.xp_meaning.specs.Evaluation.{slot_value};
 
+use crate::answers::{allocated, set_value, text_value};
 use crate::evaluator::Evaluator;
-use sch_base::{ItemList, Text};
-use std::alloc::{AllocError, Global};
+use sch_base::ItemList;
+use std::alloc::Global;
 use xp_outcome::Recorder;
 use xp_values::{EvalError, EvalFault, Value};
 
@@ -32,19 +33,19 @@ fn held_in(alloc: Global, held: &Result<Value, EvalFault>) -> Result<Value, Eval
     ensures { Gives result held.now }
 {
     match held {
-        Ok(value) => Ok(copy_value(alloc, value)?),
+        Ok(value) => copy_value(alloc, value),
         Err(fault) => Err(EvalError::Fault(*fault)),
     }
 }
 
 /// The same value once more.
-fn copy_value(alloc: Global, value: &Value) -> Result<Value, AllocError>
-    ensures { IfOk result (λ v. v ≡ value.now) }
+fn copy_value(alloc: Global, value: &Value) -> Result<Value, EvalError>
+    ensures { Gives result (Ok value.now) }
 {
     match value {
-        Value::NodeSet(nodes) => Ok(Value::NodeSet(ItemList::copy_of(alloc, nodes.as_slice())?)),
+        Value::NodeSet(nodes) => set_value(allocated(ItemList::copy_of(alloc, nodes.as_slice()))),
         Value::Truth(truth) => Ok(Value::Truth(*truth)),
         Value::Number(number) => Ok(Value::Number(*number)),
-        Value::Chars(text) => Ok(Value::Chars(Text::copy(alloc, text.as_str())?)),
+        Value::Chars(text) => text_value(alloc, text),
     }
 }

@@ -15,6 +15,6 @@ use Rattle.xp_meaning.specs.Paths.{Step}
 abbrev pub own_step : Step
 own_step = record { axis = SelfNode; test = Any; predicates = [] }
 
--- the visits of the comparison, the path, its step, its node and the literal, and then what the comparison gives
+-- the visits of the path, its step, its node and the literal, and then what the comparison gives
 abbrev pub own_compared : Table → Comparison → ℕ → List ℕ → Evaluation EvalFault Value
-own_compared T op n text = visits 5 (bind (compare_in T op (NodeSet (n ∷ [])) (Chars text)) (λ truth. done (Truth truth)))
+own_compared T op n text = visits 4 (bind (compare_in T op (NodeSet (n ∷ [])) (Chars text)) (λ truth. done (Truth truth)))

@@ -1,12 +1,9 @@
-use Rattle.std.proofs.Common.{[], ◌∷◌, ◌∙◌}
+use Rattle.std.proofs.Common.{[], ◌∷◌}
 use Rattle.xp_values.specs.declared.values.Value.TheVariants.{NodeSet}
 use Rattle.xp_eval.proofs.OwnNode.{own_then}
-use Rattle.xp_eval.proofs.Views.{view-Compare}
 use Rattle.xp_eval.proofs.own_node.own_comparison.Goals as goal
 
 pub returns-then-is_own_node : goal.returns-then-is_own_node
 returns-then-is_own_node c = λ L at at_n.
     let T = c.args.tree.now.nodes in
-    view-Compare T L c.args.expr.now at _ _ c.deref-in-Compare.result.now c.deref.result.now c.in-Compare.is c.deref-in-Compare.ensures c.deref.ensures.value
-    ∙ own_then T _ c.args.n _ _ _ (c.is_own_node.ensures c.if-is_own_node.true L at at_n)
-    (c.in_ok-literal-in-Compare.ensures T L (NodeSet (c.args.n ∷ [])) at)
+    own_then T _ c.args.n _ _ _ (c.is_own_node.ensures c.if-is_own_node.true L at at_n) (c.in_ok-literal.ensures T L (NodeSet (c.args.n ∷ [])) at)

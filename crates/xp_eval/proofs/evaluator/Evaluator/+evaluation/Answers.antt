@@ -8,11 +8,11 @@ use Rattle.xp_typed_tree.specs.TypedView.{typed_tree_of, typed_seen}
 use Rattle.xp_outcome.specs.Evaluation.{Evaluation, done, bind}
 use Rattle.xp_outcome.proofs.Runs.{next_item, no_item, ran_alike, ran_bind, ran_stop, ran_done, ran_late, onto_alike, onto_bind, onto_stop, onto_done, onto_late, onto_end}
 use Rattle.xp_values.specs.declared.values.Value.{Value}
-use Rattle.xp_values.specs.declared.values.Value.TheVariants.{NodeSet, Chars}
+use Rattle.xp_values.specs.declared.values.Value.TheVariants.{NodeSet, Truth, Number, Chars}
 use Rattle.xp_values.specs.declared.values.EvalFault.{EvalFault}
 use Rattle.xp_meaning.specs.Conversions.{nodes_of, compare_in, as_wanted}
-use Rattle.xp_meaning.proofs.Exits.{exit_same, exit_memory, exit_fault, ran_is, ran_ticked, ran_done_at}
-use Rattle.xp_meaning.specs.Paths.{Meaning, chosen, placed, kept, filtered, step_at, step_from}
+use Rattle.xp_meaning.proofs.Exits.{exit_same, exit_memory, exit_fault, ran_given, ran_ticked, ran_done_at}
+use Rattle.xp_meaning.specs.Paths.{Meaning, holds_at, chosen, placed, kept, filtered, step_at, step_from}
 use Rattle.xp_meaning.specs.Functions.{applied}
 use Rattle.xp_meaning.specs.Evaluation.{meaning, meanings}
 use Rattle.xp_eval.specs.Steps.{step_meant}
@@ -20,9 +20,82 @@ use Rattle.xp_eval.specs.inner.Reaching.{nodes_reached}
 use Rattle.xp_eval.specs.inner.Wants.{wanted_by}
 use Rattle.xp_eval.proofs.Loops.{some_true-next, some_true-end, all_true-next, all_true-end, filtered-next, filtered-end, compared-next, compared-end, combined-next, combined-end, path-next, path-end, plain_meant, filtered_none}
 use Rattle.xp_eval.proofs.OneNode.{from_one, turned_in_order}
-use Rattle.xp_eval.proofs.Runs.{exit_reached, onto_goes, onto_stops, chosen_yes, chosen_no, gather_goes, gather_stops, gather_ends, gather_begins, gather_begins_alone, ran_given_fault, ran_given_ok, placed_is}
+use Rattle.xp_eval.proofs.Handing.{ran_as, answered, ran_ok, ran_err, ran_reached}
+use Rattle.xp_eval.proofs.Runs.{onto_goes, onto_stops, chosen_yes, chosen_no, gather_goes, gather_stops, gather_ends, gather_begins, gather_begins_alone, ran_given_fault, ran_given_ok, placed_is}
 use Rattle.xp_eval.proofs.Views.{view-Or, view-And, view-Compare, view-Arith, view-Negate, view-Union, view-Path, view-Filter, view-Variable, view-Literal, literal_bound, view-Number, view-Call, view-Root, view-Here, view-From}
 use Rattle.xp_eval.proofs.evaluator.Evaluator.+evaluation.Goals as goal
+
+pub evaluate-returns-in-Or : goal.evaluate-returns-in-Or
+evaluate-returns-in-Or g t c =
+    ran_alike (view-Or c.args.self.now.caller.tree.now.nodes c.args.self.now.lets.now c.args.expr.now c.args.at.now _ c.deref.result.now c.in-Or.is c.deref.ensures.value) (ran_ticked c.tick.ensures (ran_as Truth c.some_true.result c.truth_value.ensures c.some_true.ensures))
+
+pub evaluate-returns-in-And : goal.evaluate-returns-in-And
+evaluate-returns-in-And g t c =
+    ran_alike (view-And c.args.self.now.caller.tree.now.nodes c.args.self.now.lets.now c.args.expr.now c.args.at.now _ c.deref-in-And.result.now c.in-And.is c.deref-in-And.ensures.value) (ran_ticked c.tick.ensures (ran_as Truth c.all_true.result c.truth_value-in-And.ensures c.all_true.ensures))
+
+pub evaluate-returns-in-Negate : goal.evaluate-returns-in-Negate
+evaluate-returns-in-Negate g t c =
+    ran_alike (view-Negate c.args.self.now.caller.tree.now.nodes c.args.self.now.lets.now c.args.expr.now c.args.at.now _ _ c.deref-in-Negate.result.now c.in-Negate.is c.deref-in-Negate.ensures) (ran_ticked c.tick.ensures c.negate_value.ensures)
+
+pub evaluate-returns-in-Union : goal.evaluate-returns-in-Union
+evaluate-returns-in-Union g t c =
+    ran_alike (view-Union c.args.self.now.caller.tree.now.nodes c.args.self.now.lets.now c.args.expr.now c.args.at.now _ c.deref-in-Union.result.now c.in-Union.is c.deref-in-Union.ensures.value) (ran_ticked c.tick.ensures c.union_value.ensures)
+
+pub evaluate-returns-in-Variable : goal.evaluate-returns-in-Variable
+evaluate-returns-in-Variable g t c =
+    ran_alike (view-Variable c.args.self.now.caller.tree.now.nodes c.args.self.now.lets.now c.args.expr.now c.args.at.now _ _ c.in-Variable.is) (ran_ticked c.tick.ensures (c.variable.ensures _))
+
+pub evaluate-returns-in-Number : goal.evaluate-returns-in-Number
+evaluate-returns-in-Number g t c =
+    ran_alike (view-Number c.args.self.now.caller.tree.now.nodes c.args.self.now.lets.now c.args.expr.now c.args.at.now _ c.in-Number.is) (ran_ticked c.tick.ensures (ran_done_at _ _ _ c.whole_value.ensures))
+
+pub evaluate-returns-in-Call : goal.evaluate-returns-in-Call
+evaluate-returns-in-Call g t c =
+    ran_alike (view-Call c.args.self.now.caller.tree.now.nodes c.args.self.now.lets.now c.args.expr.now c.args.at.now _ _ c.deref-in-Call.result.now c.in-Call.is c.deref-in-Call.ensures.value) (ran_ticked c.tick.ensures c.call_value.ensures)
+
+pub evaluate-returns-in-Literal : goal.evaluate-returns-in-Literal
+evaluate-returns-in-Literal g t c =
+    ran_alike (view-Literal c.args.self.now.caller.tree.now.nodes c.args.self.now.lets.now c.args.expr.now c.args.at.now _ c.in-Literal.is) (ran_ticked c.tick.ensures (ran_given _ _ _ _ c.text_value.ensures))
+
+pub evaluate-returns-in-Some : goal.evaluate-returns-in-Some
+evaluate-returns-in-Some g t c =
+    ran_alike (view-Compare c.args.self.now.caller.tree.now.nodes c.args.self.now.lets.now c.args.expr.now c.args.at.now _ _ c.deref-in-Compare.result.now c.deref-in-Compare-2.result.now c.in-Compare.is c.deref-in-Compare.ensures c.deref-in-Compare-2.ensures.value) (ran_ticked c.tick.ensures (ran_alike (c.in-Some.ensures c.args.self.now.lets.now c.args.at.now refl) c.compare_own.ensures))
+
+pub evaluate-returns-in-Ok : goal.evaluate-returns-in-Ok
+evaluate-returns-in-Ok g t c =
+    ran_alike (view-Compare c.args.self.now.caller.tree.now.nodes c.args.self.now.lets.now c.args.expr.now c.args.at.now _ _ c.deref-in-Compare-3.result.now c.deref-in-Ok.result.now c.in-Compare.is c.deref-in-Compare-3.ensures c.deref-in-Ok.ensures.value) (ran_ticked c.tick.ensures (ran_bind _ c.in-Ok.ensures c.compare_rest.ensures))
+
+pub evaluate-returns-in-Err : goal.evaluate-returns-in-Err
+evaluate-returns-in-Err g t c =
+    ran_alike (view-Compare c.args.self.now.caller.tree.now.nodes c.args.self.now.lets.now c.args.expr.now c.args.at.now _ _ c.deref-in-Compare-3.result.now _ c.in-Compare.is c.deref-in-Compare-3.ensures refl) (ran_ticked c.tick.ensures (ran_stop _ _ c.in-Err.ensures))
+
+pub evaluate-returns-in-Ok-operand_number : goal.evaluate-returns-in-Ok-operand_number
+evaluate-returns-in-Ok-operand_number g t c =
+    ran_alike (view-Arith c.args.self.now.caller.tree.now.nodes c.args.self.now.lets.now c.args.expr.now c.args.at.now _ _ c.deref-in-Arith.result.now c.deref-in-Ok-operand_number.result.now c.in-Arith.is c.deref-in-Arith.ensures c.deref-in-Ok-operand_number.ensures.value) (ran_ticked c.tick.ensures (ran_bind _ c.in-Ok-operand_number.ensures (ran_as Number c.combine_rest.result c.number_value.ensures c.combine_rest.ensures)))
+
+pub evaluate-returns-in-Err-operand_number : goal.evaluate-returns-in-Err-operand_number
+evaluate-returns-in-Err-operand_number g t c =
+    ran_alike (view-Arith c.args.self.now.caller.tree.now.nodes c.args.self.now.lets.now c.args.expr.now c.args.at.now _ _ c.deref-in-Arith.result.now _ c.in-Arith.is c.deref-in-Arith.ensures refl) (ran_ticked c.tick.ensures (ran_stop _ _ c.in-Err-operand_number.ensures))
+
+pub evaluate-returns-in-Ok-start_nodes : goal.evaluate-returns-in-Ok-start_nodes
+evaluate-returns-in-Ok-start_nodes g t c =
+    ran_alike (view-Path c.args.self.now.caller.tree.now.nodes c.args.self.now.lets.now c.args.expr.now c.args.at.now c.in-Path.start _ c.deref-in-Ok-start_nodes.result.now c.in-Path.is c.deref-in-Ok-start_nodes.ensures.value) (ran_ticked c.tick.ensures (ran_bind _ c.in-Ok-start_nodes.ensures (ran_as NodeSet c.path_nodes.result c.set_value.ensures c.path_nodes.ensures)))
+
+pub evaluate-returns-in-Err-start_nodes : goal.evaluate-returns-in-Err-start_nodes
+evaluate-returns-in-Err-start_nodes g t c =
+    ran_alike (view-Path c.args.self.now.caller.tree.now.nodes c.args.self.now.lets.now c.args.expr.now c.args.at.now c.in-Path.start _ _ c.in-Path.is refl) (ran_ticked c.tick.ensures (ran_stop _ _ c.in-Err-start_nodes.ensures))
+
+pub evaluate-returns-in-Ok-operand_nodes : goal.evaluate-returns-in-Ok-operand_nodes
+evaluate-returns-in-Ok-operand_nodes g t c =
+    ran_alike (view-Filter c.args.self.now.caller.tree.now.nodes c.args.self.now.lets.now c.args.expr.now c.args.at.now _ _ c.deref-in-Filter.result.now c.deref-in-Ok-operand_nodes.result.now c.in-Filter.is c.deref-in-Filter.ensures c.deref-in-Ok-operand_nodes.ensures.value) (ran_ticked c.tick.ensures (ran_bind _ c.in-Ok-operand_nodes.ensures (ran_as NodeSet c.filter.result c.set_value-in-Ok-operand_nodes.ensures c.filter.ensures)))
+
+pub evaluate-returns-in-Err-operand_nodes : goal.evaluate-returns-in-Err-operand_nodes
+evaluate-returns-in-Err-operand_nodes g t c =
+    ran_alike (view-Filter c.args.self.now.caller.tree.now.nodes c.args.self.now.lets.now c.args.expr.now c.args.at.now _ _ c.deref-in-Filter.result.now _ c.in-Filter.is c.deref-in-Filter.ensures refl) (ran_ticked c.tick.ensures (ran_stop _ _ c.in-Err-operand_nodes.ensures))
+
+pub some_true-returns : goal.some_true-returns
+some_true-returns g t c =
+    onto_done (onto_alike (some_true-end c.args.self.now.caller.tree.now.nodes c.args.self.now.lets.now c.args.operands.now c.loop-operand.operand-index c.args.at.now c.loop-operand-test.false) c.loop-operand.invariant)
 
 pub some_true-returns-in_err-value : goal.some_true-returns-in_err-value
 some_true-returns-in_err-value g t c =
@@ -36,9 +109,9 @@ pub some_true-loop-operand-preserved : goal.some_true-loop-operand-preserved
 some_true-loop-operand-preserved g t c =
     onto_alike (chosen_no _ _ _ (sym c.to_truth.ensures ∙ c.if-to_truth.false)) (onto_goes _ _ (some_true-next c.args.self.now.caller.tree.now.nodes c.args.self.now.lets.now c.args.operands.now c.loop-operand.operand-index c.args.at.now c.operand-item.result c.loop-operand-test.true c.operand-item.is) c.loop-operand.invariant c.in_ok-value.ensures)
 
-pub some_true-returns : goal.some_true-returns
-some_true-returns g t c =
-    onto_done (onto_alike (some_true-end c.args.self.now.caller.tree.now.nodes c.args.self.now.lets.now c.args.operands.now c.loop-operand.operand-index c.args.at.now c.loop-operand-test.false) c.loop-operand.invariant)
+pub all_true-returns : goal.all_true-returns
+all_true-returns g t c =
+    onto_done (onto_alike (all_true-end c.args.self.now.caller.tree.now.nodes c.args.self.now.lets.now c.args.operands.now c.loop-operand.operand-index c.args.at.now c.loop-operand-test.false) c.loop-operand.invariant)
 
 pub all_true-returns-in_err-value : goal.all_true-returns-in_err-value
 all_true-returns-in_err-value g t c =
@@ -51,10 +124,6 @@ all_true-returns-then-not-to_truth g t c =
 pub all_true-loop-operand-preserved : goal.all_true-loop-operand-preserved
 all_true-loop-operand-preserved g t c =
     onto_alike (chosen_yes _ _ _ (sym c.to_truth.ensures ∙ c.if-not-to_truth.false)) (onto_goes _ _ (all_true-next c.args.self.now.caller.tree.now.nodes c.args.self.now.lets.now c.args.operands.now c.loop-operand.operand-index c.args.at.now c.operand-item.result c.loop-operand-test.true c.operand-item.is) c.loop-operand.invariant c.in_ok-value.ensures)
-
-pub all_true-returns : goal.all_true-returns
-all_true-returns g t c =
-    onto_done (onto_alike (all_true-end c.args.self.now.caller.tree.now.nodes c.args.self.now.lets.now c.args.operands.now c.loop-operand.operand-index c.args.at.now c.loop-operand-test.false) c.loop-operand.invariant)
 
 pub compare_rest-returns-in_err-truth : goal.compare_rest-returns-in_err-truth
 compare_rest-returns-in_err-truth g t c =
@@ -75,13 +144,25 @@ compare_operand-returns-in-Literal g t c =
     ran_alike (literal_bound c.args.self.now.caller.tree.now.nodes c.args.self.now.lets.now e c.args.at.now next _ c.in-Literal.is)
     (ran_ticked c.tick.ensures (ran_alike (ap (λ s. next (Chars s)) (sym c.as_str.ensures)) c.compare_text_in.ensures))
 
-pub compare_operand-returns-in_err-right : goal.compare_operand-returns-in_err-right
-compare_operand-returns-in_err-right g t c =
-    exit_same _ _ c.from_residual.ensures.1 (ran_stop _ _ c.in_err-right.ensures)
+pub compare_operand-returns-in-Err : goal.compare_operand-returns-in-Err
+compare_operand-returns-in-Err g t c =
+    ran_stop _ _ c.in-Err.ensures
 
-pub compare_operand-returns : goal.compare_operand-returns
-compare_operand-returns g t c =
-    ran_bind _ c.in_ok-right.ensures c.compare_in.ensures
+pub compare_operand-returns-in-Ok : goal.compare_operand-returns-in-Ok
+compare_operand-returns-in-Ok g t c =
+    ran_bind _ c.in-Ok.ensures c.compare_in.ensures
+
+pub negate_value-returns-in_err-negate-in-Ok : goal.negate_value-returns-in_err-negate-in-Ok
+negate_value-returns-in_err-negate-in-Ok g t c =
+    exit_fault _ _ c.from_residual.ensures.1 (ran_bind _ c.in-Ok.ensures (ran_stop _ _ (ran_given_fault _ _ _ _ (sym c.in_err-negate-in-Ok.ensures))))
+
+pub negate_value-returns-in_ok-negate-in-Ok : goal.negate_value-returns-in_ok-negate-in-Ok
+negate_value-returns-in_ok-negate-in-Ok g t c =
+    ran_bind _ c.in-Ok.ensures (ran_bind _ (ran_given_ok _ _ _ _ (sym c.in_ok-negate-in-Ok.ensures)) (ran_done _ _ _))
+
+pub negate_value-returns-in-Err : goal.negate_value-returns-in-Err
+negate_value-returns-in-Err g t c =
+    ran_stop _ _ c.in-Err.ensures
 
 pub combine_rest-returns-in_err-right : goal.combine_rest-returns-in_err-right
 combine_rest-returns-in_err-right g t c =
@@ -99,46 +180,39 @@ pub combine_rest-returns : goal.combine_rest-returns
 combine_rest-returns g t c =
     onto_done (onto_alike (combined-end c.args.self.now.caller.tree.now.nodes c.args.self.now.lets.now c.args.rest.now c.loop-operand.operand-index c.args.at.now c.loop-operand.number c.loop-operand-test.false) c.loop-operand.invariant)
 
-pub operand_number-returns-in_err-value : goal.operand_number-returns-in_err-value
-operand_number-returns-in_err-value g t c =
-    exit_same _ _ c.from_residual.ensures.1 (ran_stop _ _ c.in_err-value.ensures)
+pub operand_number-returns-in-Err : goal.operand_number-returns-in-Err
+operand_number-returns-in-Err g t c =
+    ran_stop _ _ c.in-Err.ensures
 
-pub operand_number-returns : goal.operand_number-returns
-operand_number-returns g t c =
-    ran_bind _ c.in_ok-value.ensures c.number_in.ensures
-
-pub operand_nodes-returns-in_err-value : goal.operand_nodes-returns-in_err-value
-operand_nodes-returns-in_err-value g t c =
-    exit_same _ _ c.from_residual.ensures.1 (ran_stop _ _ c.in_err-value.ensures)
+pub operand_number-returns-in-Ok : goal.operand_number-returns-in-Ok
+operand_number-returns-in-Ok g t c =
+    ran_bind _ c.in-Ok.ensures c.number_in.ensures
 
 pub operand_nodes-returns : goal.operand_nodes-returns
 operand_nodes-returns g t c =
-    ran_bind _ c.in_ok-value.ensures (ran_done_at _ _ _ c.nodes_in.ensures)
+    ran_as nodes_of c.evaluate.result c.nodes_in.ensures c.evaluate.ensures
 
-pub union_value-returns-in_err-sets : goal.union_value-returns-in_err-sets
-union_value-returns-in_err-sets g t c =
-    exit_same _ _ c.from_residual.ensures.1 (ran_stop _ _ c.in_err-sets.ensures)
+pub union_value-returns-in-Err : goal.union_value-returns-in-Err
+union_value-returns-in-Err g t c =
+    ran_stop _ _ c.in-Err.ensures
 
-pub union_value-returns-in_err-nodes : goal.union_value-returns-in_err-nodes
-union_value-returns-in_err-nodes g t c =
-    exit_memory _ c.from_residual-in_err-nodes.ensures.1 (ran_bind _ c.in_ok-sets.ensures (ran_late _ _ _))
-
-pub union_value-returns : goal.union_value-returns
-union_value-returns g t c =
-    ran_bind _ c.in_ok-sets.ensures (ran_done_at _ _ _ (ap NodeSet (c.in_ok-nodes.ensures ∙ ap (λ vs. in_order c.args.self.now.caller.tree.now.nodes (flat_map nodes_of vs)) c.as_slice.ensures)))
+pub union_value-returns-in-Ok : goal.union_value-returns-in-Ok
+union_value-returns-in-Ok g t c =
+    ran_bind _ c.in-Ok.ensures
+    (ran_alike (ap (λ vs. done {F = EvalFault} (NodeSet (in_order c.args.self.now.caller.tree.now.nodes (flat_map nodes_of vs)))) (sym c.as_slice.ensures)) (ran_given _ _ _ _ c.union_of.ensures))
 
 pub call_value-returns-in-Some : goal.call_value-returns-in-Some
 call_value-returns-in-Some g t c =
     let T = c.args.self.now.caller.tree.now.nodes in
     ran_alike (ap (λ m. bind m (λ vs. applied T c.args.function c.args.at.now vs)) (c.in-Some.ensures T c.args.self.now.lets.now c.args.at.now)) c.call_on_let.ensures
 
-pub call_value-returns-in_err-arguments-in-None : goal.call_value-returns-in_err-arguments-in-None
-call_value-returns-in_err-arguments-in-None g t c =
-    exit_same _ _ c.from_residual.ensures.1 (ran_stop _ _ c.in_err-arguments-in-None.ensures)
+pub call_value-returns-in-Err : goal.call_value-returns-in-Err
+call_value-returns-in-Err g t c =
+    ran_stop _ _ c.in-Err.ensures
 
-pub call_value-returns-in_ok-arguments-in-None : goal.call_value-returns-in_ok-arguments-in-None
-call_value-returns-in_ok-arguments-in-None g t c =
-    ran_bind _ c.in_ok-arguments-in-None.ensures (ran_alike (ap (λ vs. applied c.args.self.now.caller.tree.now.nodes c.args.function c.args.at.now vs) (sym c.as_slice.ensures)) c.apply.ensures)
+pub call_value-returns-in-Ok : goal.call_value-returns-in-Ok
+call_value-returns-in-Ok g t c =
+    ran_bind _ c.in-Ok.ensures (ran_alike (ap (λ vs. applied c.args.self.now.caller.tree.now.nodes c.args.function c.args.at.now vs) (sym c.as_slice.ensures)) c.apply.ensures)
 
 pub values-loop-place-init : goal.values-loop-place-init
 values-loop-place-init g t c =
@@ -172,13 +246,10 @@ pub start_nodes-returns-in-Here : goal.start_nodes-returns-in-Here
 start_nodes-returns-in-Here g t c =
     ran_alike (view-Here c.args.self.now.caller.tree.now.nodes c.args.self.now.lets.now c.args.start.now c.args.at.now c.in-Here.is) (ran_done _ _ _)
 
-pub start_nodes-returns-in_err-list-in-From : goal.start_nodes-returns-in_err-list-in-From
-start_nodes-returns-in_err-list-in-From g t c =
-    exit_reached _ _ c.from_residual.ensures.1 (ran_alike (view-From c.args.self.now.caller.tree.now.nodes c.args.self.now.lets.now c.args.start.now c.args.at.now _ c.deref.result.now c.in-From.is c.deref.ensures) c.in_err-list-in-From.ensures)
-
-pub start_nodes-returns-in_ok-list-in-From : goal.start_nodes-returns-in_ok-list-in-From
-start_nodes-returns-in_ok-list-in-From g t c =
-    ran_alike (view-From c.args.self.now.caller.tree.now.nodes c.args.self.now.lets.now c.args.start.now c.args.at.now _ c.deref.result.now c.in-From.is c.deref.ensures) c.in_ok-list-in-From.ensures
+pub start_nodes-returns-in-From : goal.start_nodes-returns-in-From
+start_nodes-returns-in-From g t c =
+    ran_alike (view-From c.args.self.now.caller.tree.now.nodes c.args.self.now.lets.now c.args.start.now c.args.at.now _ c.deref.result.now c.in-From.is c.deref.ensures)
+    (ran_reached c.operand_nodes.result c.reached_set.ensures c.operand_nodes.ensures)
 
 pub path_nodes-returns-in_err-selected : goal.path_nodes-returns-in_err-selected
 path_nodes-returns-in_err-selected g t c =
@@ -188,73 +259,65 @@ pub path_nodes-loop-step-preserved : goal.path_nodes-loop-step-preserved
 path_nodes-loop-step-preserved g t c =
     onto_goes _ _ (path-next c.args.self.now.caller.tree.now.nodes c.args.self.now.lets.now c.args.path_steps.now c.loop-step.step-index c.args.current (nodes_reached c.loop-step.nodes) c.step-item.result c.loop-step-test.true c.step-item.is) c.loop-step.invariant (ran_alike (ap (λ ns. step_from c.args.self.now.caller.tree.now.nodes (step_meant c.args.self.now.caller.tree.now.nodes c.args.self.now.lets.now c.step-item.result) c.args.current ns) (sym c.as_slice.ensures)) c.in_ok-selected.ensures)
 
-pub path_nodes-returns-in_err-list : goal.path_nodes-returns-in_err-list
-path_nodes-returns-in_err-list g t c =
-    exit_memory _ c.from_residual-in_err-list.ensures.1 (onto_late c.loop-step.invariant)
-
 pub path_nodes-returns : goal.path_nodes-returns
 path_nodes-returns g t c =
-    ran_is _ c.in_ok-list.ensures
-    (onto_done (onto_alike (path-end c.args.self.now.caller.tree.now.nodes c.args.self.now.lets.now c.args.path_steps.now c.loop-step.step-index c.args.current (nodes_reached c.loop-step.nodes) c.loop-step-test.false) c.loop-step.invariant))
+    onto_end (onto_alike (path-end c.args.self.now.caller.tree.now.nodes c.args.self.now.lets.now c.args.path_steps.now c.loop-step.step-index c.args.current (nodes_reached c.loop-step.nodes) c.loop-step-test.false) c.loop-step.invariant)
+    (ran_given _ _ _ _ c.into_list.ensures)
 
-pub step_from_one-returns-in_err-nodes : goal.step_from_one-returns-in_err-nodes
-step_from_one-returns-in_err-nodes g t c =
-    exit_same _ _ c.from_residual.ensures.1 (ran_alike (from_one c.args.self.now.caller.tree.now.nodes (step_meant c.args.self.now.caller.tree.now.nodes c.args.self.now.lets.now c.args.step.now) c.args.current c.args.n) (ran_stop _ _ c.in_err-nodes.ensures))
+pub step_from_one-returns-in-Err : goal.step_from_one-returns-in-Err
+step_from_one-returns-in-Err g t c =
+    ran_alike (from_one c.args.self.now.caller.tree.now.nodes (step_meant c.args.self.now.caller.tree.now.nodes c.args.self.now.lets.now c.args.step.now) c.args.current c.args.n) (ran_stop _ _ c.in-Err.ensures)
 
-pub step_from_one-returns : goal.step_from_one-returns
-step_from_one-returns g t c =
+pub step_from_one-returns-in-Ok : goal.step_from_one-returns-in-Ok
+step_from_one-returns-in-Ok g t c =
     ran_alike (from_one c.args.self.now.caller.tree.now.nodes (step_meant c.args.self.now.caller.tree.now.nodes c.args.self.now.lets.now c.args.step.now) c.args.current c.args.n)
-    (ran_bind _ c.in_ok-nodes.ensures (ran_done_at _ _ _ (c.to_document_order.ensures ∙ turned_in_order c.args.self.now.caller.tree.now.nodes (step_meant c.args.self.now.caller.tree.now.nodes c.args.self.now.lets.now c.args.step.now) c.args.current c.args.n c.laws.ensures.ordered c.in_ok-nodes.nodes c.in_ok-nodes.ensures)))
+    (ran_bind _ c.in-Ok.ensures (ran_done_at _ _ _ (c.to_document_order.ensures ∙ turned_in_order c.args.self.now.caller.tree.now.nodes (step_meant c.args.self.now.caller.tree.now.nodes c.args.self.now.lets.now c.args.step.now) c.args.current c.args.n c.laws.ensures.ordered c.in-Ok.nodes c.in-Ok.ensures)))
 
 pub step_set-returns-in-Some : goal.step_set-returns-in-Some
 step_set-returns-in-Some g t c =
     ran_alike (ap (λ ns. step_from c.args.self.now.caller.tree.now.nodes (step_meant c.args.self.now.caller.tree.now.nodes c.args.self.now.lets.now c.args.step.now) c.args.current ns) c.in-Some.ensures) c.step_from_one.ensures
 
-pub step_set-returns-in_err-plain : goal.step_set-returns-in_err-plain
-step_set-returns-in_err-plain g t c =
-    exit_memory _ c.from_residual.ensures.1 (ran_alike (plain_meant c.args.self.now.caller.tree.now.nodes c.args.self.now.lets.now c.args.step.now c.args.current c.args.nodes.now (c.is_plain.ensures c.if-is_plain.true)) c.in_err-plain.ensures)
-
 pub step_set-returns-then-is_plain : goal.step_set-returns-then-is_plain
 step_set-returns-then-is_plain g t c =
-    ran_alike (plain_meant c.args.self.now.caller.tree.now.nodes c.args.self.now.lets.now c.args.step.now c.args.current c.args.nodes.now (c.is_plain.ensures c.if-is_plain.true)) c.in_ok-plain.ensures
+    ran_alike (plain_meant c.args.self.now.caller.tree.now.nodes c.args.self.now.lets.now c.args.step.now c.args.current c.args.nodes.now (c.is_plain.ensures c.if-is_plain.true)) c.plain_step.ensures
 
-pub step_set-loop-n-init : goal.step_set-loop-n-init
-step_set-loop-n-init g t c =
+pub step_set-returns-else-is_plain : goal.step_set-returns-else-is_plain
+step_set-returns-else-is_plain g t c =
+    c.step_from_each.ensures
+
+pub step_from_each-loop-n-init : goal.step_from_each-loop-n-init
+step_from_each-loop-n-init g t c =
     gather_begins (λ (_ : ℕ) (n : ℕ). step_at c.args.self.now.caller.tree.now.nodes (step_meant c.args.self.now.caller.tree.now.nodes c.args.self.now.lets.now c.args.step.now) c.args.current n) (λ (_ : ℕ) (_ : ℕ) (ms : List ℕ). ms) (λ ms. done (in_order c.args.self.now.caller.tree.now.nodes ms)) _ 1 c.args.nodes.now c.new-selected.ensures
 
-pub step_set-returns-in_err-found : goal.step_set-returns-in_err-found
-step_set-returns-in_err-found g t c =
-    exit_same _ _ c.from_residual-in_err-found.ensures.1 (gather_stops (λ (_ : ℕ) (n : ℕ). step_at c.args.self.now.caller.tree.now.nodes (step_meant c.args.self.now.caller.tree.now.nodes c.args.self.now.lets.now c.args.step.now) c.args.current n) (λ (_ : ℕ) (_ : ℕ) (ms : List ℕ). ms) (λ ms. done (in_order c.args.self.now.caller.tree.now.nodes ms)) c.loop-n.selected (c.loop-n.n-index + 1) (drop c.loop-n.n-index c.args.nodes.now) c.n-item.result (drop (c.loop-n.n-index + 1) c.args.nodes.now) (next_item c.args.nodes.now c.loop-n.n-index c.n-item.result c.loop-n-test.true c.n-item.is) _ c.loop-n.invariant c.in_err-found.ensures)
+pub step_from_each-returns-in_err-found : goal.step_from_each-returns-in_err-found
+step_from_each-returns-in_err-found g t c =
+    exit_same _ _ c.from_residual.ensures.1 (gather_stops (λ (_ : ℕ) (n : ℕ). step_at c.args.self.now.caller.tree.now.nodes (step_meant c.args.self.now.caller.tree.now.nodes c.args.self.now.lets.now c.args.step.now) c.args.current n) (λ (_ : ℕ) (_ : ℕ) (ms : List ℕ). ms) (λ ms. done (in_order c.args.self.now.caller.tree.now.nodes ms)) c.loop-n.selected (c.loop-n.n-index + 1) (drop c.loop-n.n-index c.args.nodes.now) c.n-item.result (drop (c.loop-n.n-index + 1) c.args.nodes.now) (next_item c.args.nodes.now c.loop-n.n-index c.n-item.result c.loop-n-test.true c.n-item.is) _ c.loop-n.invariant c.in_err-found.ensures)
 
-pub step_set-returns-in_err-selected : goal.step_set-returns-in_err-selected
-step_set-returns-in_err-selected g t c =
+pub step_from_each-returns-in_err-selected : goal.step_from_each-returns-in_err-selected
+step_from_each-returns-in_err-selected g t c =
     exit_memory _ c.from_residual-in_err-selected.ensures.1 (onto_late (gather_goes (λ (_ : ℕ) (n : ℕ). step_at c.args.self.now.caller.tree.now.nodes (step_meant c.args.self.now.caller.tree.now.nodes c.args.self.now.lets.now c.args.step.now) c.args.current n) (λ (_ : ℕ) (_ : ℕ) (ms : List ℕ). ms) (λ ms. done (in_order c.args.self.now.caller.tree.now.nodes ms)) c.loop-n.selected (c.loop-n.n-index + 1) (drop c.loop-n.n-index c.args.nodes.now) c.n-item.result (drop (c.loop-n.n-index + 1) c.args.nodes.now) (next_item c.args.nodes.now c.loop-n.n-index c.n-item.result c.loop-n-test.true c.n-item.is) refl c.loop-n.invariant c.in_ok-found.ensures))
 
-pub step_set-loop-n-preserved : goal.step_set-loop-n-preserved
-step_set-loop-n-preserved g t c =
+pub step_from_each-loop-n-preserved : goal.step_from_each-loop-n-preserved
+step_from_each-loop-n-preserved g t c =
     gather_goes (λ (_ : ℕ) (n : ℕ). step_at c.args.self.now.caller.tree.now.nodes (step_meant c.args.self.now.caller.tree.now.nodes c.args.self.now.lets.now c.args.step.now) c.args.current n) (λ (_ : ℕ) (_ : ℕ) (ms : List ℕ). ms) (λ ms. done (in_order c.args.self.now.caller.tree.now.nodes ms)) c.loop-n.selected (c.loop-n.n-index + 1) (drop c.loop-n.n-index c.args.nodes.now) c.n-item.result (drop (c.loop-n.n-index + 1) c.args.nodes.now) (next_item c.args.nodes.now c.loop-n.n-index c.n-item.result c.loop-n-test.true c.n-item.is) c.in_ok-selected.ensures c.loop-n.invariant c.in_ok-found.ensures
 
-pub step_set-returns-in_err-set : goal.step_set-returns-in_err-set
-step_set-returns-in_err-set g t c =
-    exit_memory _ c.from_residual-in_err-set.ensures.1 (onto_late (gather_ends (λ (_ : ℕ) (n : ℕ). step_at c.args.self.now.caller.tree.now.nodes (step_meant c.args.self.now.caller.tree.now.nodes c.args.self.now.lets.now c.args.step.now) c.args.current n) (λ (_ : ℕ) (_ : ℕ) (ms : List ℕ). ms) (λ ms. done (in_order c.args.self.now.caller.tree.now.nodes ms)) c.loop-n.selected (c.loop-n.n-index + 1) (drop c.loop-n.n-index c.args.nodes.now) (no_item c.args.nodes.now c.loop-n.n-index c.loop-n-test.false) c.loop-n.invariant))
-
-pub step_set-returns : goal.step_set-returns
-step_set-returns g t c =
-    onto_end (gather_ends (λ (_ : ℕ) (n : ℕ). step_at c.args.self.now.caller.tree.now.nodes (step_meant c.args.self.now.caller.tree.now.nodes c.args.self.now.lets.now c.args.step.now) c.args.current n) (λ (_ : ℕ) (_ : ℕ) (ms : List ℕ). ms) (λ ms. done (in_order c.args.self.now.caller.tree.now.nodes ms)) c.loop-n.selected (c.loop-n.n-index + 1) (drop c.loop-n.n-index c.args.nodes.now) (no_item c.args.nodes.now c.loop-n.n-index c.loop-n-test.false) c.loop-n.invariant) (ran_done_at _ _ _ c.in_ok-set.ensures)
-
-pub step_at-returns-in_err-nodes : goal.step_at-returns-in_err-nodes
-step_at-returns-in_err-nodes g t c =
-    exit_memory _ c.from_residual.ensures.1 (ran_stop _ _ c.in_err-nodes.ensures)
+pub step_from_each-returns : goal.step_from_each-returns
+step_from_each-returns g t c =
+    onto_end (gather_ends (λ (_ : ℕ) (n : ℕ). step_at c.args.self.now.caller.tree.now.nodes (step_meant c.args.self.now.caller.tree.now.nodes c.args.self.now.lets.now c.args.step.now) c.args.current n) (λ (_ : ℕ) (_ : ℕ) (ms : List ℕ). ms) (λ ms. done (in_order c.args.self.now.caller.tree.now.nodes ms)) c.loop-n.selected (c.loop-n.n-index + 1) (drop c.loop-n.n-index c.args.nodes.now) (no_item c.args.nodes.now c.loop-n.n-index c.loop-n-test.false) c.loop-n.invariant) (ran_given _ _ _ _ c.in_document_order.ensures)
 
 pub step_at-returns-then-is_empty : goal.step_at-returns-then-is_empty
 step_at-returns-then-is_empty g t c =
-    ran_bind _ c.in_ok-nodes.ensures
-    (ran_alike (filtered_none (meanings c.args.self.now.caller.tree.now.nodes c.args.self.now.lets.now (typed_seen (out-TypedStep c.args.step.now).predicates.items)) c.args.current c.in_ok-nodes.nodes
-    (nil_from_length c.in_ok-nodes.nodes (eqb-true _ 0 (sym c.is_empty.ensures ∙ c.if-is_empty.true)))) (ran_done _ _ _))
+    ran_bind _ c.in-Ok.ensures
+    (ran_alike (filtered_none (meanings c.args.self.now.caller.tree.now.nodes c.args.self.now.lets.now (typed_seen (out-TypedStep c.args.step.now).predicates.items)) c.args.current c.in-Ok.nodes
+    (nil_from_length c.in-Ok.nodes (eqb-true _ 0 (sym c.is_empty.ensures ∙ c.if-is_empty.true)))) (ran_done _ _ _))
 
-pub step_at-returns : goal.step_at-returns
-step_at-returns g t c =
-    ran_bind _ c.in_ok-nodes.ensures (ran_alike (ap (λ ps. filtered (meanings c.args.self.now.caller.tree.now.nodes c.args.self.now.lets.now (typed_seen ps)) c.args.current c.in_ok-nodes.nodes) (sym c.deref.ensures.value)) c.filter.ensures)
+pub step_at-returns-else-is_empty : goal.step_at-returns-else-is_empty
+step_at-returns-else-is_empty g t c =
+    ran_bind _ c.in-Ok.ensures (ran_alike (ap (λ ps. filtered (meanings c.args.self.now.caller.tree.now.nodes c.args.self.now.lets.now (typed_seen ps)) c.args.current c.in-Ok.nodes) (sym c.deref.ensures.value)) c.filter.ensures)
+
+pub step_at-returns-in-Err : goal.step_at-returns-in-Err
+step_at-returns-in-Err g t c =
+    ran_stop _ _ c.in-Err.ensures
 
 pub filter-returns-in_err-nodes : goal.filter-returns-in_err-nodes
 filter-returns-in_err-nodes g t c =
@@ -276,118 +339,18 @@ pub keep-loop-n-init : goal.keep-loop-n-init
 keep-loop-n-init g t c =
     record { rest = gather_begins_alone (λ position n. meaning c.args.self.now.caller.tree.now.nodes c.args.self.now.lets.now (typed_tree_of c.args.predicate.now) (placed c.args.current (length c.args.nodes.now) position n)) chosen _ 1 c.args.nodes.now c.new-kept.ensures; place = refl }
 
-pub keep-returns-in_err-value : goal.keep-returns-in_err-value
-keep-returns-in_err-value g t c =
-    exit_same _ _ c.from_residual-in_err-value.ensures.1 (gather_stops (λ position n. meaning c.args.self.now.caller.tree.now.nodes c.args.self.now.lets.now (typed_tree_of c.args.predicate.now) (placed c.args.current (length c.args.nodes.now) position n)) chosen done c.loop-n.kept (c.loop-n.n-index + 1) (drop c.loop-n.n-index c.args.nodes.now) c.n-item.result (drop (c.loop-n.n-index + 1) c.args.nodes.now) (next_item c.args.nodes.now c.loop-n.n-index c.n-item.result c.loop-n-test.true c.n-item.is) _ c.loop-n.invariant.rest (ran_alike (ap (λ a. meaning c.args.self.now.caller.tree.now.nodes c.args.self.now.lets.now (typed_tree_of c.args.predicate.now) a) (placed_is c.args.current _ _ _ _ c.n-item.result c.in_ok-size.ensures (ap (λ k. k + 1) c.loop-n.invariant.place))) c.in_err-value.ensures))
+pub keep-returns-in_err-stays : goal.keep-returns-in_err-stays
+keep-returns-in_err-stays g t c =
+    exit_same _ _ c.from_residual-in_err-stays.ensures.1 (gather_stops (λ position n. meaning c.args.self.now.caller.tree.now.nodes c.args.self.now.lets.now (typed_tree_of c.args.predicate.now) (placed c.args.current (length c.args.nodes.now) position n)) chosen done c.loop-n.kept (c.loop-n.n-index + 1) (drop c.loop-n.n-index c.args.nodes.now) c.n-item.result (drop (c.loop-n.n-index + 1) c.args.nodes.now) (next_item c.args.nodes.now c.loop-n.n-index c.n-item.result c.loop-n-test.true c.n-item.is) _ c.loop-n.invariant.rest (ran_alike (ap (λ a. meaning c.args.self.now.caller.tree.now.nodes c.args.self.now.lets.now (typed_tree_of c.args.predicate.now) a) (placed_is c.args.current _ _ _ _ c.n-item.result c.in_ok-size.ensures (ap (λ k. k + 1) c.loop-n.invariant.place))) (ran_err (holds_at _) c.evaluate.result c.in_err-stays.ensures c.evaluate.ensures)))
 
 pub keep-returns-in_err-push_if : goal.keep-returns-in_err-push_if
 keep-returns-in_err-push_if g t c =
-    exit_memory _ c.from_residual-in_err-push_if.ensures.1 (onto_late (gather_goes (λ position n. meaning c.args.self.now.caller.tree.now.nodes c.args.self.now.lets.now (typed_tree_of c.args.predicate.now) (placed c.args.current (length c.args.nodes.now) position n)) chosen done c.loop-n.kept (c.loop-n.n-index + 1) (drop c.loop-n.n-index c.args.nodes.now) c.n-item.result (drop (c.loop-n.n-index + 1) c.args.nodes.now) (next_item c.args.nodes.now c.loop-n.n-index c.n-item.result c.loop-n-test.true c.n-item.is) refl c.loop-n.invariant.rest (ran_alike (ap (λ a. meaning c.args.self.now.caller.tree.now.nodes c.args.self.now.lets.now (typed_tree_of c.args.predicate.now) a) (placed_is c.args.current _ _ _ _ c.n-item.result c.in_ok-size.ensures (ap (λ k. k + 1) c.loop-n.invariant.place))) c.in_ok-value.ensures)))
+    exit_memory _ c.from_residual-in_err-push_if.ensures.1 (onto_late (gather_goes (λ position n. meaning c.args.self.now.caller.tree.now.nodes c.args.self.now.lets.now (typed_tree_of c.args.predicate.now) (placed c.args.current (length c.args.nodes.now) position n)) chosen done c.loop-n.kept (c.loop-n.n-index + 1) (drop c.loop-n.n-index c.args.nodes.now) c.n-item.result (drop (c.loop-n.n-index + 1) c.args.nodes.now) (next_item c.args.nodes.now c.loop-n.n-index c.n-item.result c.loop-n-test.true c.n-item.is) refl c.loop-n.invariant.rest (ran_alike (ap (λ a. meaning c.args.self.now.caller.tree.now.nodes c.args.self.now.lets.now (typed_tree_of c.args.predicate.now) a) (placed_is c.args.current _ _ _ _ c.n-item.result c.in_ok-size.ensures (ap (λ k. k + 1) c.loop-n.invariant.place))) (ran_ok (holds_at _) c.evaluate.result c.in_ok-stays.ensures c.evaluate.ensures))))
 
 pub keep-loop-n-preserved : goal.keep-loop-n-preserved
 keep-loop-n-preserved g t c =
-    record { rest = gather_goes (λ position n. meaning c.args.self.now.caller.tree.now.nodes c.args.self.now.lets.now (typed_tree_of c.args.predicate.now) (placed c.args.current (length c.args.nodes.now) position n)) chosen done c.loop-n.kept (c.loop-n.n-index + 1) (drop c.loop-n.n-index c.args.nodes.now) c.n-item.result (drop (c.loop-n.n-index + 1) c.args.nodes.now) (next_item c.args.nodes.now c.loop-n.n-index c.n-item.result c.loop-n-test.true c.n-item.is) (c.in_ok-push_if.ensures.pushed ∙ ap (λ b. c.loop-n.kept ++ (if b then c.n-item.result ∷ [] else [])) c.holds_at.ensures ∙ ap (λ k. c.loop-n.kept ++ chosen k c.n-item.result c.in_ok-value.value) (ap (λ k. k + 1) c.loop-n.invariant.place)) c.loop-n.invariant.rest (ran_alike (ap (λ a. meaning c.args.self.now.caller.tree.now.nodes c.args.self.now.lets.now (typed_tree_of c.args.predicate.now) a) (placed_is c.args.current _ _ _ _ c.n-item.result c.in_ok-size.ensures (ap (λ k. k + 1) c.loop-n.invariant.place))) c.in_ok-value.ensures); place = ap (λ k. k + 1) c.loop-n.invariant.place }
+    record { rest = gather_goes (λ position n. meaning c.args.self.now.caller.tree.now.nodes c.args.self.now.lets.now (typed_tree_of c.args.predicate.now) (placed c.args.current (length c.args.nodes.now) position n)) chosen done c.loop-n.kept (c.loop-n.n-index + 1) (drop c.loop-n.n-index c.args.nodes.now) c.n-item.result (drop (c.loop-n.n-index + 1) c.args.nodes.now) (next_item c.args.nodes.now c.loop-n.n-index c.n-item.result c.loop-n-test.true c.n-item.is) (c.in_ok-push_if.ensures.pushed ∙ ap (λ b. c.loop-n.kept ++ (if b then c.n-item.result ∷ [] else [])) (answered (holds_at _) c.evaluate.result c.in_ok-stays.ensures).2 ∙ ap (λ k. c.loop-n.kept ++ chosen k c.n-item.result (answered (holds_at _) c.evaluate.result c.in_ok-stays.ensures).0) (ap (λ k. k + 1) c.loop-n.invariant.place)) c.loop-n.invariant.rest (ran_alike (ap (λ a. meaning c.args.self.now.caller.tree.now.nodes c.args.self.now.lets.now (typed_tree_of c.args.predicate.now) a) (placed_is c.args.current _ _ _ _ c.n-item.result c.in_ok-size.ensures (ap (λ k. k + 1) c.loop-n.invariant.place))) (ran_ok (holds_at _) c.evaluate.result c.in_ok-stays.ensures c.evaluate.ensures)); place = ap (λ k. k + 1) c.loop-n.invariant.place }
 
 pub keep-returns : goal.keep-returns
 keep-returns g t c =
     onto_done (gather_ends (λ position n. meaning c.args.self.now.caller.tree.now.nodes c.args.self.now.lets.now (typed_tree_of c.args.predicate.now) (placed c.args.current (length c.args.nodes.now) position n)) chosen done c.loop-n.kept (c.loop-n.n-index + 1) (drop c.loop-n.n-index c.args.nodes.now) (no_item c.args.nodes.now c.loop-n.n-index c.loop-n-test.false) c.loop-n.invariant.rest)
-
-pub evaluate-returns-in-Some : goal.evaluate-returns-in-Some
-evaluate-returns-in-Some g t c =
-    ran_alike (c.in-Some.ensures c.args.self.now.lets.now c.args.at.now refl) c.compare_own.ensures
-
-pub evaluate-returns-in_err-some_true-in-Or : goal.evaluate-returns-in_err-some_true-in-Or
-evaluate-returns-in_err-some_true-in-Or g t c =
-    exit_same _ _ c.from_residual.ensures.1 (ran_alike (view-Or c.args.self.now.caller.tree.now.nodes c.args.self.now.lets.now c.args.expr.now c.args.at.now _ c.deref.result.now c.in-Or.is c.deref.ensures.value) (ran_ticked c.tick.ensures (ran_stop _ _ c.in_err-some_true-in-Or.ensures)))
-
-pub evaluate-returns-in_ok-some_true-in-Or : goal.evaluate-returns-in_ok-some_true-in-Or
-evaluate-returns-in_ok-some_true-in-Or g t c =
-    ran_alike (view-Or c.args.self.now.caller.tree.now.nodes c.args.self.now.lets.now c.args.expr.now c.args.at.now _ c.deref.result.now c.in-Or.is c.deref.ensures.value) (ran_ticked c.tick.ensures (ran_bind _ c.in_ok-some_true-in-Or.ensures (ran_done _ _ _)))
-
-pub evaluate-returns-in_err-all_true-in-And : goal.evaluate-returns-in_err-all_true-in-And
-evaluate-returns-in_err-all_true-in-And g t c =
-    exit_same _ _ c.from_residual-in_err-all_true-in-And.ensures.1 (ran_alike (view-And c.args.self.now.caller.tree.now.nodes c.args.self.now.lets.now c.args.expr.now c.args.at.now _ c.deref-in-And.result.now c.in-And.is c.deref-in-And.ensures.value) (ran_ticked c.tick.ensures (ran_stop _ _ c.in_err-all_true-in-And.ensures)))
-
-pub evaluate-returns-in_ok-all_true-in-And : goal.evaluate-returns-in_ok-all_true-in-And
-evaluate-returns-in_ok-all_true-in-And g t c =
-    ran_alike (view-And c.args.self.now.caller.tree.now.nodes c.args.self.now.lets.now c.args.expr.now c.args.at.now _ c.deref-in-And.result.now c.in-And.is c.deref-in-And.ensures.value) (ran_ticked c.tick.ensures (ran_bind _ c.in_ok-all_true-in-And.ensures (ran_done _ _ _)))
-
-pub evaluate-returns-in_err-value-in-Compare : goal.evaluate-returns-in_err-value-in-Compare
-evaluate-returns-in_err-value-in-Compare g t c =
-    exit_same _ _ c.from_residual-in_err-value-in-Compare.ensures.1 (ran_alike (view-Compare c.args.self.now.caller.tree.now.nodes c.args.self.now.lets.now c.args.expr.now c.args.at.now _ _ c.deref-in-Compare.result.now _ c.in-Compare.is c.deref-in-Compare.ensures refl) (ran_ticked c.tick.ensures (ran_stop _ _ c.in_err-value-in-Compare.ensures)))
-
-pub evaluate-returns-in_ok-value-in-Compare : goal.evaluate-returns-in_ok-value-in-Compare
-evaluate-returns-in_ok-value-in-Compare g t c =
-    ran_alike (view-Compare c.args.self.now.caller.tree.now.nodes c.args.self.now.lets.now c.args.expr.now c.args.at.now _ _ c.deref-in-Compare.result.now c.deref-in-Compare-2.result.now c.in-Compare.is c.deref-in-Compare.ensures c.deref-in-Compare-2.ensures.value) (ran_ticked c.tick.ensures (ran_bind _ c.in_ok-value-in-Compare.ensures c.compare_rest.ensures))
-
-pub evaluate-returns-in_err-number-in-Arith : goal.evaluate-returns-in_err-number-in-Arith
-evaluate-returns-in_err-number-in-Arith g t c =
-    exit_same _ _ c.from_residual-in_err-number-in-Arith.ensures.1 (ran_alike (view-Arith c.args.self.now.caller.tree.now.nodes c.args.self.now.lets.now c.args.expr.now c.args.at.now _ _ c.deref-in-Arith.result.now _ c.in-Arith.is c.deref-in-Arith.ensures refl) (ran_ticked c.tick.ensures (ran_stop _ _ c.in_err-number-in-Arith.ensures)))
-
-pub evaluate-returns-in_err-result-in-Arith : goal.evaluate-returns-in_err-result-in-Arith
-evaluate-returns-in_err-result-in-Arith g t c =
-    exit_same _ _ c.from_residual-in_err-result-in-Arith.ensures.1 (ran_alike (view-Arith c.args.self.now.caller.tree.now.nodes c.args.self.now.lets.now c.args.expr.now c.args.at.now _ _ c.deref-in-Arith.result.now c.deref-in-Arith-2.result.now c.in-Arith.is c.deref-in-Arith.ensures c.deref-in-Arith-2.ensures.value) (ran_ticked c.tick.ensures (ran_bind _ c.in_ok-number-in-Arith.ensures (ran_stop _ _ c.in_err-result-in-Arith.ensures))))
-
-pub evaluate-returns-in_ok-result-in-Arith : goal.evaluate-returns-in_ok-result-in-Arith
-evaluate-returns-in_ok-result-in-Arith g t c =
-    ran_alike (view-Arith c.args.self.now.caller.tree.now.nodes c.args.self.now.lets.now c.args.expr.now c.args.at.now _ _ c.deref-in-Arith.result.now c.deref-in-Arith-2.result.now c.in-Arith.is c.deref-in-Arith.ensures c.deref-in-Arith-2.ensures.value) (ran_ticked c.tick.ensures (ran_bind _ c.in_ok-number-in-Arith.ensures (ran_bind _ c.in_ok-result-in-Arith.ensures (ran_done _ _ _))))
-
-pub evaluate-returns-in_err-number-in-Negate : goal.evaluate-returns-in_err-number-in-Negate
-evaluate-returns-in_err-number-in-Negate g t c =
-    exit_same _ _ c.from_residual-in_err-number-in-Negate.ensures.1 (ran_alike (view-Negate c.args.self.now.caller.tree.now.nodes c.args.self.now.lets.now c.args.expr.now c.args.at.now _ _ c.deref-in-Negate.result.now c.in-Negate.is c.deref-in-Negate.ensures) (ran_ticked c.tick.ensures (ran_stop _ _ c.in_err-number-in-Negate.ensures)))
-
-pub evaluate-returns-in_err-negate-in-Negate : goal.evaluate-returns-in_err-negate-in-Negate
-evaluate-returns-in_err-negate-in-Negate g t c =
-    exit_fault _ _ c.from_residual-in_err-negate-in-Negate.ensures.1 (ran_alike (view-Negate c.args.self.now.caller.tree.now.nodes c.args.self.now.lets.now c.args.expr.now c.args.at.now _ _ c.deref-in-Negate.result.now c.in-Negate.is c.deref-in-Negate.ensures) (ran_ticked c.tick.ensures (ran_bind _ c.in_ok-number-in-Negate.ensures (ran_stop _ _ (ran_given_fault _ _ _ _ (sym c.in_err-negate-in-Negate.ensures))))))
-
-pub evaluate-returns-in_ok-negate-in-Negate : goal.evaluate-returns-in_ok-negate-in-Negate
-evaluate-returns-in_ok-negate-in-Negate g t c =
-    ran_alike (view-Negate c.args.self.now.caller.tree.now.nodes c.args.self.now.lets.now c.args.expr.now c.args.at.now _ _ c.deref-in-Negate.result.now c.in-Negate.is c.deref-in-Negate.ensures) (ran_ticked c.tick.ensures (ran_bind _ c.in_ok-number-in-Negate.ensures (ran_bind _ (ran_given_ok _ _ _ _ (sym c.in_ok-negate-in-Negate.ensures)) (ran_done _ _ _))))
-
-pub evaluate-returns-in-Union : goal.evaluate-returns-in-Union
-evaluate-returns-in-Union g t c =
-    ran_alike (view-Union c.args.self.now.caller.tree.now.nodes c.args.self.now.lets.now c.args.expr.now c.args.at.now _ c.deref-in-Union.result.now c.in-Union.is c.deref-in-Union.ensures.value) (ran_ticked c.tick.ensures c.union_value.ensures)
-
-pub evaluate-returns-in_err-begin-in-Path : goal.evaluate-returns-in_err-begin-in-Path
-evaluate-returns-in_err-begin-in-Path g t c =
-    exit_same _ _ c.from_residual-in_err-begin-in-Path.ensures.1 (ran_alike (view-Path c.args.self.now.caller.tree.now.nodes c.args.self.now.lets.now c.args.expr.now c.args.at.now c.in-Path.start _ _ c.in-Path.is refl) (ran_ticked c.tick.ensures (ran_stop _ _ c.in_err-begin-in-Path.ensures)))
-
-pub evaluate-returns-in_err-nodes-in-Path : goal.evaluate-returns-in_err-nodes-in-Path
-evaluate-returns-in_err-nodes-in-Path g t c =
-    exit_same _ _ c.from_residual-in_err-nodes-in-Path.ensures.1 (ran_alike (view-Path c.args.self.now.caller.tree.now.nodes c.args.self.now.lets.now c.args.expr.now c.args.at.now c.in-Path.start _ c.deref-in-Path.result.now c.in-Path.is c.deref-in-Path.ensures.value) (ran_ticked c.tick.ensures (ran_bind _ c.in_ok-begin-in-Path.ensures (ran_stop _ _ c.in_err-nodes-in-Path.ensures))))
-
-pub evaluate-returns-in_ok-nodes-in-Path : goal.evaluate-returns-in_ok-nodes-in-Path
-evaluate-returns-in_ok-nodes-in-Path g t c =
-    ran_alike (view-Path c.args.self.now.caller.tree.now.nodes c.args.self.now.lets.now c.args.expr.now c.args.at.now c.in-Path.start _ c.deref-in-Path.result.now c.in-Path.is c.deref-in-Path.ensures.value) (ran_ticked c.tick.ensures (ran_bind _ c.in_ok-begin-in-Path.ensures (ran_bind _ c.in_ok-nodes-in-Path.ensures (ran_done _ _ _))))
-
-pub evaluate-returns-in_err-set-in-Filter : goal.evaluate-returns-in_err-set-in-Filter
-evaluate-returns-in_err-set-in-Filter g t c =
-    exit_same _ _ c.from_residual-in_err-set-in-Filter.ensures.1 (ran_alike (view-Filter c.args.self.now.caller.tree.now.nodes c.args.self.now.lets.now c.args.expr.now c.args.at.now _ _ c.deref-in-Filter.result.now _ c.in-Filter.is c.deref-in-Filter.ensures refl) (ran_ticked c.tick.ensures (ran_stop _ _ c.in_err-set-in-Filter.ensures)))
-
-pub evaluate-returns-in_err-filter-in-Filter : goal.evaluate-returns-in_err-filter-in-Filter
-evaluate-returns-in_err-filter-in-Filter g t c =
-    exit_same _ _ c.from_residual-in_err-filter-in-Filter.ensures.1 (ran_alike (view-Filter c.args.self.now.caller.tree.now.nodes c.args.self.now.lets.now c.args.expr.now c.args.at.now _ _ c.deref-in-Filter.result.now c.deref-in-Filter-2.result.now c.in-Filter.is c.deref-in-Filter.ensures c.deref-in-Filter-2.ensures.value) (ran_ticked c.tick.ensures (ran_bind _ c.in_ok-set-in-Filter.ensures (ran_stop _ _ c.in_err-filter-in-Filter.ensures))))
-
-pub evaluate-returns-in_ok-filter-in-Filter : goal.evaluate-returns-in_ok-filter-in-Filter
-evaluate-returns-in_ok-filter-in-Filter g t c =
-    ran_alike (view-Filter c.args.self.now.caller.tree.now.nodes c.args.self.now.lets.now c.args.expr.now c.args.at.now _ _ c.deref-in-Filter.result.now c.deref-in-Filter-2.result.now c.in-Filter.is c.deref-in-Filter.ensures c.deref-in-Filter-2.ensures.value) (ran_ticked c.tick.ensures (ran_bind _ c.in_ok-set-in-Filter.ensures (ran_bind _ c.in_ok-filter-in-Filter.ensures (ran_done _ _ _))))
-
-pub evaluate-returns-in-Variable : goal.evaluate-returns-in-Variable
-evaluate-returns-in-Variable g t c =
-    ran_alike (view-Variable c.args.self.now.caller.tree.now.nodes c.args.self.now.lets.now c.args.expr.now c.args.at.now _ _ c.in-Variable.is) (ran_ticked c.tick.ensures (c.variable.ensures _))
-
-pub evaluate-returns-in_err-text_value-in-Literal : goal.evaluate-returns-in_err-text_value-in-Literal
-evaluate-returns-in_err-text_value-in-Literal g t c =
-    exit_memory _ c.from_residual-in_err-text_value-in-Literal.ensures.1 (ran_alike (view-Literal c.args.self.now.caller.tree.now.nodes c.args.self.now.lets.now c.args.expr.now c.args.at.now _ c.in-Literal.is) (ran_ticked c.tick.ensures (ran_late _ _ _)))
-
-pub evaluate-returns-in_ok-text_value-in-Literal : goal.evaluate-returns-in_ok-text_value-in-Literal
-evaluate-returns-in_ok-text_value-in-Literal g t c =
-    ran_alike (view-Literal c.args.self.now.caller.tree.now.nodes c.args.self.now.lets.now c.args.expr.now c.args.at.now _ c.in-Literal.is) (ran_ticked c.tick.ensures (ran_done_at _ _ _ c.in_ok-text_value-in-Literal.ensures))
-
-pub evaluate-returns-in-Number : goal.evaluate-returns-in-Number
-evaluate-returns-in-Number g t c =
-    ran_alike (view-Number c.args.self.now.caller.tree.now.nodes c.args.self.now.lets.now c.args.expr.now c.args.at.now _ c.in-Number.is) (ran_ticked c.tick.ensures (ran_done_at _ _ _ c.whole_value.ensures))
-
-pub evaluate-returns-in-Call : goal.evaluate-returns-in-Call
-evaluate-returns-in-Call g t c =
-    ran_alike (view-Call c.args.self.now.caller.tree.now.nodes c.args.self.now.lets.now c.args.expr.now c.args.at.now _ _ c.deref-in-Call.result.now c.in-Call.is c.deref-in-Call.ensures.value) (ran_ticked c.tick.ensures c.call_value.ensures)

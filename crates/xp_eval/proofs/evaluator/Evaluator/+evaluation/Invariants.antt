@@ -43,8 +43,8 @@ invariant-path_nodes-loop-step g l =
     Onto (path l.fn.self.caller.tree.now.nodes (steps_meant l.fn.self.caller.tree.now.nodes l.fn.self.lets.now (typed_steps_seen l.path_steps)) l.current (nodes_reached l.initial.nodes)) l.initial.reads l.initial.steps
     (path l.fn.self.caller.tree.now.nodes (steps_meant l.fn.self.caller.tree.now.nodes l.fn.self.lets.now (typed_steps_seen (drop l.step-index l.path_steps))) l.current (nodes_reached l.nodes)) l.reads l.steps
 
-abbrev pub invariant-step_set-loop-n : goal.invariant-step_set-loop-n
-invariant-step_set-loop-n g l =
+abbrev pub invariant-step_from_each-loop-n : goal.invariant-step_from_each-loop-n
+invariant-step_from_each-loop-n g l =
     Onto (step_from l.fn.self.caller.tree.now.nodes (step_meant l.fn.self.caller.tree.now.nodes l.fn.self.lets.now l.step) l.current l.nodes) l.initial.reads l.initial.steps
     (gathering (λ _ n. step_at l.fn.self.caller.tree.now.nodes (step_meant l.fn.self.caller.tree.now.nodes l.fn.self.lets.now l.step) l.current n) (λ _ _ ms. ms) (λ ms. done (in_order l.fn.self.caller.tree.now.nodes ms))
     l.selected (l.n-index + 1) (drop l.n-index l.nodes)) l.reads l.steps
