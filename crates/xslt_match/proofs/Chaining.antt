@@ -70,32 +70,30 @@ module _ (T : Table) (n : ℕ) where
         chains_none s ss [] [] (ap (filter (λ k. reaches T ss (k ∷ []) n)) (filter-none (λ k. list_any (λ m. leads T s m k) []) (order T) (λ k _. refl)))
         ∙ chains_nowhere ss
 
-    pub chains-empty : (later : List TypedPatternStep) (step : TypedPatternStep) (rest : List TypedPatternStep) (ms given nodes alive : List ℕ) →
-        later ≡ step ∷ rest → given ≡ ms → nodes ≡ standing T (pattern_step_seen step) (map pattern_step_seen rest) given n → nodes ≡ [] →
+    pub chains-empty : (later : List TypedPatternStep) (step : TypedPatternStep) (rest : List TypedPatternStep) (ms nodes alive : List ℕ) →
+        later ≡ step ∷ rest → nodes ≡ standing T (pattern_step_seen step) (map pattern_step_seen rest) ms n → nodes ≡ [] →
         chains T L n (map pattern_step_seen later) ms alive ≡ done false
-    chains-empty later step rest ms given nodes alive is same stand none =
+    chains-empty later step rest ms nodes alive is stand none =
         ap (λ ys. chains T L n (map pattern_step_seen ys) ms alive) is
-        ∙ chains_none (pattern_step_seen step) (map pattern_step_seen rest) ms alive
-        (ap (λ l. standing T (pattern_step_seen step) (map pattern_step_seen rest) l n) (sym same) ∙ sym stand ∙ none)
+        ∙ chains_none (pattern_step_seen step) (map pattern_step_seen rest) ms alive (sym stand ∙ none)
         ∙ chains_nowhere (map pattern_step_seen rest)
 
 -- the first step of a path, by the lists that the program has
-pub chains-begin : (T : Table) (L : Lets) (n : ℕ) (p : TypedPath) (later : List TypedPatternStep) (first nodes alive : List ℕ) →
-    later ≡ p.steps.items → first ≡ starts T p.from_root n → nodes ≡ first → alive ≡ first →
-    path_matches T L n (path_seen p) ≡ chains T L n (map pattern_step_seen later) nodes alive
-chains-begin T L n p later first nodes alive steps begins is same =
+pub chains-begin : (T : Table) (L : Lets) (n : ℕ) (p : TypedPath) (later : List TypedPatternStep) (first : List ℕ) →
+    later ≡ p.steps.items → first ≡ starts T p.from_root n → path_matches T L n (path_seen p) ≡ chains T L n (map pattern_step_seen later) first first
+chains-begin T L n p later first steps begins =
     ap (λ ss. chains T L n (map pattern_step_seen ss) (starts T p.from_root n) (starts T p.from_root n)) (sym steps)
-    ∙ ap₂ (chains T L n (map pattern_step_seen later)) (sym (is ∙ begins)) (sym (same ∙ begins))
+    ∙ ap (λ ms. chains T L n (map pattern_step_seen later) ms ms) (sym begins)
 
 -- the next step of a path, by the nodes that the program has
-pub chains-next : (T : Table) (L : Lets) (n : ℕ) (later : List TypedPatternStep) (step : TypedPatternStep) (rest : List TypedPatternStep) (ms given nodes tested alive : List ℕ) →
-    later ≡ step ∷ rest → given ≡ ms → nodes ≡ standing T (pattern_step_seen step) (map pattern_step_seen rest) given n → tested ≡ nodes →
+pub chains-next : (T : Table) (L : Lets) (n : ℕ) (later : List TypedPatternStep) (step : TypedPatternStep) (rest : List TypedPatternStep) (ms nodes tested alive : List ℕ) →
+    later ≡ step ∷ rest → nodes ≡ standing T (pattern_step_seen step) (map pattern_step_seen rest) ms n → tested ≡ nodes →
     chains T L n (map pattern_step_seen later) ms alive ≡ bind (survivors T L (pattern_step_seen step) n tested) (λ ks.
     chains T L n (map pattern_step_seen rest) nodes (filter (λ k. list_any (λ m. leads T (pattern_step_seen step) m k) alive) ks))
-chains-next T L n later step rest ms given nodes tested alive is same stand slice =
+chains-next T L n later step rest ms nodes tested alive is stand slice =
     ap (λ ys. chains T L n (map pattern_step_seen ys) ms alive) is
     ∙ ap (λ l. bind (survivors T L (pattern_step_seen step) n l) (λ ks. chains T L n (map pattern_step_seen rest) l (filter (λ k. list_any (λ m. leads T (pattern_step_seen step) m k) alive) ks)))
-    (ap (λ l. standing T (pattern_step_seen step) (map pattern_step_seen rest) l n) (sym same) ∙ sym stand)
+    (sym stand)
     ∙ ap (λ l. bind (survivors T L (pattern_step_seen step) n l) (λ ks. chains T L n (map pattern_step_seen rest) nodes (filter (λ k. list_any (λ m. leads T (pattern_step_seen step) m k) alive) ks)))
     (sym slice)
 

@@ -1,14 +1,14 @@
 //! The chains of a path pattern's steps to a node, and the tests of the nodes in them (XSLT 1.0, section 5.2).
 
-ghost use Rattle.std.specs.Prelude.{◌≡◌, true, false, map, Some, slice_get};
+ghost use Rattle.std.specs.Prelude.{◌≡◌, true, false, map};
 ghost use Rattle.doc_tree.specs.Table.{is_live};
 ghost use Rattle.xp_outcome.specs.Running.{Ran};
 ghost use Rattle.xp_meaning.specs.Results.{shown};
 ghost use Rattle.xp_typed_tree.specs.TypedView.{path_seen, pattern_step_seen};
-ghost use Rattle.xp_typed_tree.specs.WellTyped.{PatternStepsTyped};
 ghost use Rattle.xslt_match.specs.inner.Ends.{ends_elsewhere};
+ghost use Rattle.xslt_match.specs.inner.Keeping.{IsFrontIn, IsPathIn};
 ghost use Rattle.xslt_match.specs.Kept.{IsKeptFor};
-ghost use Rattle.xslt_match.specs.Matching.{path_matches, starts};
+ghost use Rattle.xslt_match.specs.Matching.{chains, path_matches, starts};
 
 use crate::kept::KeptSteps;
 use crate::leading::{led_to, starts, way_to};
@@ -17,7 +17,6 @@ use crate::one_chain::{all_from_parents, has_chain, is_start};
 use crate::testing::{PlacedStep, is_among};
 use doc_axes::passes;
 use doc_tree::{NodeId, Tree};
-use sch_base::ItemList;
 use std::sync::ledger::Ledger;
 use xp_eval::Caller;
 use xp_outcome::{Recorder, Steps};
@@ -31,6 +30,18 @@ pub(crate) struct PlacedPath<'r> {
     pub(crate) number: usize,
 }
 
+/// How far the chains of a path to a node have been followed.
+#[derive(Clone, Copy)]
+pub(crate) struct Front<'r> {
+    pub(crate) at: PlacedPath<'r>,
+    /// The steps of the path that are left.
+    pub(crate) later: &'r [TypedPatternStep],
+    /// The nodes that stand before them.
+    pub(crate) nodes: &'r [NodeId],
+    /// Those of the nodes to which a chain leads whose nodes all survived.
+    pub(crate) alive: &'r [NodeId],
+}
+
 impl Matcher<'_> {
     /// Whether a live node matches a path pattern. Most paths end at another kind of node or another name: these are
     /// refused at once.
@@ -42,8 +53,7 @@ impl Matcher<'_> {
         steps: &mut Steps<L>,
     ) -> Result<bool, EvalError>
         requires lives { is_live self.now.evaluator.caller.tree.now.nodes self.now.node ≡ true }
-        requires placed { slice_get self.now.pattern.now at.now.number ≡ Some (path_seen at.now.path.now) }
-        requires typed { PatternStepsTyped (path_seen at.now.path.now).steps }
+        requires placed { IsPathIn self.now.pattern.now at.now }
         requires kept { IsKeptFor self.now.evaluator.caller.tree.now.nodes self.now.evaluator.lets.now self.now.pattern.now kept.old }
         ensures ran { Ran (path_matches self.now.evaluator.caller.tree.now.nodes self.now.evaluator.lets.now self.now.node (path_seen at.now.path.now))
             (shown result) reads.old reads.new steps.old steps.new }
@@ -67,8 +77,7 @@ impl Matcher<'_> {
         steps: &mut Steps<L>,
     ) -> Result<bool, EvalError>
         requires lives { is_live self.now.evaluator.caller.tree.now.nodes self.now.node ≡ true }
-        requires placed { slice_get self.now.pattern.now at.now.number ≡ Some (path_seen at.now.path.now) }
-        requires typed { PatternStepsTyped (path_seen at.now.path.now).steps }
+        requires placed { IsPathIn self.now.pattern.now at.now }
         requires kept { IsKeptFor self.now.evaluator.caller.tree.now.nodes self.now.evaluator.lets.now self.now.pattern.now kept.old }
         ensures ran { Ran (path_matches self.now.evaluator.caller.tree.now.nodes self.now.evaluator.lets.now self.now.node (path_seen at.now.path.now))
             (shown result) reads.old reads.new steps.old steps.new }
@@ -98,8 +107,7 @@ impl Matcher<'_> {
         steps: &mut Steps<L>,
     ) -> Result<bool, EvalError>
         requires lives { is_live self.now.evaluator.caller.tree.now.nodes self.now.node ≡ true }
-        requires placed { slice_get self.now.pattern.now at.now.number ≡ Some (path_seen at.now.path.now) }
-        requires typed { PatternStepsTyped (path_seen at.now.path.now).steps }
+        requires placed { IsPathIn self.now.pattern.now at.now }
         requires kept { IsKeptFor self.now.evaluator.caller.tree.now.nodes self.now.evaluator.lets.now self.now.pattern.now kept.old }
         ensures ran { Ran (path_matches self.now.evaluator.caller.tree.now.nodes self.now.evaluator.lets.now self.now.node (path_seen at.now.path.now))
             (shown result) reads.old reads.new steps.old steps.new }
@@ -107,16 +115,24 @@ impl Matcher<'_> {
     {
         let Caller { alloc, tree } = self.evaluator.caller;
         let way = way_to(alloc, tree, self.node)?;
-        self.chains(at, way.as_slice(), kept, reads, steps)
+        let first = starts(tree, at.path.from_root, way.as_slice(), self.node);
+        let front = Front {
+            at: *at,
+            later: at.path.steps.as_slice(),
+            nodes: first,
+            alive: first,
+        };
+        self.chains(&front, way.as_slice(), kept, reads, steps)
     }
 
     /// Whether all nodes of some chain of a path to a live node survive their tests, step by step from the left. Where no
     /// node stands at a step there is no chain, and no more node is tested.
     ///
-    /// Beside the tests it costs, for each two steps, the square of the way's length at most.
+    /// Beside the tests it costs, for each two steps, the square of the way's length at most. It calls itself for each step
+    /// at which some node stands, and so at most as often as there are nodes on the way, since each step leads downwards.
     fn chains<L: Ledger>(
         &self,
-        at: &PlacedPath<'_>,
+        front: &Front<'_>,
         way: &[NodeId],
         kept: &mut KeptSteps,
         reads: &mut Recorder,
@@ -124,35 +140,34 @@ impl Matcher<'_> {
     ) -> Result<bool, EvalError>
         requires lives { is_live self.now.evaluator.caller.tree.now.nodes self.now.node ≡ true }
         requires way { way.now ≡ starts self.now.evaluator.caller.tree.now.nodes false self.now.node }
-        requires placed { slice_get self.now.pattern.now at.now.number ≡ Some (path_seen at.now.path.now) }
-        requires typed { PatternStepsTyped (path_seen at.now.path.now).steps }
+        requires placed { IsFrontIn self.now.pattern.now front.now }
         requires kept { IsKeptFor self.now.evaluator.caller.tree.now.nodes self.now.evaluator.lets.now self.now.pattern.now kept.old }
-        ensures ran { Ran (path_matches self.now.evaluator.caller.tree.now.nodes self.now.evaluator.lets.now self.now.node (path_seen at.now.path.now))
+        ensures ran { Ran (chains self.now.evaluator.caller.tree.now.nodes self.now.evaluator.lets.now self.now.node (map pattern_step_seen front.now.later.now) front.now.nodes.now front.now.alive.now)
             (shown result) reads.old reads.new steps.old steps.new }
         ensures kept { IsKeptFor self.now.evaluator.caller.tree.now.nodes self.now.evaluator.lets.now self.now.pattern.now kept.new }
     {
+        let Some((step, rest)) = front.later.split_first() else {
+            return Ok(is_among(front.alive, self.node));
+        };
         let Caller { alloc, tree } = self.evaluator.caller;
-        let path = at.path;
-        let first = starts(tree, path.from_root, way, self.node);
-        let mut nodes = ItemList::copy_of(alloc, first)?;
-        let mut alive = ItemList::copy_of(alloc, first)?;
-        let all = path.steps.as_slice();
-        let mut later = all;
-        while let Some((step, rest)) = later.split_first() {
-            nodes = self.standing(step, rest, nodes.as_slice(), way)?;
-            if nodes.is_empty() {
-                return Ok(false);
-            }
-            let here = PlacedStep {
-                step,
-                path: at.number,
-                number: all.len() - later.len(),
-            };
-            let left = self.survivors(&here, nodes.as_slice(), kept, reads, steps)?;
-            alive = led_to(alloc, tree, step, alive.as_slice(), left.as_slice())?;
-            later = rest;
+        let nodes = self.standing(step, rest, front.nodes, way)?;
+        if nodes.is_empty() {
+            return Ok(false);
         }
-        Ok(is_among(alive.as_slice(), self.node))
+        let here = PlacedStep {
+            step,
+            path: front.at.number,
+            number: front.at.path.steps.len() - front.later.len(),
+        };
+        let left = self.survivors(&here, nodes.as_slice(), kept, reads, steps)?;
+        let alive = led_to(alloc, tree, step, front.alive, left.as_slice())?;
+        let next = Front {
+            at: front.at,
+            later: rest,
+            nodes: nodes.as_slice(),
+            alive: alive.as_slice(),
+        };
+        self.chains(&next, way, kept, reads, steps)
     }
 }
 

@@ -76,7 +76,10 @@ impl KeptSteps {
     {
         match visits {
             Some(visits) => self.put(key, KeptStep { selected, visits }),
-            None => Ok(()),
+            None => {
+                drop(selected);
+                Ok(())
+            }
         }
     }
 
@@ -86,7 +89,7 @@ impl KeptSteps {
             IsOutcomeAt T L pattern key kept → IsKeptFor T L pattern self.new }
     {
         self.make_room();
-        self.steps.insert(key, kept)?;
+        drop(self.steps.insert(key, kept)?);
         Ok(())
     }
 

@@ -79,9 +79,8 @@ pub(crate) fn led_to(
 {
     let mut found = ItemList::new(alloc);
     for k in among {
-        if is_led_to(tree, step, nodes, *k) {
-            found.push(*k)?;
-        }
+        let leads = is_led_to(tree, step, nodes, *k);
+        found.push_if(*k, leads)?;
     }
     Ok(found)
 }
@@ -136,7 +135,7 @@ fn some_looks_at(tree: &Tree, join: Join, nodes: &[NodeId], p: NodeId) -> bool
 {
     match join {
         Join::DoubleSlash => some_above(tree, nodes, p),
-        _ => nodes.iter().any(|m| *m == p),
+        _ => nodes.contains(&p),
     }
 }
 
@@ -329,9 +328,8 @@ fn looking_at(
 {
     let mut found = ItemList::new(alloc);
     for m in way {
-        if looks_at_some(tree, join, *m, nodes) {
-            found.push(*m)?;
-        }
+        let looks = looks_at_some(tree, join, *m, nodes);
+        found.push_if(*m, looks)?;
     }
     Ok(found)
 }
@@ -340,5 +338,10 @@ fn looking_at(
 fn looks_at_some(tree: &Tree, join: Join, m: NodeId, nodes: &[NodeId]) -> bool
     ensures { result ≡ list_any (looks_at tree.now.nodes join m) nodes.now }
 {
-    nodes.iter().any(|p| looks_at(tree, join, m, *p))
+    for p in nodes {
+        if looks_at(tree, join, m, *p) {
+            return true;
+        }
+    }
+    false
 }

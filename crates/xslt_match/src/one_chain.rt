@@ -1,7 +1,7 @@
 //! The chain of a path pattern of which each step but the first leads from a parent (XSLT 1.0, section 5.2): there is one at
 //! most, so that it is followed with no list of nodes.
 
-ghost use Rattle.std.specs.Prelude.{◌≡◌, ◌∷◌, true, map, Some, slice_get};
+ghost use Rattle.std.specs.Prelude.{◌≡◌, ◌∷◌, true, map};
 ghost use Rattle.doc_tree.specs.Lists.{mem};
 ghost use Rattle.doc_tree.specs.Table.{is_live};
 ghost use Rattle.xp_outcome.specs.Running.{Ran};
@@ -10,7 +10,7 @@ ghost use Rattle.xp_typed_tree.specs.TypedView.{path_seen, pattern_step_seen};
 ghost use Rattle.xp_typed_tree.specs.WellTyped.{PatternStepsTyped};
 ghost use Rattle.xslt_match.specs.Kept.{IsKeptFor};
 ghost use Rattle.xslt_match.specs.Matching.{is_anywhere, starts};
-ghost use Rattle.xslt_match.specs.inner.Keeping.{IsPlacedIn};
+ghost use Rattle.xslt_match.specs.inner.Keeping.{IsPathIn, IsPlacedIn};
 ghost use Rattle.xslt_match.specs.inner.OneChain.{all_from_parents, ancestor_over, leads_there, origin, survives_there, tests};
 
 use crate::chains::PlacedPath;
@@ -35,8 +35,7 @@ impl Matcher<'_> {
         reads: &mut Recorder,
         steps: &mut Steps<L>,
     ) -> Result<bool, EvalError>
-        requires placed { slice_get self.now.pattern.now at.now.number ≡ Some (path_seen at.now.path.now) }
-        requires typed { PatternStepsTyped (path_seen at.now.path.now).steps }
+        requires placed { IsPathIn self.now.pattern.now at.now }
         requires kept { IsKeptFor self.now.evaluator.caller.tree.now.nodes self.now.evaluator.lets.now self.now.pattern.now kept.old }
         ensures ran { Ran (tests self.now.evaluator.caller.tree.now.nodes self.now.evaluator.lets.now self.now.node (path_seen at.now.path.now).steps true)
             (shown result) reads.old reads.new steps.old steps.new }

@@ -9,7 +9,7 @@ pub returns-then-has_chain-clause-ran : goal.returns-then-has_chain-clause-ran
 returns-then-has_chain-clause-ran g c =
     let laws = c.laws.ensures in
     ran_alike (path_tested c.args.self.now.evaluator.caller.tree.now.nodes laws.well_formed laws.ordered laws.ways_up c.args.self.now.node c.requires.lives c.args.self.now.evaluator.lets.now
-    c.args.at.now.path.now c.in-Some.first.now c.in-Some.later.now (sym c.deref.ensures.value ∙ c.in-Some.ensures.cases.0) c.requires.typed
+    c.args.at.now.path.now c.in-Some.first.now c.in-Some.later.now (sym c.deref.ensures.value ∙ c.in-Some.ensures.cases.0) c.requires.placed.typed
     (sym c.all_from_parents.ensures ∙ c.if-all_from_parents.true) (sym c.has_chain.ensures ∙ c.if-has_chain.true))
     c.tests.ensures.ran
 
@@ -17,7 +17,7 @@ pub returns-else-has_chain-clause-ran : goal.returns-else-has_chain-clause-ran
 returns-else-has_chain-clause-ran g c =
     let laws = c.laws.ensures in
     ran_alike (path_refused c.args.self.now.evaluator.caller.tree.now.nodes laws.well_formed laws.ordered laws.ways_up c.args.self.now.node c.requires.lives c.args.self.now.evaluator.lets.now
-    c.args.at.now.path.now c.in-Some.first.now c.in-Some.later.now (sym c.deref.ensures.value ∙ c.in-Some.ensures.cases.0) c.requires.typed
+    c.args.at.now.path.now c.in-Some.first.now c.in-Some.later.now (sym c.deref.ensures.value ∙ c.in-Some.ensures.cases.0) c.requires.placed.typed
     (sym c.all_from_parents.ensures ∙ c.if-all_from_parents.true) (sym c.has_chain.ensures ∙ c.if-has_chain.false))
     (ran_done _ _ _)
 

@@ -20,12 +20,10 @@ loop-number-init g c = record {
 }
 
 pub path_matches-requires-clause-placed : goal.path_matches-requires-clause-placed
-path_matches-requires-clause-placed g c =
-    path_there c.args.self.now.pattern.now c.paths-path-items.result.now c.loop-number.number c.path-item.result c.paths-path-items.ensures.paths c.loop-number-test.true c.path-item.is
-
-pub path_matches-requires-clause-typed : goal.path_matches-requires-clause-typed
-path_matches-requires-clause-typed g c =
-    (subst (λ ps. PathsTyped (paths_seen ps)) (next_item c.paths-path-items.result.now c.loop-number.number c.path-item.result c.loop-number-test.true c.path-item.is) c.loop-number.invariant.typed).0
+path_matches-requires-clause-placed g c = record {
+  there = path_there c.args.self.now.pattern.now c.paths-path-items.result.now c.loop-number.number c.path-item.result c.paths-path-items.ensures.paths c.loop-number-test.true c.path-item.is;
+  typed = (subst (λ ps. PathsTyped (paths_seen ps)) (next_item c.paths-path-items.result.now c.loop-number.number c.path-item.result c.loop-number-test.true c.path-item.is) c.loop-number.invariant.typed).0;
+}
 
 pub returns-in_err-here-clause-ran : goal.returns-in_err-here-clause-ran
 returns-in_err-here-clause-ran g c =

@@ -17,7 +17,7 @@ loop-step-init g c = record {
   rest = onto_alike
       (ap (λ ss. tests c.args.self.now.evaluator.caller.tree.now.nodes c.args.self.now.evaluator.lets.now c.args.self.now.node (map pattern_step_seen ss) true) (sym c.as_slice-all.ensures.value))
       (onto_start _ _ _);
-  typed = subst (λ ss. PatternStepsTyped (map pattern_step_seen ss)) (sym c.as_slice-all.ensures.value) c.requires.typed;
+  typed = subst (λ ss. PatternStepsTyped (map pattern_step_seen ss)) (sym c.as_slice-all.ensures.value) c.requires.placed.typed;
   later = all_left c.as_slice-all.result.now;
   kept = c.requires.kept;
 }
@@ -26,7 +26,7 @@ pub survives_there-requires-clause-placed : goal.survives_there-requires-clause-
 survives_there-requires-clause-placed g c =
     let h = headed_left c.as_slice-all.result.now c.loop-step.later.now c.in-Some.step.now c.in-Some.rest.now c.loop-step.invariant.later c.in-Some.ensures.cases.0 in
     record {
-      there = numbered c.args.self.now.pattern.now c.args.at.now.number (length c.as_slice-all.result.now - length c.loop-step.later.now) c.args.at.now.path.now c.in-Some.step.now c.requires.placed
+      there = numbered c.args.self.now.pattern.now c.args.at.now.number (length c.as_slice-all.result.now - length c.loop-step.later.now) c.args.at.now.path.now c.in-Some.step.now c.requires.placed.there
           (ap (λ ss. slice_get ss (length c.as_slice-all.result.now - length c.loop-step.later.now)) (sym c.as_slice-all.ensures.value) ∙ h.first);
       typed = (typed-next c.loop-step.later.now c.in-Some.step.now c.in-Some.rest.now c.in-Some.ensures.cases.0 c.loop-step.invariant.typed).1;
     }
