@@ -2,7 +2,7 @@
 //! input, or, as `xp_tool KIND TEXT`, a question about the document on standard input. Developers measure by it.
 #![tactic(auto)]
 
-use doc_tree::{MAX_LIVE_TEXT_BYTES, NodeId, NodeList, Tree};
+use doc_tree::{MAX_LIVE_TEXT_BYTES, NodeList, Tree};
 use name_scopes::load_tree;
 use std::alloc::Global;
 use std::io::Read;
@@ -14,6 +14,7 @@ use test_texts::{copy, first_word, place_of, repeated, with_words};
 use xp_asking::ask;
 use xp_eval::Lets;
 use xp_runs::Scene;
+use xp_text_asking::ask_text;
 use xp_values::Value;
 
 fn main(rt: HostRuntime) -> Result<ExitCode, Fail> {
@@ -24,21 +25,16 @@ fn main(rt: HostRuntime) -> Result<ExitCode, Fail> {
     }
 }
 
-/// Writes the answer to a question about the document on standard input, whose nodes have no names.
+/// Writes the answer to a question about the document on standard input, whose nodes have no names. With it the program ends, so no
+/// memory is given back.
 fn tell(rt: &HostRuntime, kind: &str, text: &str) -> Result<ExitCode, Fail> {
     let mut document = Vec::new(rt.alloc());
     rt.reader().read_to_end(&mut document)?;
-    let answer = answered(rt.alloc(), document.as_slice(), kind, text)?;
-    println!(rt; "{}", answer.as_str())?;
-    Ok(ExitCode::SUCCESS)
-}
-
-/// The answer to a question about a document whose nodes have no names. With it the program ends, so no memory is given back.
-fn answered(alloc: Global, document: &[u8], kind: &str, text: &str) -> Result<String, Fail> {
-    let mut sample = Sample::of(alloc, "", document)?;
+    let mut sample = Sample::of(rt.alloc(), "", document.as_slice())?;
     let answer = sample.answer(kind, text);
     mem::forget(sample);
-    answer
+    println!(rt; "{}", answer?.as_str())?;
+    Ok(ExitCode::SUCCESS)
 }
 
 /// A document, its nodes or the root alone, their names, which stand apart by spaces, and the value of the variable x.
@@ -52,12 +48,13 @@ struct Sample {
 }
 
 impl Answers for Sample {
-    /// A `document` with its nodes' names and the node of a `variable` are what later rows are about; all else is asked of a node.
+    /// A `document` with its nodes' names and the node of a `variable` are what later rows are about; all but a `text` is asked of nodes.
     fn answer(&mut self, kind: &str, input: &str) -> Result<String, Fail> {
         let (word, name) = first_word(kind);
         match word {
             "document" => self.set_document(name, input)?,
             "variable" => self.set_variable(input)?,
+            "text" => return ask_text(self.alloc, name, input),
             _ => return self.asked(word, name, input),
         }
         Ok(format!(in self.alloc; "{} nodes", self.tree.live_nodes())?)
@@ -90,15 +87,16 @@ impl Sample {
         Ok(())
     }
 
-    /// The node with a name; where none has names, that without one is the root.
-    fn node(&self, name: &str) -> Result<NodeId, Fail> {
+    /// The node with a name, alone; where none has names, that without one is the root.
+    fn node(&self, name: &str) -> Result<NodeList, Fail> {
         let place = place_of(name, self.names.as_str())?;
-        Ok(*self.nodes.get(place).ok_or("no node has that name")?)
+        let node = self.nodes.get(place).ok_or("no node has that name")?;
+        Ok(NodeList::of_one(self.alloc, *node)?)
     }
 
     /// Gives the variable x the node with a name.
     fn set_variable(&mut self, name: &str) -> Result<(), Fail> {
-        let node = NodeList::of_one(self.alloc, self.node(name)?)?;
+        let node = self.node(name)?;
         Ok(self.lets.set(0, Ok(Value::NodeSet(node)))?)
     }
 
@@ -109,12 +107,11 @@ impl Sample {
             tree: &self.tree,
             lets: &self.lets,
         };
-        let told = if word == "nodes" {
-            let nodes = self.tree.nodes_in_order(self.alloc)?;
-            ask(&scene, word, nodes.as_slice(), text)?
-        } else {
-            ask(&scene, word, &[self.node(name)?], text)?
+        let nodes = match word {
+            "nodes" => self.tree.nodes_in_order(self.alloc)?,
+            _ => self.node(name)?,
         };
+        let told = ask(&scene, word, nodes.as_slice(), text)?;
         with_words(self.alloc, told, self.nodes.as_slice(), self.names.as_str())
     }
 }
