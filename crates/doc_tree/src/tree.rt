@@ -17,9 +17,16 @@ use std::marker::Model;
 ///
 /// Contracts see its table of nodes and its list of names. The calls that ask for a live node say so; the others
 /// answer of a number that isn't live as of a node that holds nothing.
-#[derive(Drop)]
 pub struct Tree {
     pub(crate) bare: Bare,
+}
+
+/// One call lets a whole tree go, wherever its owner ends.
+impl Drop for Tree {
+    fn drop(self) {
+        let Tree { bare } = self;
+        drop(bare);
+    }
 }
 
 impl Model for Tree {
