@@ -20,10 +20,18 @@ pub(crate) struct NameKey {
 }
 
 /// A table of names, seen by contracts as their list. A word that several names share is kept once.
-#[derive(Drop)]
 pub struct NameTable {
     words: WordTable,
     keys: IndexSet<NameKey>,
+}
+
+/// One call lets a table of names go, wherever its owner ends.
+impl Drop for NameTable {
+    fn drop(self) {
+        let NameTable { words, keys } = self;
+        drop(words);
+        drop(keys);
+    }
 }
 
 impl Model for NameTable {

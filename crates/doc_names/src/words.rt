@@ -8,9 +8,16 @@ use std::alloc::{AllocError, Global};
 use std::marker::Model;
 
 /// A table of words, seen by contracts as their list.
-#[derive(Drop)]
 pub struct WordTable {
     words: IndexSet<String>,
+}
+
+/// One call lets a table of words go, wherever its owner ends.
+impl Drop for WordTable {
+    fn drop(self) {
+        let WordTable { words } = self;
+        drop(words);
+    }
 }
 
 impl Model for WordTable {

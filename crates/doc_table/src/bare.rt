@@ -21,7 +21,6 @@ use std::marker::Model;
 /// The nodes of a tree by number, its names, its counts and its pair cap, with no promise that they hang together.
 ///
 /// Contracts see these parts as plain lists and numbers.
-#[derive(Drop)]
 pub struct Bare {
     pub alloc: Global,
     pub nodes: Vec<Option<Node>>,
@@ -29,6 +28,22 @@ pub struct Bare {
     pub live: u32,
     pub text_bytes: usize,
     pub pair_cap: u32,
+}
+
+/// One call lets a whole table go, wherever its owner ends.
+impl Drop for Bare {
+    fn drop(self) {
+        let Bare {
+            alloc: _,
+            nodes,
+            names,
+            live: _,
+            text_bytes: _,
+            pair_cap: _,
+        } = self;
+        drop(nodes);
+        drop(names);
+    }
 }
 
 impl Model for Bare {

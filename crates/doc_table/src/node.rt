@@ -15,10 +15,18 @@ use sch_base::{ItemList, Text};
 use std::marker::Model;
 
 /// A namespace declaration, seen by contracts as the pair of its prefix and its namespace.
-#[derive(Drop)]
 pub struct Decl {
     pub prefix: Text,
     pub uri: Text,
+}
+
+/// One call lets a declaration go, wherever its owner ends.
+impl Drop for Decl {
+    fn drop(self) {
+        let Decl { prefix, uri } = self;
+        drop(prefix);
+        drop(uri);
+    }
 }
 
 impl Model for Decl {
@@ -46,7 +54,6 @@ impl Decl {
 }
 
 /// What a node holds by its kind.
-#[derive(Drop)]
 pub enum NodeContent {
     Root,
     Element(NameId, ItemList<Decl>),
@@ -54,6 +61,20 @@ pub enum NodeContent {
     Text(Text),
     Comment(Text),
     Pi(NameId, Text),
+}
+
+/// One call lets what a node holds go, wherever its owner ends.
+impl Drop for NodeContent {
+    fn drop(self) {
+        match self {
+            NodeContent::Root => {}
+            NodeContent::Element(_, decls) => drop(decls),
+            NodeContent::Attribute(_, text)
+            | NodeContent::Text(text)
+            | NodeContent::Comment(text)
+            | NodeContent::Pi(_, text) => drop(text),
+        }
+    }
 }
 
 /// The kind of a node to be made, and its name where it has one.
@@ -68,7 +89,6 @@ pub enum Label {
 
 /// A node: its parent, how many ancestors it has, its place among its parent's attributes or else kids, its own kids
 /// and attributes, and what it holds.
-#[derive(Drop)]
 pub struct Node {
     pub parent: Option<NodeId>,
     pub depth: u32,
@@ -76,6 +96,23 @@ pub struct Node {
     pub kids: NodeList,
     pub attributes: NodeList,
     pub content: NodeContent,
+}
+
+/// One call lets a node go, wherever its owner ends.
+impl Drop for Node {
+    fn drop(self) {
+        let Node {
+            parent: _,
+            depth: _,
+            place: _,
+            kids,
+            attributes,
+            content,
+        } = self;
+        drop(kids);
+        drop(attributes);
+        drop(content);
+    }
 }
 
 impl NodeContent {
