@@ -3,7 +3,7 @@ use Rattle.std.proofs.Common.{◌≡◌, ℕ, ◌+◌, ◌<◌, ◌≤◌, Bool,
 use Rattle.doc_table.specs.declared.limits.TheConstants.{MAX_DEPTH, MAX_LIVE_NODES}
 use Rattle.doc_table.specs.declared.node.Node.{Node}
 use Rattle.doc_table.specs.Lists.{mem}
-use Rattle.doc_table.specs.Table.{Name, kids_of, is_live}
+use Rattle.doc_table.specs.Table.{Name, Table, kids_of, is_live}
 use Rattle.doc_table.specs.inner.Kept.{depth_at}
 use Rattle.doc_table.specs.inner.Parts.{Parts, IsSound, table_of}
 use Rattle.doc_table.specs.inner.Sound.{Sound}
@@ -17,10 +17,10 @@ use Rattle.doc_edits.specs.declared.copying.Placement.{Placement}
 use Rattle.doc_edits.specs.Changes.{inserted, nodes_in}
 use Rattle.doc_edits.specs.Fitting.{MayTake}
 use Rattle.doc_edits.specs.Keeping.{NamesGrow}
-use Rattle.doc_edits.specs.inner.Copies.{AreCopies, IsPlacement}
+use Rattle.doc_edits.specs.inner.Copies.{AreCopies, IsCopied, IsPlacement}
 use Rattle.doc_edits.specs.inner.Grafts.{grafted}
 use Rattle.doc_edits.specs.inner.Removing.{placed}
-use Rattle.doc_edits.proofs.CopyLemmas.{grows-numbered, grows-longer}
+use Rattle.doc_edits.proofs.CopyLemmas.{grows-longer, grows-numbered, grows-same}
 use Rattle.doc_edits.proofs.InsertedSoundLemmas.{seen-inserted, sound-inserted}
 use Rattle.doc_edits.proofs.InsertionLemmas.{nodes-flat, nodes-live}
 
@@ -45,6 +45,11 @@ pub kept : (old : Parts) (nodes new : List (Option Node)) (names after : List Na
 kept old nodes new names after live bytes cap view same grow =
     subst (λ old. IsSound old → Sound new after live bytes × (table_seen after new ≡ table_of old)) view
     (λ s. rw same (sound-more nodes names after live bytes grow s))
+
+-- a table of which only the names grew
+pub names-grown : (old new : Parts) → new ≡ record old { names = new.names } → NamesGrow old.names new.names → IsSound old → IsSound new × (table_of new ≡ table_of old)
+names-grown old new is grow s =
+    subst (λ parts. IsSound parts × (table_of parts ≡ table_of old)) (sym is) (sound-more old.nodes old.names new.names old.live old.text_bytes grow s)
 
 -- numbers are small
 dead-depth : (names : List Name) (o : Option Node) → is_some (node_seen names o) ≡ false → depth_at o ≡ 0
@@ -92,3 +97,18 @@ put old piece nodes new copies names after live bytes cap p before first count t
     let sound = sound-inserted names after piece.names nodes piece.nodes live bytes piece.live piece.text_bytes p before places copies s v grow may is copied in
     let seen = seen-inserted names after piece.names nodes piece.nodes live bytes piece.live piece.text_bytes p before places copies s v grow may is copied in
     rw (is_new, first_here, behind_here, is_count, is_text) (sound, seen))
+
+-- the piece is in a table of which only the names grew
+pub put-named : (T : Table) (named piece : Parts) (nodes new copies : List (Option Node)) (names : List Name) (live bytes cap p before first count text : ℕ) (behind : List ℕ) →
+    table_of named ≡ T → record { nodes = nodes; names = names; live = live; text_bytes = bytes; pair_cap = cap } ≡ named → first ≡ length T → behind ≡ drop before (kids_of T p)
+    → text ≡ piece.text_bytes → count ≡ length copies → new ≡ placed (before + 1) behind (grafted p before first copies nodes)
+    → IsSound named → IsSound piece → MayTake T p before (table_of piece) → IsCopied named.names T p before piece copies
+    → Sound new names (live + count) (bytes + text) × (table_seen names new ≡ inserted T p before (table_of piece))
+put-named T named piece nodes new copies names live bytes cap p before first count text behind same view is_first is_behind is_text is_count is_new s v may is =
+    let copied : AreCopies names piece.names is.places piece.nodes (nodes_in (table_of piece)) copies =
+    subst (λ ns. AreCopies ns piece.names is.places piece.nodes (nodes_in (table_of piece)) copies) (sym (ap (λ (parts : Parts). parts.names) view)) is.copied in
+    let placed_there : IsPlacement (table_of named) p before (table_of piece) is.places = subst (λ T. IsPlacement T p before (table_of piece) is.places) (sym same) is.placed in
+    let takes : MayTake (table_of named) p before (table_of piece) = subst (λ T. MayTake T p before (table_of piece)) (sym same) may in
+    let done = put named piece nodes new copies names names live bytes cap p before first count text is.places behind (nodes_in (table_of piece)) view
+    (is_first ∙ ap length (sym same)) (is_behind ∙ ap (λ T. drop before (kids_of T p)) (sym same)) refl is_text is_count is_new (grows-same names names refl) s v takes placed_there copied in
+    (done.0, done.1 ∙ ap (λ T. inserted T p before (table_of piece)) same)

@@ -3,6 +3,7 @@
 ghost use Rattle.std.specs.Prelude.{◌≡◌, ◌+◌, ◌<◌, ◌^◌, ℕ, None, Some, IfOk, length, map, slice_index_or, true};
 ghost use Rattle.doc_names.specs.Name.{numbered};
 ghost use Rattle.doc_table.specs.Lists.{mem};
+ghost use Rattle.doc_table.specs.declared.node.NodeContent.TheVariants.{Element};
 ghost use Rattle.doc_table.specs.inner.Kept.{NameIsBelow, depth_at, place_in};
 ghost use Rattle.doc_table.specs.inner.Views.{content_seen};
 ghost use Rattle.doc_edits.specs.Changes.{given_parent};
@@ -16,7 +17,6 @@ use std::alloc::{AllocError, Global};
 
 /// Where the nodes of a piece come: the number that each gets, and the node under which the piece comes, with the number
 /// of its ancestors and of the kids before the piece.
-#[derive(Drop)]
 pub(crate) struct Placement {
     /// By number in the piece.
     pub(crate) numbers: Vec<NodeId>,
@@ -25,6 +25,20 @@ pub(crate) struct Placement {
     pub(crate) parent: NodeId,
     pub(crate) depth: u32,
     pub(crate) before: u32,
+}
+
+/// One call lets it go, wherever its owner ends.
+impl Drop for Placement {
+    fn drop(self) {
+        let Placement {
+            numbers,
+            past: _,
+            parent: _,
+            depth: _,
+            before: _,
+        } = self;
+        drop(numbers);
+    }
 }
 
 /// The numbers that the nodes of a list get, from the first on, by their own numbers; there is room for so many of these.
@@ -62,17 +76,60 @@ fn name_again(
     names.number(alloc, from.prefix(name), from.local(name), from.uri(name))
 }
 
+/// Copies a declaration.
+fn copy_decl(alloc: Global, decl: &Decl) -> Result<Decl, AllocError>
+    ensures { IfOk result (λ copy. copy ≡ decl.now) }
+{
+    let prefix = Text::copy(alloc, decl.prefix())?;
+    let uri = Text::copy(alloc, decl.uri())?;
+    Ok(Decl { prefix, uri })
+}
+
 /// Copies declarations.
 fn copy_decls(alloc: Global, decls: &[Decl]) -> Result<ItemList<Decl>, AllocError>
     ensures { IfOk result (λ list. list ≡ decls.now) }
 {
     let mut list = ItemList::new(alloc);
     for decl in decls {
-        let prefix = Text::copy(alloc, decl.prefix())?;
-        let uri = Text::copy(alloc, decl.uri())?;
-        list.push(Decl { prefix, uri })?;
+        let copy = copy_decl(alloc, decl)?;
+        list.push(copy)?;
     }
     Ok(list)
+}
+
+/// Copies the text of a node with a name, which is numbered anew.
+fn copy_named(
+    names: &mut NameTable,
+    alloc: Global,
+    from: &NameTable,
+    name: NameId,
+    text: &Text,
+) -> Result<(NameId, Text), AllocError>
+    ensures name { IfOk result (λ copy. numbered names.new copy.0 ≡ numbered from.now name) }
+    ensures known { IfOk result (λ copy. copy.0 < length names.new) }
+    ensures text { IfOk result (λ copy. copy.1 ≡ text.now) }
+    ensures grown { NamesGrow names.old names.new }
+{
+    let id = name_again(names, alloc, from, name)?;
+    let copied = Text::copy(alloc, text.as_str())?;
+    Ok((id, copied))
+}
+
+/// Copies what an element holds; its name is numbered anew.
+fn copy_element(
+    names: &mut NameTable,
+    alloc: Global,
+    from: &NameTable,
+    name: NameId,
+    decls: &ItemList<Decl>,
+) -> Result<NodeContent, AllocError>
+    ensures seen { IfOk result (λ copy. content_seen names.new copy ≡ content_seen from.now (Element name decls.now)) }
+    ensures known { IfOk result (λ copy. NameIsBelow (length names.new) copy) }
+    ensures grown { NamesGrow names.old names.new }
+{
+    let id = name_again(names, alloc, from, name)?;
+    let list = copy_decls(alloc, decls.as_slice())?;
+    Ok(NodeContent::Element(id, list))
 }
 
 /// Copies what a node holds; its name is numbered anew.
@@ -88,14 +145,9 @@ fn copy_content(
 {
     match content {
         NodeContent::Root => Ok(NodeContent::Root),
-        NodeContent::Element(name, decls) => {
-            let list = copy_decls(alloc, decls.as_slice())?;
-            let id = name_again(names, alloc, from, *name)?;
-            Ok(NodeContent::Element(id, list))
-        }
+        NodeContent::Element(name, decls) => copy_element(names, alloc, from, *name, decls),
         NodeContent::Attribute(name, value) => {
-            let text = Text::copy(alloc, value.as_str())?;
-            let id = name_again(names, alloc, from, *name)?;
+            let (id, text) = copy_named(names, alloc, from, *name, value)?;
             Ok(NodeContent::Attribute(id, text))
         }
         NodeContent::Text(characters) => {
@@ -106,9 +158,8 @@ fn copy_content(
             let text = Text::copy(alloc, characters.as_str())?;
             Ok(NodeContent::Comment(text))
         }
-        NodeContent::Pi(name, characters) => {
-            let text = Text::copy(alloc, characters.as_str())?;
-            let id = name_again(names, alloc, from, *name)?;
+        NodeContent::Pi(name, data) => {
+            let (id, text) = copy_named(names, alloc, from, *name, data)?;
             Ok(NodeContent::Pi(id, text))
         }
     }
@@ -169,9 +220,9 @@ impl Placement {
         ensures copied { IfOk result (λ copy. IsCopy names.new from.now self.now (Some node.now) (Some copy)) }
         ensures grown { NamesGrow names.old names.new }
     {
+        let content = copy_content(names, alloc, from, &node.content)?;
         let kids = self.numbers_of(alloc, node.kids.as_slice())?;
         let attributes = self.numbers_of(alloc, node.attributes.as_slice())?;
-        let content = copy_content(names, alloc, from, &node.content)?;
         Ok(Node {
             parent: self.parent_of(node.parent),
             depth: self.depth + node.depth,

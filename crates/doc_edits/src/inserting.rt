@@ -6,7 +6,7 @@ ghost use Rattle.doc_table.specs.inner.Parts.{IsSound, table_of};
 ghost use Rattle.doc_edits.specs.Changes.{inserted, nodes_in};
 ghost use Rattle.doc_edits.specs.Fitting.{MayTake};
 ghost use Rattle.doc_edits.specs.Keeping.{NamesGrow};
-ghost use Rattle.doc_edits.specs.inner.Copies.{IsPlacement};
+ghost use Rattle.doc_edits.specs.inner.Copies.{IsCopied, IsPlacement};
 ghost use Rattle.doc_edits.specs.inner.Grafts.{grafted, kept_kid, kept_kids};
 ghost use Rattle.doc_edits.specs.inner.Removing.{placed};
 
@@ -39,9 +39,7 @@ pub fn insert(
 {
     let first = bare.next_number();
     let behind = kids_behind(bare, parent, before)?;
-    let nodes = nodes_of(bare.alloc, piece)?;
-    let places = place_piece(bare, parent, before, piece, nodes.as_slice())?;
-    let copies = places.copy_all(&mut bare.names, bare.alloc, piece, nodes.as_slice())?;
+    let copies = copy_piece(bare, parent, before, piece)?;
     let count = copies.len() as u32;
     graft(
         &mut bare.nodes,
@@ -75,6 +73,26 @@ fn nodes_of(alloc: Global, piece: &Bare) -> Result<NodeList, AllocError>
         piece.push_below(&mut list, *kid)?;
     }
     Ok(list)
+}
+
+/// Copies the nodes of a piece, in document order, for their place under a node behind so many of its kids. Of the table
+/// only the names change.
+fn copy_piece(
+    bare: &mut Bare,
+    parent: NodeId,
+    before: usize,
+    piece: &Bare,
+) -> Result<Vec<Option<Node>>, AllocError>
+    requires sound { IsSound bare.old }
+    requires piece { IsSound piece.now }
+    requires may { MayTake (table_of bare.old) parent before (table_of piece.now) }
+    ensures copied { IfOk result (λ copies. IsCopied bare.new.names (table_of bare.old) parent before piece.now copies.items) }
+    ensures kept { bare.new ≡ record bare.old { names = bare.new.names } }
+    ensures grown { NamesGrow bare.old.names bare.new.names }
+{
+    let nodes = nodes_of(bare.alloc, piece)?;
+    let places = place_piece(bare, parent, before, piece, nodes.as_slice())?;
+    places.copy_all(&mut bare.names, bare.alloc, piece, nodes.as_slice())
 }
 
 /// Gives each node of a piece its number.

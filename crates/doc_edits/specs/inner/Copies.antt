@@ -4,9 +4,10 @@ use Rattle.doc_table.specs.Table.{Name, Table}
 use Rattle.doc_table.specs.Walks.{ancestors}
 use Rattle.doc_table.specs.declared.node.Node.{Node}
 use Rattle.doc_table.specs.inner.Kept.{NameIsBelow, NamesAreBelow, depth_at, place_at}
+use Rattle.doc_table.specs.inner.Parts.{Parts, table_of}
 use Rattle.doc_table.specs.inner.Views.{node_seen, table_seen}
 use Rattle.doc_edits.specs.declared.copying.Placement.{Placement}
-use Rattle.doc_edits.specs.Changes.{given, given_number}
+use Rattle.doc_edits.specs.Changes.{given, given_number, nodes_in}
 
 -- the number that a node of the piece gets
 abbrev pub number_in : Placement → ℕ → ℕ
@@ -50,3 +51,9 @@ pub record AreCopies (names from : List Name) (places : Placement) (nodes : List
   pub known : NamesAreBelow (length names) copies
   pub depths : map depth_at copies ≡ map (λ m. depth_copied places (slice_index_or nodes m None)) numbers
   pub places_are : map place_at copies ≡ map (λ m. place_copied places (slice_index_or nodes m None)) numbers
+
+-- copies of the nodes of a piece in document order, which come under a node, behind so many of its kids
+pub record IsCopied (names : List Name) (T : Table) (p before : ℕ) (piece : Parts) (copies : List (Option Node)) : Type 0 where
+  pub places : Placement
+  pub placed : IsPlacement T p before (table_of piece) places
+  pub copied : AreCopies names piece.names places piece.nodes (nodes_in (table_of piece)) copies
