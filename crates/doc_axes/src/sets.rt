@@ -1,6 +1,6 @@
 //! Node-sets in document order.
 
-ghost use Rattle.std.specs.Prelude.{◌≡◌, ◌∷◌, ◌++◌, ◌<◌, true, length, IfOk};
+ghost use Rattle.std.specs.Prelude.{◌≡◌, ◌∷◌, ◌++◌, ◌<◌, true, length, IfOk, OnOk};
 ghost use Rattle.doc_tree.specs.Table.{is_live};
 ghost use Rattle.doc_axes.specs.Sets.{in_order, IsNodeSet, union};
 
@@ -148,17 +148,32 @@ fn all_before(tree: &Tree, a: &[NodeId], b: &[NodeId]) -> bool
     tree.is_before(*last, *first)
 }
 
-/// The union of two node-sets: the earlier of their first nodes is taken, once where both are one node, until one of
-/// the sets is used up.
-///
-/// Costs a comparison for each node that is taken until then.
+/// The union of two node-sets, joined node by node.
 fn merged(alloc: Global, tree: &Tree, a: &[NodeId], b: &[NodeId]) -> Result<NodeList, AllocError>
     requires a_set { IsNodeSet tree.now.nodes a.now }
     requires b_set { IsNodeSet tree.now.nodes b.now }
     ensures { IfOk result (λ v. v ≡ union tree.now.nodes a.now b.now) }
 {
-    tree.laws();
     let mut list = ItemList::new(alloc);
+    push_merged(tree, &mut list, a, b)?;
+    Ok(list)
+}
+
+/// Puts the union of two node-sets at the end of the list: the earlier of their first nodes is taken, once where both are
+/// one node, until one of the sets is used up.
+///
+/// Costs a comparison for each node that is taken until then.
+fn push_merged(
+    tree: &Tree,
+    list: &mut NodeList,
+    a: &[NodeId],
+    b: &[NodeId],
+) -> Result<(), AllocError>
+    requires a_set { IsNodeSet tree.now.nodes a.now }
+    requires b_set { IsNodeSet tree.now.nodes b.now }
+    ensures { OnOk result (list.new ≡ list.old ++ union tree.now.nodes a.now b.now) }
+{
+    tree.laws();
     let mut rest_a = a;
     let mut rest_b = b;
     while let (Some((x, behind_x)), Some((y, behind_y))) = (
@@ -178,5 +193,5 @@ fn merged(alloc: Global, tree: &Tree, a: &[NodeId], b: &[NodeId]) -> Result<Node
     }
     list.push_all(rest_a)?;
     list.push_all(rest_b)?;
-    Ok(list)
+    Ok(())
 }

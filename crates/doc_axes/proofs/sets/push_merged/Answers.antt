@@ -4,8 +4,8 @@ use Rattle.std.proofs.lemmas.List.{nil_from_length}
 use Rattle.doc_tree.proofs.ListLemmas.{occurs-head}
 use Rattle.doc_axes.specs.Sets.{IsNodeSet, union}
 use Rattle.doc_axes.proofs.NodeSets.{member_lives, tail_set, union_both, union_first, union_second, none_before, none_behind}
-use Rattle.doc_axes.proofs.sets.merged.Goals as goal
-use Rattle.doc_axes.proofs.sets.merged.Goals.{in_default, in_default-2}
+use Rattle.doc_axes.proofs.sets.push_merged.Goals as goal
+use Rattle.doc_axes.proofs.sets.push_merged.Goals.{in_default, in_default-2}
 
 pub is_before-requires-clause-a_lives : goal.is_before-requires-clause-a_lives
 is_before-requires-clause-a_lives c =
