@@ -18,11 +18,21 @@ use std::{fs, io};
 pub const STANDARD_INPUT: &str = ":in";
 
 /// What is open.
-#[derive(Drop)]
 enum Source<F, I> {
     Nothing,
     File(F),
     StandardInput(I),
+}
+
+/// One call closes what is open, wherever its owner ends.
+impl<F: Drop, I: Drop> Drop for Source<F, I> {
+    fn drop(self) {
+        match self {
+            Source::Nothing => {}
+            Source::File(file) => drop(file),
+            Source::StandardInput(reader) => drop(reader),
+        }
+    }
 }
 
 /// A shelf that opens the files of the host by their paths, and standard input under the name `:in`.
