@@ -1,8 +1,10 @@
 //! The nodes on an axis (XPath 1.0, section 2.2).
 
-ghost use Rattle.std.specs.Prelude.{◌≡◌, ◌++◌, true, IfOk, OnOk};
-ghost use Rattle.doc_tree.specs.Table.{is_live};
+ghost use Rattle.std.specs.Prelude.{◌≡◌, ◌∷◌, ◌++◌, true, IfOk, OnOk};
+ghost use Rattle.doc_tree.specs.Table.{is_live, kids_of};
+ghost use Rattle.doc_tree.specs.Walks.{ancestors};
 ghost use Rattle.doc_axes.specs.Axes.{axis_nodes, kids_beside};
+ghost use Rattle.doc_axes.specs.Plain.{plain_below};
 ghost use Rattle.doc_axes.specs.inner.Found.{found_on};
 
 use crate::laws::axes_by_cells;
@@ -43,17 +45,11 @@ pub(crate) fn push_axis(
     axes_by_cells(tree);
     match axis {
         Axis::Ancestor => push_ancestors(tree, list, n),
-        Axis::AncestorOrSelf => {
-            list.push(n)?;
-            push_ancestors(tree, list, n)
-        }
+        Axis::AncestorOrSelf => push_upwards(tree, list, n),
         Axis::Attribute => list.push_all(tree.attrs(n)),
         Axis::Child => list.push_all(tree.kids(n)),
         Axis::Descendant => push_each_plain(tree, list, tree.kids(n)),
-        Axis::DescendantOrSelf => {
-            list.push(n)?;
-            push_each_plain(tree, list, tree.kids(n))
-        }
+        Axis::DescendantOrSelf => push_downwards(tree, list, n),
         Axis::Following => push_following(tree, list, n),
         Axis::FollowingSibling => list.push_all(kids_behind(kids_beside(tree, n), n)),
         Axis::Parent => match tree.parent(n) {
@@ -64,6 +60,23 @@ pub(crate) fn push_axis(
         Axis::PrecedingSibling => list.push_all(kids_before(kids_beside(tree, n), n)),
         Axis::SelfNode => list.push(n),
     }
+}
+
+/// Puts a node and then its ancestors, nearest first, at the end of the list.
+fn push_upwards(tree: &Tree, list: &mut NodeList, n: NodeId) -> Result<(), AllocError>
+    ensures { OnOk result (list.new ≡ list.old ++ n ∷ ancestors tree.now.nodes n) }
+{
+    list.push(n)?;
+    push_ancestors(tree, list, n)
+}
+
+/// Puts a node and then all below it but attributes at the end of the list.
+fn push_downwards(tree: &Tree, list: &mut NodeList, n: NodeId) -> Result<(), AllocError>
+    ensures { OnOk result (list.new ≡ list.old ++ n ∷ plain_below tree.now.nodes (kids_of tree.now.nodes n)) }
+{
+    axes_by_cells(tree);
+    list.push(n)?;
+    push_each_plain(tree, list, tree.kids(n))
 }
 
 /// The kids of the node's parent, none for an attribute and for the root.
