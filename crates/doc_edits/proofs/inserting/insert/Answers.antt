@@ -2,7 +2,7 @@
 use Rattle.std.proofs.Common.{◌≡◌, ◌+◌, true, length, refl, ap, ◌∙◌, arith}
 use Rattle.doc_names.proofs.NameLemmas.{on_err}
 use Rattle.doc_table.specs.Table.{is_live}
-use Rattle.doc_table.specs.inner.Parts.{IsSound, table_of}
+use Rattle.doc_table.specs.inner.Parts.{table_of}
 use Rattle.doc_table.specs.inner.Sound.{Sound}
 use Rattle.doc_table.specs.inner.Views.{table_seen}
 use Rattle.doc_table.proofs.Appending.{holder-live}
