@@ -1,5 +1,4 @@
 mod OnePiece
 mod OneEdit
 mod PieceSizes
-mod PieceDepths
 mod TreesKept

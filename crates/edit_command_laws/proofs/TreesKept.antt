@@ -1,5 +1,5 @@
 -- Where nothing speaks against a command, each change of the tree that it makes is one that may be.
-use Rattle.std.proofs.Common.{◌≡◌, ℕ, ◌+◌, ◌-◌, Bool, true, false, not, ◌&&◌, List, [], ◌∷◌, length, Option, None, Some, is_some, refl, sym, ap, ap₂, ◌∙◌, subst, true≢false, arith, ltb-false}
+use Rattle.std.proofs.Common.{◌≡◌, ℕ, ◌+◌, ◌-◌, Bool, true, false, List, [], ◌∷◌, length, Option, None, Some, refl, sym, ap, ap₂, ◌∙◌, subst, arith}
 use Rattle.std.specs.List.{list_any}
 use Rattle.std.specs.Option.{option_or}
 use Rattle.std.specs.Prelude.{if◌then◌else◌, nat_lt, slice_index_or, sum_by}
@@ -7,66 +7,34 @@ use Rattle.pyx_core.specs.declared.event.Event.{Event}
 use Rattle.doc_table.specs.inner.Sound.{Formed}
 use Rattle.doc_table.specs.declared.limits.TheConstants.{MAX_LIVE_NODES, MAX_LIVE_TEXT_BYTES, MAX_NODE_NUMBERS}
 use Rattle.doc_table.proofs.Forests.{formed-of}
-use Rattle.doc_table.proofs.TreeLaws.{ordered, ways-up, well-formed}
+use Rattle.doc_table.proofs.TreeLaws.{ordered, walks, ways-up, well-formed}
 use Rattle.doc_edits.specs.Changes.{inserted, nodes_in}
 use Rattle.doc_edits.specs.Documents.{EditsKeepDocuments}
-use Rattle.doc_edits.specs.Fitting.{MaySay}
 use Rattle.doc_edits.specs.Keeping.{DeletionsKeepTrees, GainsKeepTrees, InsertionsKeepTrees, RemovalsKeepTrees, SayingsKeepTrees}
-use Rattle.doc_tree.specs.declared.refusal.EditRefusal.TheVariants.{WrongKind, EmptyText, NoPrefix, SameAttribute, TooManyNodes, TooDeep, TooMuchText, IdsSpent, TooManyPairs}
-use Rattle.doc_tree.specs.kind.Kind.{Kind}
-use Rattle.doc_tree.specs.kind.Kind.TheVariants as kinds
+use Rattle.doc_tree.specs.declared.refusal.EditRefusal.TheVariants.{NoPrefix, SameAttribute, TooManyNodes, TooDeep, TooMuchText, IdsSpent, TooManyPairs}
 use Rattle.doc_tree.specs.Edited.{attribute_name_at, attribute_set, attribute_unset, with_value, without_attribute}
-use Rattle.doc_tree.specs.Kinds.{holds_kids, is_document, is_text}
+use Rattle.doc_tree.specs.Kinds.{is_document}
 use Rattle.doc_tree.specs.Laws.{WellFormed}
 use Rattle.doc_tree.specs.Lists.{mem}
 use Rattle.doc_tree.specs.NameTests.{attribute_named}
 use Rattle.doc_tree.specs.Refusals as tree
-use Rattle.doc_tree.specs.Refusals.{deletion_refusal, has_own_text, is_nil, is_too_deep_at, place_refusal, room_refusal, setting_refusal, text_refusal, top_of}
+use Rattle.doc_tree.specs.Refusals.{deletion_refusal, is_too_deep_at, place_refusal, room_refusal, setting_refusal, top_of}
 use Rattle.doc_tree.specs.Scope.{namespace_or_none, scope_at}
-use Rattle.doc_tree.specs.Table.{Contents, Facts, Table, attrs_of, content_at, entry_at, is_live, kids_of, kind_at, kind_of, value_of}
+use Rattle.doc_tree.specs.Table.{Contents, Table, attrs_of, kids_of, kind_of}
 use Rattle.doc_tree.specs.Walks.{above, order, text_bytes}
 use Rattle.doc_tree.proofs.AttributeLemmas.{document-stays, found-member, may-gain, may-go, may-say}
 use Rattle.doc_tree.proofs.DeleteLemmas as deleting
 use Rattle.doc_tree.proofs.InsertLemmas.{document-kept, may-take, nodes-brought}
-use Rattle.doc_tree.proofs.RefusalLemmas.{and-false, none-of-four, none-of-three, not-true, or-none}
+use Rattle.doc_tree.proofs.RefusalLemmas.{none-of-four, or-none}
 use Rattle.name_scopes.specs.Fragments.{ScopedPiece, event_nodes, is_too_deep, piece_refusal, some_tag, tag_doubles, tag_lacks_prefix}
 use Rattle.name_scopes.specs.QNames.{local_part, prefix_part}
 use Rattle.edit_script.specs.declared.command.Command.{Command}
 use Rattle.edit_script.specs.declared.command.Command.TheVariants.{Insert, Delete, SetText, SetAttr, UnsetAttr}
 use Rattle.edit_commands.specs.Commands.{EditedAt, insertion_refusal, refusal_at, refusal_where, size_refusal, top_kind}
+use Rattle.edit_commands.proofs.DepthLemmas.{kind-of-top, none-too-deep}
+use Rattle.edit_commands.proofs.TextLemmas as texts
 use Rattle.edit_command_laws.specs.TreesKept.{EditsKeepTrees}
-use Rattle.edit_command_laws.proofs.PieceDepths.{kind-of-top, none-too-deep}
 use Rattle.edit_command_laws.proofs.PieceSizes.{piece-nodes, piece-text}
-
--- a node with a text of its own
-own-text-live : (T : Table) (n : ℕ) → has_own_text (kind_of T n) ≡ true → is_live T n ≡ true
-own-text-live T n h = by (entry_at T n) h
-  where
-    by : (e : Option Facts) → has_own_text (kind_at (content_at e)) ≡ true → is_some e ≡ true
-    by None h = h
-    by (Some node) h = refl
-
-own-text-leaf : (k : Option Kind) → has_own_text k ≡ true → holds_kids k ≡ false
-own-text-leaf None h = refl
-own-text-leaf (Some kinds.Root) h = absurd (true≢false (sym h))
-own-text-leaf (Some kinds.Element) h = absurd (true≢false (sym h))
-own-text-leaf (Some kinds.Attribute) h = refl
-own-text-leaf (Some kinds.Text) h = refl
-own-text-leaf (Some kinds.Comment) h = refl
-own-text-leaf (Some kinds.Pi) h = refl
-
-may-say-text : (T : Table) (n : ℕ) (new : List ℕ) → text_refusal T n new ≡ None → MaySay T n new
-may-say-text T n new free =
-    let parts =
-    none-of-three (not (has_own_text (kind_of T n))) (is_text (kind_of T n) && is_nil new)
-    (nat_lt (MAX_LIVE_TEXT_BYTES + length (value_of T n)) (text_bytes T + length new)) WrongKind EmptyText TooMuchText free in
-    let own : has_own_text (kind_of T n) ≡ true = not-true (has_own_text (kind_of T n)) parts.0 in
-    record {
-      lives = own-text-live T n own;
-      has_text = own-text-leaf (kind_of T n) own;
-      some = λ is empty. true≢false (sym (ap is_nil empty) ∙ and-false (is_text (kind_of T n)) (is_nil new) parts.1 (ap is_text is));
-      little = ltb-false (MAX_LIVE_TEXT_BYTES + length (value_of T n)) (text_bytes T + length new) parts.2;
-    }
 
 -- nothing speaks against a piece, where nothing speaks against its fragment
 module _ (before : Contents) (n at : ℕ) (events : List Event) (P : Table) (form : WellFormed P) (piece : Formed P) (scoped : ScopedPiece (scope_at before.nodes n) events P)
@@ -96,7 +64,7 @@ module _ (before : Contents) (n at : ℕ) (events : List Event) (P : Table) (for
   top-is = ap (λ ks. slice_index_or ks 0 0) scoped.one
 
   kind-is : kind_of P (top_of P) ≡ top_kind events
-  kind-is = ap (kind_of P) top-is ∙ kind-of-top P form piece (ways-up P piece) events scoped.lines_are scoped.top scoped.one
+  kind-is = ap (kind_of P) top-is ∙ kind-of-top P form (ordered P piece) (ways-up P piece) (walks P piece) events scoped.lines_are scoped.top scoped.one
 
   room : room_refusal before n P ≡ size_refusal before events
   room =
@@ -108,7 +76,7 @@ module _ (before : Contents) (n at : ℕ) (events : List Event) (P : Table) (for
       else if nat_lt before.pair_cap (length (order T) + b) then Some TooManyPairs
       else None) brought (piece-text P form piece events scoped.lines_are)
       ∙ ap₂ (λ (b c : Bool). if b then Some TooManyNodes else if c then Some TooDeep else size_refusal before events) parts.2
-      (none-too-deep P form piece (ways-up P piece) events scoped.lines_are T n parts.3)
+      (none-too-deep P form (ordered P piece) (ways-up P piece) (walks P piece) events scoped.lines_are T n parts.3)
 
   fits : tree.insertion_refusal before n at P ≡ None
   fits = ap₂ option_or (ap (place_refusal T n at) kind-is ∙ first.0) (room ∙ second.1)
@@ -158,7 +126,7 @@ module _ (sayings : SayingsKeepTrees) (removals : RemovalsKeepTrees) (deletions 
   edited-kept (Delete path) n U free edited =
       subst Kept (sym edited) (deletions nodes n formed, deleting.document-kept nodes n (deletion_refusal nodes n) keeps formed refl free document)
   edited-kept (SetText path new) n U free edited =
-      subst Kept (sym edited) (sayings nodes n new formed (may-say-text nodes n new free), keeps.saying nodes n new document)
+      subst Kept (sym edited) (sayings nodes n new formed (texts.may-say nodes n new free), keeps.saying nodes n new document)
   edited-kept (SetAttr path name value) n U free edited = subst Kept (sym edited) (set-kept n (prefix_part name) (local_part name) value free)
   edited-kept (UnsetAttr path name) n U free edited = subst Kept (sym edited) (unset-kept n (prefix_part name) (local_part name))
 

@@ -1,8 +1,8 @@
 mod AttributeLemmas
 mod CommandLemmas
 mod DeleteLemmas
-mod DepthLemmas
+pub mod DepthLemmas
 mod Forming
 mod InsertLemmas
 mod MeetingLemmas
-mod TextLemmas
+pub mod TextLemmas
