@@ -22,7 +22,7 @@ use Rattle.doc_edit_laws.specs.Touching.{touched_attributes}
 use Rattle.name_scopes.specs.QNames.{local_part, prefix_part}
 use Rattle.name_scopes.specs.Scoping.{AttributeInScope, InScope, is_qualified}
 use Rattle.name_scopes.proofs.TagFacts.{parted}
-use Rattle.name_edit_laws.specs.Scopes.{AdditionsKeepScope, DeletionsKeepScope, SayingsKeepScope}
+use Rattle.name_scopes_laws.specs.Scopes.{AdditionsKeepScope, DeletionsKeepScope, SayingsKeepScope}
 use Rattle.edit_script.specs.declared.command.Command.TheVariants.{SetAttr, UnsetAttr}
 use Rattle.edit_script.specs.declared.command.PathStep.{PathStep}
 use Rattle.edit_commands.specs.declared.touched.Touched.TheVariants.{Attributes, Said}

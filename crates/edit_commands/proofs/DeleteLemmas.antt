@@ -23,7 +23,7 @@ use Rattle.doc_edit_laws.specs.Touching.{touched_deletion, touched_kids, touched
 use Rattle.doc_edit_laws.proofs.SayingAgreement.{saying-keeps}
 use Rattle.doc_edit_laws.proofs.TextLemmas.{ways-alike}
 use Rattle.name_scopes.specs.Scoping.{InScope}
-use Rattle.name_edit_laws.specs.Scopes.{DeletionsKeepScope}
+use Rattle.name_scopes_laws.specs.Scopes.{DeletionsKeepScope}
 use Rattle.edit_script.specs.declared.command.Command.TheVariants.{Delete}
 use Rattle.edit_script.specs.declared.command.PathStep.{PathStep}
 use Rattle.edit_commands.specs.declared.touched.Touched.TheVariants.{Below}

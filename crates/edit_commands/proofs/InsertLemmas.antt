@@ -28,7 +28,7 @@ use Rattle.doc_edit_laws.specs.Along.{Edit, inserts}
 use Rattle.doc_edit_laws.specs.Touching.{touched_kids}
 use Rattle.name_scopes.specs.Fragments.{ScopedPiece, event_nodes, is_too_deep, piece_refusal, plain_text, some_tag, tag_doubles, tag_lacks_prefix}
 use Rattle.name_scopes.specs.Scoping.{InScope}
-use Rattle.name_edit_laws.specs.Scopes.{AdditionsKeepScope}
+use Rattle.name_scopes_laws.specs.Scopes.{AdditionsKeepScope}
 use Rattle.edit_script.specs.declared.command.Command.TheVariants.{Insert}
 use Rattle.edit_script.specs.declared.command.PathStep.{PathStep}
 use Rattle.edit_commands.specs.declared.refusal.ApplyError.{ApplyError}

@@ -22,7 +22,7 @@ use Rattle.doc_edit_laws.specs.Along.{Edit, says}
 use Rattle.doc_edit_laws.specs.Touching.{touched_saying}
 use Rattle.doc_edit_laws.proofs.SayingAgreement.{saying-keeps}
 use Rattle.name_scopes.specs.Scoping.{InScope}
-use Rattle.name_edit_laws.specs.Scopes.{SayingsKeepScope}
+use Rattle.name_scopes_laws.specs.Scopes.{SayingsKeepScope}
 use Rattle.edit_script.specs.declared.command.Command.TheVariants.{SetText}
 use Rattle.edit_script.specs.declared.command.PathStep.{PathStep}
 use Rattle.edit_commands.specs.declared.touched.Touched.TheVariants.{Said}

@@ -24,7 +24,7 @@ use crate::touched::Touched;
 use doc_edit_laws::edits_leave_the_rest;
 use doc_tree::{EditRefusal, Kind, NodeId, Tree};
 use edit_script::{Command, Path};
-use name_edit_laws::edits_keep_scope;
+use name_scopes_laws::edits_keep_scope;
 use std::alloc::Global;
 
 /// Does a command of an edit script on a document.

@@ -11,8 +11,8 @@ ghost use Rattle.edit_commands.specs.inner.Done.{Done, Keeps, NotDone};
 use crate::refusal::ApplyError;
 use crate::touched::Touched;
 use doc_tree::{Kind, NodeId, Tree};
-use name_edit_laws::edits_keep_scope;
 use name_scopes::load_subtree;
+use name_scopes_laws::edits_keep_scope;
 use pyx_core::{Event, EventList};
 use std::alloc::Global;
 

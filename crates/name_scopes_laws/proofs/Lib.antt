@@ -1,2 +1,3 @@
 pub mod TreeSteps
 pub mod DocumentTrees
+pub mod ScopeLemmas

@@ -1,8 +1,10 @@
-//! What holds of every text that is a document.
+//! What holds of every text that is a document, and what edits keep of one: its names are in scope.
 #![tactic(auto)]
 
 ghost use Rattle.name_scopes_laws.specs.Documents.{DocumentsHaveTrees};
+ghost use Rattle.name_scopes_laws.specs.Scopes.{AdditionsKeepScope, DeletionsKeepScope, SayingsKeepScope};
 
+use doc_edits::{additions_keep_trees, deletions_keep_trees, sayings_keep_trees};
 use pyx_core::events_nest;
 
 /// Each text without fault has a tree.
@@ -10,4 +12,15 @@ pub fn documents_have_trees()
     ensures { DocumentsHaveTrees }
 {
     events_nest();
+}
+
+/// A tree in scope stays in scope, where what comes is in scope at its place.
+pub fn edits_keep_scope()
+    ensures sayings { SayingsKeepScope }
+    ensures deletions { DeletionsKeepScope }
+    ensures additions { AdditionsKeepScope }
+{
+    sayings_keep_trees();
+    deletions_keep_trees();
+    additions_keep_trees();
 }

@@ -23,7 +23,7 @@ use Rattle.doc_edits.proofs.InsertionLemmas.{IsNew, IsOther, new-or, given-paren
 use Rattle.doc_edits.proofs.InsertionWayLemmas.{ancestors-up, inside}
 use Rattle.name_scopes.specs.Fragments.{PieceInScope}
 use Rattle.name_scopes.specs.Scoping.{AttributeInScope, ContentInScope, InScope, NodeInScope}
-use Rattle.name_edit_laws.specs.Scopes.{AdditionsKeepScope, DeletionsKeepScope, SayingsKeepScope}
+use Rattle.name_scopes_laws.specs.Scopes.{AdditionsKeepScope, DeletionsKeepScope, SayingsKeepScope}
 use Rattle.doc_edits.proofs.RemainderLemmas.{Stays, stays-cut, stays-both, said-live, said-parent, said-decls, before-new, gained-parent, gained-content, gained-new}
 
 -- the scope at a node: its declarations, and the scope at its parent

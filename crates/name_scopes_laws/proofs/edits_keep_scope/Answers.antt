@@ -1,6 +1,6 @@
 -- Each node that stays keeps its way up, and the declarations on it.
-use Rattle.name_edit_laws.proofs.ScopeLemmas.{sayings-keep-scope, deletions-keep-scope, additions-keep-scope}
-use Rattle.name_edit_laws.proofs.edits_keep_scope.Goals as goal
+use Rattle.name_scopes_laws.proofs.ScopeLemmas.{sayings-keep-scope, deletions-keep-scope, additions-keep-scope}
+use Rattle.name_scopes_laws.proofs.edits_keep_scope.Goals as goal
 
 pub returns-clause-sayings : goal.returns-clause-sayings
 returns-clause-sayings c = sayings-keep-scope c.sayings_keep_trees.ensures
