@@ -19,9 +19,10 @@ use Rattle.xp_locality_laws.proofs.PathLemmas.{same-passes}
 use Rattle.xp_locality_laws.proofs.FunctionLemmas.{same-ancestors}
 use Rattle.xp_locality_laws.proofs.StandLemmas.{Same, no_nodes, same-bind, same-cond, same-done, same-gather, same-made, same-visit}
 use Rattle.xp_locality_laws.proofs.TestLemmas.{Alike, alike-mem, alike-or, alike-self, filter-alike, order-stays, orders-filtered, stay-filter, stay-mem}
-use Rattle.xslt_match.specs.Matching.{chains, is_anywhere, is_left, leads, led_to, path_matches, reaches, some_path, standing, starts, step_of, survives, survivors}
+use Rattle.xslt_match.specs.Ways.{is_anywhere, looks_there}
+use Rattle.xslt_match.specs.Matching.{chains, is_left, leads, led_to, path_matches, reaches, some_path, standing, starts, step_of, survives, survivors}
 use Rattle.xslt_match.specs.Positional.{some_positional}
-use Rattle.xslt_match.specs.inner.Leading.{fits, holder, is_beside, looks_there}
+use Rattle.xslt_match.specs.inner.Leading.{fits, holder, is_beside}
 use Rattle.xslt_match.proofs.Filters.{any-same, any-swap, filter-swap}
 use Rattle.xslt_match.proofs.StepsAlong.{leads_is, reach_above, reaches_from}
 use Rattle.xslt_locality_laws.specs.Locality.{PatternsAreLocal}

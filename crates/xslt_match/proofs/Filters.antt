@@ -194,11 +194,6 @@ given h p (x ∷ xs) e = by (h x) refl e (λ k. given-later h p x xs (given h p 
         here true same g = record { source = x; listed = rw (eq-eqb x x refl) refl; gives = eo ∙ ap Some (sym (eqb-true p y same)) }
         here false same g = more g
 
--- what holds of the value, if there is one, in other words
-pub some_weaker : (o : Option ℕ) (P Q : ℕ → Type 0) → ((m : ℕ) → P m → Q m) → IfSome o P → IfSome o Q
-some_weaker None P Q f h = h
-some_weaker (Some m) P Q f h = f m h
-
 -- one item more
 pub given_more : (h : ℕ → Option ℕ) (xs : List ℕ) (i d : ℕ) → i < length xs → filter_map h (take (i + 1) xs) ≡ filter_map h (take i xs) ++ cons_option (h (get_or xs i d)) []
 given_more h xs i d short =

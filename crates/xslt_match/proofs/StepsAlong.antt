@@ -20,8 +20,10 @@ use Rattle.doc_axes.proofs.SubLists.{sub-one, filter-sub, filter-none, filter-sa
 use Rattle.doc_axes.proofs.AxisLemmas.{ancestor_or_self_axis}
 use Rattle.xp_typed_tree.specs.TypedTree.{TypedPatternStepTree}
 use Rattle.xp_typed_tree.specs.WellTyped.{is_pattern_axis, PatternStepsTyped}
-use Rattle.xslt_match.specs.Matching.{is_anywhere, is_candidate, leads, led_to, reaches, starts, standing}
-use Rattle.xslt_match.specs.inner.Leading.{is_beside, fits, holder, looks_at, looks_there, OnOneWay}
+use Rattle.xslt_ways.specs.Ways.{is_anywhere, looks_at, looks_there, OnOneWay}
+use Rattle.xslt_ways.proofs.WayLemmas.{above_above, one_way}
+use Rattle.xslt_match.specs.Matching.{is_candidate, leads, led_to, reaches, starts, standing}
+use Rattle.xslt_match.specs.inner.Leading.{is_beside, fits, holder}
 use Rattle.xslt_match.proofs.Filters.{iff, and-false, and-true, or-false, eqb-turned, any-same, any-none, any-either, any-swap, filter-swap, filter-narrow, any-one, mem-out, Found, found, kept-passes, kept-listed, any-given, Given, given}
 
 -- a test of the nodes that a step leads to from some nodes, by each of these
@@ -111,26 +113,6 @@ one-is (Some p) m h = ap Some (sym (eqb-true m p h))
 is-one : (o : Option ℕ) (m : ℕ) → o ≡ Some m → is_one o m ≡ true
 is-one o m e = rw e (eq-eqb m m refl)
 
--- where a is above p, so is all above a
-covered : (T : Table) (a p m : ℕ) → (mem m (above T a) ≡ true → mem m (above T p) ≡ true) → mem m (above T p) ≡ (mem m (above T a) || mem m (above T p))
-covered T a p m h = by (mem m (above T a)) h
-  where
-    by : (b : Bool) → (b ≡ true → mem m (above T p) ≡ true) → mem m (above T p) ≡ (b || mem m (above T p))
-    by true g = g refl
-    by false g = refl
-
-or-second : (a b : Bool) → (a || b) ≡ true → a ≡ false → b ≡ true
-or-second true b h e = absurd (true≢false e)
-or-second false b h e = h
-
-or-first : (a b : Bool) → a ≡ true → (a || b) ≡ true
-or-first true b e = refl
-or-first false b e = absurd (true≢false (sym e))
-
-or-last : (a b : Bool) → b ≡ true → (a || b) ≡ true
-or-last true b e = refl
-or-last false b e = e
-
 or-swapped : (a b : Bool) → ((a && true) || b) ≡ (b || a)
 or-swapped true true = refl
 or-swapped true false = refl
@@ -217,63 +199,6 @@ module _ (T : Table) (form : WellFormed T) (ord : Ordered T) (up : HasWaysUp T) 
       list_any (λ m. leads T s m k) ms ≡ list_any (λ m. looks_there T (is_anywhere s.join) m (holder T s k)) ms
   led_is s ms k h = any-same (λ m. leads T s m k) (λ m. looks_there T (is_anywhere s.join) m (holder T s k)) ms (λ m. leads_is s m k h)
 
-  -- what is above a node is above all for which that node is above
-  pub above_above : (d k j n : ℕ) → length (ancestors T n) ≤ d → mem k (above T j) ≡ true → mem j (above T n) ≡ true → mem k (above T n) ≡ true
-  above_above zero k j n short hk hj =
-      ⊎_elim (λ (e : j ≡ n). subst (λ q. mem k (above T q) ≡ true) e hk)
-      (λ (g : In j (ancestors T n)). absurd (let l : 1 ≤ length (ancestors T n) = In-length j (ancestors T n) g in omega (arith, l, short)))
-      (In-cons j n (ancestors T n) (mem-In j (above T n) hj))
-  above_above (suc d) k j n short hk hj =
-      ⊎_elim (λ (e : j ≡ n). subst (λ q. mem k (above T q) ≡ true) e hk)
-      (λ (g : In j (ancestors T n)). deeper (parent_of T n) refl (In-mem j (ancestors T n) g) (λ q l i. above_above d k j q l hk i))
-      (In-cons j n (ancestors T n) (mem-In j (above T n) hj))
-    where
-      deeper : (o : Option ℕ) → parent_of T n ≡ o → mem j (ancestors T n) ≡ true →
-          ((q : ℕ) → length (ancestors T q) ≤ d → mem j (above T q) ≡ true → mem k (above T q) ≡ true) → mem k (above T n) ≡ true
-      deeper None e g more = absurd (true≢false (sym g ∙ ap (mem j) (up.no_ancestors n e)))
-      deeper (Some q) e g more =
-          let way : ancestors T n ≡ q ∷ ancestors T q = up.ancestors_at n q e in
-          mem-tail k n (ancestors T n) (ap (mem k) way ∙ more q (omega (arith, short, ap length way)) (sym (ap (mem j) way) ∙ g))
-
-  -- below a node that isn't above another no node is above that
-  pub not_above : (a m p : ℕ) → mem a (above T p) ≡ false → mem a (above T m) ≡ true → false ≡ mem m (above T p)
-  not_above a m p no_a h = by (mem m (above T p)) refl
-    where
-      by : (b : Bool) → mem m (above T p) ≡ b → false ≡ b
-      by true e = sym no_a ∙ above_above (length (ancestors T p)) a m p (omega arith) h e
-      by false e = refl
-
-  -- of two nodes above another one is above the other
-  one_way : (d a b n : ℕ) → length (ancestors T n) ≤ d → mem a (above T n) ≡ true → mem b (above T n) ≡ true → (mem a (above T b) || mem b (above T a)) ≡ true
-  one_way zero a b n short ha hb =
-      ⊎_elim (λ (e : a ≡ n). or-last (mem a (above T b)) (mem b (above T a)) (subst (λ q. mem b (above T q) ≡ true) (sym e) hb))
-      (λ (g : In a (ancestors T n)). absurd (let l : 1 ≤ length (ancestors T n) = In-length a (ancestors T n) g in omega (arith, l, short)))
-      (In-cons a n (ancestors T n) (mem-In a (above T n) ha))
-  one_way (suc d) a b n short ha hb =
-      ⊎_elim (λ (e : a ≡ n). or-last (mem a (above T b)) (mem b (above T a)) (subst (λ q. mem b (above T q) ≡ true) (sym e) hb))
-      (λ (g : In a (ancestors T n)). ⊎_elim
-      (λ (e : b ≡ n). or-first (mem a (above T b)) (mem b (above T a)) (subst (λ q. mem a (above T q) ≡ true) (sym e) ha))
-      (λ (f : In b (ancestors T n)). higher (parent_of T n) refl (In-mem a (ancestors T n) g) (In-mem b (ancestors T n) f) (λ q l i j. one_way d a b q l i j))
-      (In-cons b n (ancestors T n) (mem-In b (above T n) hb)))
-      (In-cons a n (ancestors T n) (mem-In a (above T n) ha))
-    where
-      higher : (o : Option ℕ) → parent_of T n ≡ o → mem a (ancestors T n) ≡ true → mem b (ancestors T n) ≡ true →
-          ((q : ℕ) → length (ancestors T q) ≤ d → mem a (above T q) ≡ true → mem b (above T q) ≡ true → (mem a (above T b) || mem b (above T a)) ≡ true) →
-          (mem a (above T b) || mem b (above T a)) ≡ true
-      higher None e ga gb more = absurd (true≢false (sym ga ∙ ap (mem a) (up.no_ancestors n e)))
-      higher (Some q) e ga gb more =
-          let way : ancestors T n ≡ q ∷ ancestors T q = up.ancestors_at n q e in
-          more q (omega (arith, short, ap length way)) (sym (ap (mem a) way) ∙ ga) (sym (ap (mem b) way) ∙ gb)
-
-  -- the deeper of two nodes on one way has all above it that is above one of them
-  pub deeper_below : (a p m : ℕ) → mem a (above T p) ≡ true → mem m (above T p) ≡ (mem m (above T a) || mem m (above T p))
-  deeper_below a p m h = covered T a p m (λ g. above_above (length (ancestors T p)) m a p (omega arith) g h)
-
-  pub deeper_above : (a p m : ℕ) → (mem a (above T p) || mem p (above T a)) ≡ true → mem a (above T p) ≡ false →
-      mem m (above T a) ≡ (mem m (above T a) || mem m (above T p))
-  deeper_above a p m h e =
-      deeper_below p a m (or-second (mem a (above T p)) (mem p (above T a)) h e) ∙ or_comm (mem m (above T p)) (mem m (above T a))
-
   -- a step leads from above the node
   pub lead_above : (s : TypedPatternStepTree) (m k : ℕ) → is_pattern_axis s.axis ≡ true → leads T s m k ≡ true → mem m (above T k) ≡ true
   lead_above s m k h l = by (fits T s k) (parent_of T k) refl (is_anywhere s.join) (sym (leads_is s m k h) ∙ l)
@@ -292,7 +217,7 @@ module _ (T : Table) (form : WellFormed T) (ord : Ordered T) (up : HasWaysUp T) 
       let f : Found (λ j. reaches T ss (j ∷ []) n) (led_to T s (k ∷ [])) =
       found (λ j. reaches T ss (j ∷ []) n) (led_to T s (k ∷ [])) (sym (reaches_from T ss (led_to T s (k ∷ [])) n) ∙ g) in
       let l : (leads T s k f.at || false) ≡ true = kept-passes (λ j. leads T s k j || false) f.at (order T) f.listed in
-      above_above (length (ancestors T n)) k f.at n (omega arith) (lead_above s k f.at h.0 (sym (or-false (leads T s k f.at)) ∙ l))
+      above_above T form ord up (length (ancestors T n)) k f.at n (omega arith) (lead_above s k f.at h.0 (sym (or-false (leads T s k f.at)) ∙ l))
       (reach_above ss f.at n h.2 f.passes)
 
   pub start : (n : ℕ) → is_live T n ≡ true → n ∷ [] ≡ filter (λ k. reaches T [] (k ∷ []) n) (order T)
@@ -341,14 +266,14 @@ module _ (T : Table) (form : WellFormed T) (ord : Ordered T) (up : HasWaysUp T) 
   holders_way steps rest front s nodes holders n typed g e eh =
       let parted : steps ≡ (front ++ s ∷ []) ++ g.passed = g.parted ∙ ap (λ l. l ++ g.passed) e in
       let later : PatternStepsTyped (s ∷ g.passed) = typed_at front s g.passed (subst PatternStepsTyped parted typed) in
-      λ a b ha hb. one_way (length (ancestors T n)) a b n (omega arith) (on a later.2 (sym (ap (mem a) eh) ∙ ha)) (on b later.2 (sym (ap (mem b) eh) ∙ hb))
+      λ a b ha hb. one_way T form ord up (length (ancestors T n)) a b n (omega arith) (on a later.2 (sym (ap (mem a) eh) ∙ ha)) (on b later.2 (sym (ap (mem b) eh) ∙ hb))
     where
       on : (p : ℕ) → PatternStepsTyped g.passed → mem p (filter_map (holder T s) nodes) ≡ true → mem p (above T n) ≡ true
       on p later h =
           let f : Given (holder T s) p nodes = given (holder T s) p nodes h in
           let r : reaches T g.passed (f.source ∷ []) n ≡ true =
           kept-passes (λ k. reaches T g.passed (k ∷ []) n) f.source (order T) (sym (ap (mem f.source) g.lead_on) ∙ f.listed) in
-          above_above (length (ancestors T n)) p f.source n (omega arith) (holder_above s f.source p f.gives) (reach_above g.passed f.source n later r)
+          above_above T form ord up (length (ancestors T n)) p f.source n (omega arith) (holder_above s f.source p f.gives) (reach_above g.passed f.source n later r)
 
   -- one step more is passed
   pub going_on : (steps rest front : List TypedPatternStepTree) (s : TypedPatternStepTree) (nodes holders ends way next : List ℕ) (n : ℕ) →

@@ -1,3 +1,4 @@
+pub use Rattle.xslt_ways.specs.Ways
 pub mod Positional
 pub mod Matching
 pub mod Kept

@@ -8,23 +8,17 @@ use Rattle.doc_tree.specs.Table.{Table, parent_of}
 use Rattle.doc_tree.specs.Walks.{order}
 use Rattle.doc_axes.specs.Axes.{on_axis}
 use Rattle.doc_axes.specs.NodeTests.{passes}
-use Rattle.xp_tree.specs.declared.pattern.Join.{Join}
-use Rattle.xp_tree.specs.declared.pattern.Join.TheVariants as joins
 use Rattle.xp_typed_tree.specs.TypedTree.{TypedPatternStepTree, TypedPathTree}
 use Rattle.xp_outcome.specs.Evaluation.{Evaluation, done, bind, visit, gather}
 use Rattle.xp_values.specs.declared.values.EvalFault.{EvalFault}
 use Rattle.xp_meaning.specs.Paths.{Step, step_at, placed}
 use Rattle.xp_meaning.specs.Evaluation.{Lets, meanings, all_true}
+use Rattle.xslt_ways.specs.Ways.{is_anywhere}
 use Rattle.xslt_match.specs.Positional.{some_positional}
 
 -- a step as expressions have it
 abbrev pub step_of : Table → Lets → TypedPatternStepTree → Step
 step_of T L s = record { axis = s.axis; test = s.test; predicates = meanings T L s.predicates }
-
-abbrev pub is_anywhere : Join → Bool
-is_anywhere joins.Nothing = false
-is_anywhere joins.Slash = false
-is_anywhere joins.DoubleSlash = true
 
 -- a node is a candidate of a step at another one, the step's predicates left out
 abbrev pub is_candidate : Table → TypedPatternStepTree → ℕ → ℕ → Bool

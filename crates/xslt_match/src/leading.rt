@@ -3,8 +3,8 @@
 //! A step leads downwards, so that the nodes of a chain to a node stand on the way from the root to it: only these are
 //! looked at.
 
-ghost use Rattle.std.specs.Prelude.{◌≡◌, ◌++◌, ◌∷◌, ◌||◌, [], ℕ, List, true, false, Some};
-ghost use Rattle.std.specs.Prelude.{filter, map, IfOk, IfSome, OnOk};
+ghost use Rattle.std.specs.Prelude.{◌≡◌, ◌++◌, ◌∷◌, [], ℕ, true, false, Some};
+ghost use Rattle.std.specs.Prelude.{filter, map, IfOk, OnOk};
 ghost use Rattle.std.specs.List.{filter_map, list_any};
 ghost use Rattle.doc_tree.specs.Lists.{mem};
 ghost use Rattle.doc_tree.specs.Table.{is_live};
@@ -12,7 +12,7 @@ ghost use Rattle.doc_tree.specs.Walks.{above, order};
 ghost use Rattle.doc_axes.specs.Axes.{backwards, is_attribute_kind};
 ghost use Rattle.xp_typed_tree.specs.TypedView.{pattern_step_seen};
 ghost use Rattle.xp_typed_tree.specs.WellTyped.{is_pattern_axis, PatternStepsTyped};
-ghost use Rattle.xslt_match.specs.inner.Leading.{is_beside, fits, holder, looks_at, looks_there, OnOneWay};
+ghost use Rattle.xslt_match.specs.inner.Leading.{is_beside, fits, holder};
 ghost use Rattle.xslt_match.specs.Matching.{leads, reaches, standing, starts};
 
 use crate::matching::Matcher;
@@ -21,7 +21,8 @@ use doc_tree::{Axis, Kind, NodeId, NodeList, Tree};
 use sch_base::ItemList;
 use std::alloc::{AllocError, Global};
 use xp_eval::Caller;
-use xp_typed_tree::{Join, TypedPatternStep};
+use xp_typed_tree::TypedPatternStep;
+use xslt_ways::{ends_of, looking_at, some_looks_at};
 
 /// The way from the root to a live node: its ancestors and itself, the root first. Costs the depth.
 #[tactic(auto, using(crate::proofs::StepsAlong::way_is))]
@@ -129,69 +130,6 @@ fn is_beside(axis: Axis, kind: Kind) -> bool
     }
 }
 
-/// Whether a step looks for candidates at p from some of the nodes.
-fn some_looks_at(tree: &Tree, join: Join, nodes: &[NodeId], p: NodeId) -> bool
-    ensures { result ≡ list_any (λ m. looks_at tree.now.nodes join m p) nodes.now }
-{
-    match join {
-        Join::DoubleSlash => some_above(tree, nodes, p),
-        _ => nodes.contains(&p),
-    }
-}
-
-/// Whether some of the nodes is p or an ancestor of it. Costs the depth and the number of nodes where they come from
-/// the root downwards on one way.
-fn some_above(tree: &Tree, nodes: &[NodeId], p: NodeId) -> bool
-    ensures { result ≡ list_any (λ m. mem m (above tree.now.nodes p)) nodes.now }
-{
-    let mut passed = None;
-    for m in nodes {
-        if is_above_past(tree, passed, *m, p) {
-            return true;
-        }
-        passed = Some(*m);
-    }
-    false
-}
-
-/// `is_above` of m, where it is known of a node that it isn't above p: then no node below that one is.
-fn is_above_past(tree: &Tree, passed: Option<NodeId>, m: NodeId, p: NodeId) -> bool
-    requires { IfSome passed (λ a. mem a (above tree.now.nodes p) ≡ false) }
-    ensures { result ≡ mem m (above tree.now.nodes p) }
-{
-    tree.laws();
-    if let Some(a) = passed {
-        if is_above(tree, a, m) {
-            return false;
-        }
-    }
-    is_above(tree, m, p)
-}
-
-/// Whether a step from m looks for candidates at p.
-fn looks_at(tree: &Tree, join: Join, m: NodeId, p: NodeId) -> bool
-    ensures { result ≡ looks_at tree.now.nodes join m p }
-{
-    match join {
-        Join::DoubleSlash => is_above(tree, m, p),
-        _ => m == p,
-    }
-}
-
-/// Whether m is p or an ancestor of it. Costs the way up from p to m, or to the root.
-fn is_above(tree: &Tree, m: NodeId, p: NodeId) -> bool
-    ensures { result ≡ mem m (above tree.now.nodes p) }
-{
-    tree.laws();
-    if m == p {
-        return true;
-    }
-    match tree.parent(p) {
-        Some(parent) => is_above(tree, m, parent),
-        None => false,
-    }
-}
-
 impl Matcher<'_> {
     /// The nodes that stand at a step in some chain to the node, by those that stand before it: the step leads to them, and the
     /// later steps lead on to it. Costs for each of the steps the square of the way's length at most.
@@ -260,88 +198,4 @@ fn holders(
         }
     }
     Ok(found)
-}
-
-/// Those of some nodes on one way that tell from where a step looks for candidates at one of them: after `//` the
-/// deepest, else all.
-fn ends_of(alloc: Global, tree: &Tree, join: Join, nodes: NodeList) -> Result<NodeList, AllocError>
-    requires { OnOneWay tree.now.nodes nodes }
-    ensures { IfOk result (λ v. (m : ℕ) →
-        list_any (looks_at tree.now.nodes join m) v ≡ list_any (looks_at tree.now.nodes join m) nodes) }
-{
-    match join {
-        Join::DoubleSlash => deepest_alone(alloc, tree, nodes.as_slice()),
-        _ => Ok(nodes),
-    }
-}
-
-/// The deepest of some nodes on one way, as a list of one node, or of none for none.
-fn deepest_alone(alloc: Global, tree: &Tree, nodes: &[NodeId]) -> Result<NodeList, AllocError>
-    requires { OnOneWay tree.now.nodes nodes.now }
-    ensures { IfOk result (λ v. (m : ℕ) →
-        list_any (λ p. mem m (above tree.now.nodes p)) v ≡ list_any (λ p. mem m (above tree.now.nodes p)) nodes.now) }
-{
-    let mut list = ItemList::new(alloc);
-    if let Some(node) = deepest(tree, nodes) {
-        list.push(node)?;
-    }
-    Ok(list)
-}
-
-/// The deepest of some nodes on one way. Costs the depth where they come from the root downwards.
-fn deepest(tree: &Tree, nodes: &[NodeId]) -> Option<NodeId>
-    requires { OnOneWay tree.now.nodes nodes.now }
-    ensures { (m : ℕ) →
-        looks_there tree.now.nodes true m result ≡ list_any (λ p. mem m (above tree.now.nodes p)) nodes.now }
-{
-    let mut end = None;
-    for p in nodes {
-        end = Some(deeper(tree, end, *p));
-    }
-    end
-}
-
-/// The deeper of two nodes on one way, or the second where there is no first.
-fn deeper(tree: &Tree, end: Option<NodeId>, p: NodeId) -> NodeId
-    requires { IfSome end (λ a. (mem a (above tree.now.nodes p) || mem p (above tree.now.nodes a)) ≡ true) }
-    ensures one { (nodes : List ℕ) →
-        IfSome end (λ a. mem a nodes ≡ true) → mem p nodes ≡ true → mem result nodes ≡ true }
-    ensures below { (m : ℕ) →
-        mem m (above tree.now.nodes result) ≡ (looks_there tree.now.nodes true m end || mem m (above tree.now.nodes p)) }
-{
-    tree.laws();
-    match end {
-        Some(a) => { if is_above(tree, a, p) { p } else { a } }
-        None => p,
-    }
-}
-
-/// Those nodes of the way from which a step looks for candidates at some of the nodes.
-fn looking_at(
-    alloc: Global,
-    tree: &Tree,
-    join: Join,
-    way: &[NodeId],
-    nodes: &[NodeId],
-) -> Result<NodeList, AllocError>
-    ensures { IfOk result (λ v. v ≡ filter (λ m. list_any (looks_at tree.now.nodes join m) nodes.now) way.now) }
-{
-    let mut found = ItemList::new(alloc);
-    for m in way {
-        let looks = looks_at_some(tree, join, *m, nodes);
-        found.push_if(*m, looks)?;
-    }
-    Ok(found)
-}
-
-/// Whether a step from m looks for candidates at some of the nodes.
-fn looks_at_some(tree: &Tree, join: Join, m: NodeId, nodes: &[NodeId]) -> bool
-    ensures { result ≡ list_any (looks_at tree.now.nodes join m) nodes.now }
-{
-    for p in nodes {
-        if looks_at(tree, join, m, *p) {
-            return true;
-        }
-    }
-    false
 }

@@ -9,7 +9,8 @@ ghost use Rattle.xp_meaning.specs.Results.{shown};
 ghost use Rattle.xp_typed_tree.specs.TypedView.{path_seen, pattern_step_seen};
 ghost use Rattle.xp_typed_tree.specs.WellTyped.{PatternStepsTyped};
 ghost use Rattle.xslt_match.specs.Kept.{IsKeptFor};
-ghost use Rattle.xslt_match.specs.Matching.{is_anywhere, starts};
+ghost use Rattle.xslt_match.specs.Matching.{starts};
+ghost use Rattle.xslt_ways.specs.Ways.{is_anywhere};
 ghost use Rattle.xslt_match.specs.inner.Keeping.{IsPathIn, IsPlacedIn};
 ghost use Rattle.xslt_match.specs.inner.OneChain.{all_from_parents, ancestor_over, leads_there, origin, survives_there, tests};
 

@@ -16,7 +16,8 @@ use Rattle.xp_values.specs.declared.values.EvalFault.{EvalFault}
 use Rattle.xp_meaning.specs.Paths.{Step, candidates, filtered, step_at, step_from, path}
 use Rattle.xp_meaning.specs.Evaluation.{Lets, steps_meant}
 use Rattle.xp_meaning.proofs.Choices.{came_before, same_ok}
-use Rattle.xslt_match.specs.Matching.{step_of, is_anywhere, is_candidate, leads, led_to, reaches}
+use Rattle.xslt_match.specs.Ways.{is_anywhere}
+use Rattle.xslt_match.specs.Matching.{step_of, is_candidate, leads, led_to, reaches}
 use Rattle.xslt_match.proofs.Filters.{and-true, or-false, Found, found}
 use Rattle.xslt_match.proofs.StepsAlong.{reaches_from}
 use Rattle.xslt_match_laws.specs.Reading.{after_join, as_steps}

@@ -8,7 +8,8 @@ use Rattle.xp_outcome.specs.Evaluation.{Evaluation, done, bind}
 use Rattle.xp_values.specs.declared.values.EvalFault.{EvalFault}
 use Rattle.xp_meaning.specs.Evaluation.{Lets}
 use Rattle.xslt_match.specs.inner.Leading.{holder}
-use Rattle.xslt_match.specs.Matching.{is_anywhere, leads, survives}
+use Rattle.xslt_ways.specs.Ways.{is_anywhere}
+use Rattle.xslt_match.specs.Matching.{leads, survives}
 
 -- whether no step stands after `//`
 abbrev pub all_from_parents : List TypedPatternStepTree → Bool

@@ -2,9 +2,8 @@
 use Rattle.std.proofs.Common.{None, sym, ap, ◌∙◌, refl}
 use Rattle.std.specs.List.{list_any}
 use Rattle.xp_typed_tree.specs.TypedView.{pattern_step_seen}
-use Rattle.xslt_match.specs.Matching.{is_anywhere}
+use Rattle.xslt_ways.specs.Ways.{is_anywhere, looks_there}
 use Rattle.xslt_match.proofs.Filters.{any-none}
-use Rattle.xslt_match.specs.inner.Leading.{looks_there}
 use Rattle.xslt_match.proofs.StepsAlong.{led_is}
 use Rattle.xslt_match.proofs.leading.is_led_to.Goals as goal
 

@@ -4,7 +4,8 @@ use Rattle.std.proofs.lemmas.List.{map-append}
 use Rattle.std.specs.List.{list_any, filter_map}
 use Rattle.xp_typed_tree.specs.TypedView.{pattern_step_seen}
 use Rattle.xp_typed_tree.specs.TypedTree.{TypedPatternStepTree}
-use Rattle.xslt_match.specs.inner.Leading.{holder, looks_at}
+use Rattle.xslt_ways.specs.Ways.{looks_at}
+use Rattle.xslt_match.specs.inner.Leading.{holder}
 use Rattle.xslt_match.proofs.StepsAlong.{start, going_on, holders_way}
 use Rattle.xslt_match.proofs.leading.origins.Goals as goal
 

@@ -4,8 +4,8 @@ use Rattle.std.proofs.lemmas.Result.{IfOk-weaker}
 use Rattle.std.specs.List.{list_any}
 use Rattle.doc_tree.specs.Lists.{mem}
 use Rattle.doc_tree.specs.Walks.{above}
-use Rattle.xslt_match.specs.inner.Leading.{looks_at}
-use Rattle.xslt_match.proofs.leading.ends_of.Goals as goal
+use Rattle.xslt_ways.specs.Ways.{looks_at}
+use Rattle.xslt_ways.proofs.looking.ends_of.Goals as goal
 
 pub returns-in-DoubleSlash : goal.returns-in-DoubleSlash
 returns-in-DoubleSlash c =

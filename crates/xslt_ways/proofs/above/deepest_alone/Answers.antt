@@ -3,10 +3,10 @@ use Rattle.std.proofs.Common.{ℕ, ◌++◌, ◌∷◌, [], Bool, true, sym, ap,
 use Rattle.std.specs.List.{list_any}
 use Rattle.doc_tree.specs.Lists.{mem}
 use Rattle.doc_tree.specs.Walks.{above}
-use Rattle.xslt_match.specs.inner.Leading.{looks_there}
-use Rattle.xslt_match.proofs.Filters.{or-false}
-use Rattle.xslt_match.proofs.leading.deepest_alone.Goals as goal
-use Rattle.xslt_match.proofs.leading.deepest_alone.Goals.{in-Some+in_ok-push, in_default}
+use Rattle.xslt_ways.specs.Ways.{looks_there}
+use Rattle.xslt_ways.proofs.WayLemmas.{or-false}
+use Rattle.xslt_ways.proofs.above.deepest_alone.Goals as goal
+use Rattle.xslt_ways.proofs.above.deepest_alone.Goals.{in-Some+in_ok-push, in_default}
 
 pub returns : goal.returns
 returns c = λ m.

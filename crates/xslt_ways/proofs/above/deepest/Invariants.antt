@@ -2,8 +2,8 @@ use Rattle.std.proofs.Common.{◌≡◌, ℕ, true, take, IfSome}
 use Rattle.std.specs.List.{list_any}
 use Rattle.doc_tree.specs.Lists.{mem}
 use Rattle.doc_tree.specs.Walks.{above}
-use Rattle.xslt_match.specs.inner.Leading.{looks_there}
-use Rattle.xslt_match.proofs.leading.deepest.Given as goal
+use Rattle.xslt_ways.specs.Ways.{looks_there}
+use Rattle.xslt_ways.proofs.above.deepest.Given as goal
 
 abbrev pub invariant-loop-p : goal.invariant-loop-p
 invariant-loop-p l = record {

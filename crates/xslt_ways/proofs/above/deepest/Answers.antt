@@ -5,8 +5,8 @@ use Rattle.std.specs.List.{list_any}
 use Rattle.doc_tree.specs.Lists.{mem}
 use Rattle.doc_tree.specs.Walks.{above}
 use Rattle.doc_tree.proofs.ListLemmas.{mem-get}
-use Rattle.xslt_match.proofs.Filters.{some_weaker}
-use Rattle.xslt_match.proofs.leading.deepest.Goals as goal
+use Rattle.xslt_ways.proofs.WayLemmas.{some_weaker}
+use Rattle.xslt_ways.proofs.above.deepest.Goals as goal
 
 pub deeper-requires : goal.deeper-requires
 deeper-requires c =

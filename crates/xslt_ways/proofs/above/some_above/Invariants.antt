@@ -2,7 +2,7 @@ use Rattle.std.proofs.Common.{◌≡◌, false, take, IfSome}
 use Rattle.std.specs.List.{list_any}
 use Rattle.doc_tree.specs.Lists.{mem}
 use Rattle.doc_tree.specs.Walks.{above}
-use Rattle.xslt_match.proofs.leading.some_above.Given as goal
+use Rattle.xslt_ways.proofs.above.some_above.Given as goal
 
 abbrev pub invariant-loop-m : goal.invariant-loop-m
 invariant-loop-m l = record {

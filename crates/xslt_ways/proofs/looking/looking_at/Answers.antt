@@ -2,8 +2,8 @@
 use Rattle.std.proofs.Common.{◌≡◌, ℕ, ◌+◌, ◌++◌, ◌∷◌, [], List, Bool, cond, take, get_or, filter, sym, ap, ap₂, ◌∙◌}
 use Rattle.std.proofs.lemmas.List.Elements.{filter_more}
 use Rattle.std.specs.List.{list_any}
-use Rattle.xslt_match.specs.inner.Leading.{looks_at}
-use Rattle.xslt_match.proofs.leading.looking_at.Goals as goal
+use Rattle.xslt_ways.specs.Ways.{looks_at}
+use Rattle.xslt_ways.proofs.looking.looking_at.Goals as goal
 
 pub loop-m-preserved : goal.loop-m-preserved
 loop-m-preserved c =

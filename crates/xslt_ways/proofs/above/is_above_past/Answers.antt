@@ -2,8 +2,8 @@
 use Rattle.std.proofs.Common.{◌≡◌, false, IfSome, sym, ◌∙◌, subst}
 use Rattle.doc_tree.specs.Lists.{mem}
 use Rattle.doc_tree.specs.Walks.{above}
-use Rattle.xslt_match.proofs.StepsAlong.{not_above}
-use Rattle.xslt_match.proofs.leading.is_above_past.Goals as goal
+use Rattle.xslt_ways.proofs.WayLemmas.{not_above}
+use Rattle.xslt_ways.proofs.above.is_above_past.Goals as goal
 
 pub returns-then-is_above : goal.returns-then-is_above
 returns-then-is_above c =

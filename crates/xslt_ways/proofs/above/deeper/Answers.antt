@@ -2,9 +2,9 @@
 use Rattle.std.proofs.Common.{◌≡◌, ℕ, true, ◌||◌, IfSome, sym, ap, ◌∙◌, subst}
 use Rattle.doc_tree.specs.Lists.{mem}
 use Rattle.doc_tree.specs.Walks.{above}
-use Rattle.xslt_match.specs.inner.Leading.{looks_there}
-use Rattle.xslt_match.proofs.StepsAlong.{deeper_below, deeper_above}
-use Rattle.xslt_match.proofs.leading.deeper.Goals as goal
+use Rattle.xslt_ways.specs.Ways.{looks_there}
+use Rattle.xslt_ways.proofs.WayLemmas.{deeper_below, deeper_above}
+use Rattle.xslt_ways.proofs.above.deeper.Goals as goal
 
 pub returns-then-is_above-clause-below : goal.returns-then-is_above-clause-below
 returns-then-is_above-clause-below c = λ m.
