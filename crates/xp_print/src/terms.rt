@@ -207,12 +207,17 @@ pub(crate) fn add_test(out: &mut String, test: &StepTest) -> Result<(), AllocErr
         StepTest::Chars => add(out, "text()"),
         StepTest::Comment => add(out, "comment()"),
         StepTest::Pi => add(out, "processing-instruction()"),
-        StepTest::PiNamed { target } => {
-            add(out, "processing-instruction(")?;
-            add_quoted(out, target.as_str())?;
-            add(out, ")")
-        }
+        StepTest::PiNamed { target } => add_pi_test(out, target),
     }
+}
+
+/// Adds a test for processing instructions with this target.
+fn add_pi_test(out: &mut String, target: &Text) -> Result<(), AllocError>
+    ensures { OnOk result (Added (string_bytes out.old) (test_text (tests.PiNamed target.now)) (string_bytes out.new)) }
+{
+    add(out, "processing-instruction(")?;
+    add_quoted(out, target.as_str())?;
+    add(out, ")")
 }
 
 /// Adds a name, with its prefix where it has one.
