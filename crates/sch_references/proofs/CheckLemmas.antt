@@ -18,6 +18,7 @@ use Rattle.sch_references.specs.Order.{IsOrderOf, extends_only, is_sorted}
 use Rattle.sch_references.specs.Places.{Place, first_among}
 use Rattle.sch_references.specs.References.{Known, abstract_id, concrete_id, head_place, is_among, item_places, known_in, origin_place, pattern_places, phase_places, places_with, reference_places, rule_places, unknown_rule}
 use Rattle.sch_references.specs.inner.Firsts.{with_rules}
+use Rattle.sch_references.specs.inner.KnownIds.{no_parts, with_parts}
 use Rattle.sch_references.specs.Ended.{Refuses}
 use Rattle.sch_model.specs.declared.fault.SchemaError.{SchemaError}
 use Rattle.sch_references.specs.inner.Order.{Found, Sorted, is_settled, is_sorted_among, settles}
@@ -254,11 +255,15 @@ order-of schema firsts (Some o) order none is h e =
     subst (IsOrderOf (abstract_rules schema)) same (is-order schema none o r.0 r.1)
 
 -- the ids that are kept are those of the schema
-pub known-parts : (rules : List RawRule) (a p f d : List (List ℕ)) (schema : RawSchema) → rules ≡ with_rules [] (abstract_rules schema) → is_among a ≡ is_among (flat_map abstract_id schema.patterns) →
-    is_among p ≡ is_among (flat_map concrete_id schema.patterns) → is_among f ≡ is_among (map (λ phase. phase.id) schema.phases) → is_among d ≡ is_among (map (λ diagnostic. diagnostic.id) schema.diagnostics) →
-    record { is_abstract_rule = is_named rules; is_abstract_pattern = is_among a; is_pattern = is_among p; is_phase = is_among f; is_diagnostic = is_among d } ≡ known_in schema
-known-parts rules a p f d schema same ha hp hf hd =
-    λ t. record { is_abstract_rule = λ name. one name t; is_abstract_pattern = ha t; is_pattern = hp t; is_phase = hf t; is_diagnostic = hd t }
+pub known-parts : (rules : List RawRule) (schema : RawSchema) → rules ≡ with_rules [] (abstract_rules schema) → with_parts (no_parts rules) schema ≡ known_in schema
+known-parts rules schema same =
+    λ t. record {
+      is_abstract_rule = λ name. one name t;
+      is_abstract_pattern = is_among (flat_map abstract_id schema.patterns);
+      is_pattern = is_among (flat_map concrete_id schema.patterns);
+      is_phase = is_among (map (λ phase. phase.id) schema.phases);
+      is_diagnostic = is_among (map (λ diagnostic. diagnostic.id) schema.diagnostics);
+    }
   where
     one : (name : List ℕ) → is_named rules name ≡ is_named (abstract_rules schema) name
     one name = ap (λ (rs : List RawRule). is_named rs name) same ∙ firsts-named [] (abstract_rules schema) name

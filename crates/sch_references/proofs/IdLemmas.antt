@@ -10,21 +10,32 @@ use Rattle.sch_references.specs.References.{is_among}
 use Rattle.sch_references.specs.inner.KnownIds.{with_ids}
 use Rattle.sch_references.proofs.WalkLemmas.{all_taken, flat_map-next}
 
-pub among-append : (xs ys : List (List ℕ)) → is_among (xs ++ ys) ≡ with_ids (is_among xs) ys
-among-append xs ys = λ t name. list_any-append (bytes_eq name) xs ys t
+pub with-nothing : (test : List ℕ → Bool) → with_ids test [] ≡ test
+with-nothing test = λ t name. or-false (test name) t
+  where
+    or-false : (b : Bool) → (b || false) ≡ b
+    or-false true = refl
+    or-false false = refl
+
+with-append : (test : List ℕ → Bool) (xs ys : List (List ℕ)) → with_ids test (xs ++ ys) ≡ with_ids (with_ids test xs) ys
+with-append test xs ys = λ t name. by (test name) name t
+  where
+    by : (b : Bool) (name : List ℕ) → (b || is_among (xs ++ ys) name) ≡ ((b || is_among xs name) || is_among ys name)
+    by true name = refl
+    by false name = list_any-append (bytes_eq name) xs ys
 
 -- a walk so far, one item more, and all items
-pub among-next : {A : Type 0} (g : A → List (List ℕ)) (xs : List A) (i : ℕ) (x : A) (now new : List (List ℕ)) → x ≡ slice_index_or xs i x → i < length xs →
-    is_among now ≡ is_among (flat_map g (take i xs)) → is_among new ≡ with_ids (is_among now) (g x) → is_among new ≡ is_among (flat_map g (take (i + 1) xs))
-among-next g xs i x now new is less so_far here =
+pub among-next : (test : List ℕ → Bool) {A : Type 0} (g : A → List (List ℕ)) (xs : List A) (i : ℕ) (x : A) (now new : List (List ℕ)) → x ≡ slice_index_or xs i x → i < length xs →
+    is_among now ≡ with_ids test (flat_map g (take i xs)) → is_among new ≡ with_ids (is_among now) (g x) → is_among new ≡ with_ids test (flat_map g (take (i + 1) xs))
+among-next test g xs i x now new is less so_far here =
     here
-    ∙ ap (λ test. with_ids test (g x)) so_far
-    ∙ sym (among-append (flat_map g (take i xs)) (g x))
-    ∙ ap is_among (sym (flat_map-next g xs i x is less))
+    ∙ ap (λ known. with_ids known (g x)) so_far
+    ∙ sym (with-append test (flat_map g (take i xs)) (g x))
+    ∙ ap (with_ids test) (sym (flat_map-next g xs i x is less))
 
-pub among-all : {A : Type 0} (g : A → List (List ℕ)) (xs : List A) (i : ℕ) (now : List (List ℕ)) → length xs ≤ i → i ≤ length xs →
-    is_among now ≡ is_among (flat_map g (take i xs)) → is_among now ≡ is_among (flat_map g xs)
-among-all g xs i now least most so_far = so_far ∙ ap (λ ys. is_among (flat_map g ys)) (all_taken xs i least most)
+pub among-all : (test : List ℕ → Bool) {A : Type 0} (g : A → List (List ℕ)) (xs : List A) (i : ℕ) (now : List (List ℕ)) → length xs ≤ i → i ≤ length xs →
+    is_among now ≡ with_ids test (flat_map g (take i xs)) → is_among now ≡ with_ids test (flat_map g xs)
+among-all test g xs i now least most so_far = so_far ∙ ap (λ ys. with_ids test (flat_map g ys)) (all_taken xs i least most)
 
 -- a name is found where one is kept with the same bytes
 pub among-kept : (name : List ℕ) (keys : List (String Global)) → list_any (λ k. bytes_eq name (string_bytes k)) keys ≡ is_among (map string_bytes keys) name

@@ -1,13 +1,13 @@
 //! The ids of a schema.
 
-ghost use Rattle.std.specs.Prelude.{◌≡◌, ◌∷◌, [], map, OnOk, IfOk};
+ghost use Rattle.std.specs.Prelude.{◌≡◌, ◌∷◌, [], Some, map, IsSome, OnOk, IfOk};
 ghost use Rattle.std.specs.List.{flat_map};
 ghost use Rattle.sch_references.specs.Cycles.{leads_back, leads_to};
 ghost use Rattle.sch_references.specs.Extends.{abstract_rules};
 ghost use Rattle.sch_references.specs.References.{abstract_id, concrete_id, is_among, known_in};
 ghost use Rattle.sch_references.specs.inner.Firsts.{with_rules};
 ghost use Rattle.sch_references.specs.inner.Order.{Found};
-ghost use Rattle.sch_references.specs.inner.KnownIds.{known_by, with_ids};
+ghost use Rattle.sch_references.specs.inner.KnownIds.{known_by, no_parts, with_ids, with_parts};
 
 use crate::order::RuleOrder;
 use indexmap::IndexSet;
@@ -66,7 +66,7 @@ impl IdSet {
     }
 
     /// Adds the id of a pattern, where it has one and is abstract.
-    fn add_abstract(&mut self, pattern: &RawPattern) -> Result<(), AllocError>
+    fn add_abstract_pattern(&mut self, pattern: &RawPattern) -> Result<(), AllocError>
         ensures { OnOk result (is_among self.new ≡ with_ids (is_among self.old) (abstract_id pattern.now)) }
     {
         if !pattern.is_abstract {
@@ -78,56 +78,52 @@ impl IdSet {
         }
     }
 
+    /// Adds the ids of abstract patterns.
+    fn add_abstract_patterns(&mut self, patterns: &[RawPattern]) -> Result<(), AllocError>
+        ensures { OnOk result (is_among self.new ≡ with_ids (is_among self.old) (flat_map abstract_id patterns.now)) }
+    {
+        for pattern in patterns {
+            self.add_abstract_pattern(pattern)?;
+        }
+        Ok(())
+    }
+
+    /// Adds the ids of patterns that aren't abstract.
+    fn add_patterns(&mut self, patterns: &[RawPattern]) -> Result<(), AllocError>
+        ensures { OnOk result (is_among self.new ≡ with_ids (is_among self.old) (flat_map concrete_id patterns.now)) }
+    {
+        for pattern in patterns {
+            self.add_pattern(pattern)?;
+        }
+        Ok(())
+    }
+
+    /// Adds the ids of phases.
+    fn add_phases(&mut self, phases: &[Phase]) -> Result<(), AllocError>
+        ensures { OnOk result (is_among self.new ≡ with_ids (is_among self.old) (map (λ phase. phase.id) phases.now)) }
+    {
+        for phase in phases {
+            self.add(phase.id.as_str())?;
+        }
+        Ok(())
+    }
+
+    /// Adds the ids of diagnostics.
+    fn add_diagnostics(&mut self, diagnostics: &[Diagnostic]) -> Result<(), AllocError>
+        ensures { OnOk result (is_among self.new ≡ with_ids (is_among self.old) (map (λ diagnostic. diagnostic.id) diagnostics.now)) }
+    {
+        for diagnostic in diagnostics {
+            self.add(diagnostic.id.as_str())?;
+        }
+        Ok(())
+    }
+
     /// Whether the name is one of the ids.
     pub(crate) fn has(&self, name: &str) -> bool
         ensures { result ≡ is_among self.now name.now }
     {
         self.ids.contains(name)
     }
-}
-
-/// The ids of abstract patterns.
-fn abstract_pattern_ids(alloc: Global, patterns: &[RawPattern]) -> Result<IdSet, AllocError>
-    ensures { IfOk result (λ ids. is_among ids ≡ is_among (flat_map abstract_id patterns.now)) }
-{
-    let mut ids = IdSet::new(alloc);
-    for pattern in patterns {
-        ids.add_abstract(pattern)?;
-    }
-    Ok(ids)
-}
-
-/// The ids of patterns that aren't abstract.
-fn pattern_ids(alloc: Global, patterns: &[RawPattern]) -> Result<IdSet, AllocError>
-    ensures { IfOk result (λ ids. is_among ids ≡ is_among (flat_map concrete_id patterns.now)) }
-{
-    let mut ids = IdSet::new(alloc);
-    for pattern in patterns {
-        ids.add_pattern(pattern)?;
-    }
-    Ok(ids)
-}
-
-/// The ids of phases.
-fn phase_ids(alloc: Global, phases: &[Phase]) -> Result<IdSet, AllocError>
-    ensures { IfOk result (λ ids. is_among ids ≡ is_among (map (λ phase. phase.id) phases.now)) }
-{
-    let mut ids = IdSet::new(alloc);
-    for phase in phases {
-        ids.add(phase.id.as_str())?;
-    }
-    Ok(ids)
-}
-
-/// The ids of diagnostics.
-fn diagnostic_ids(alloc: Global, diagnostics: &[Diagnostic]) -> Result<IdSet, AllocError>
-    ensures { IfOk result (λ ids. is_among ids ≡ is_among (map (λ diagnostic. diagnostic.id) diagnostics.now)) }
-{
-    let mut ids = IdSet::new(alloc);
-    for diagnostic in diagnostics {
-        ids.add(diagnostic.id.as_str())?;
-    }
-    Ok(ids)
 }
 
 /// The ids of a schema to which its attributes refer, with the order in which its abstract rules extend one another.
@@ -151,19 +147,66 @@ impl<'a> Ids<'a> {
         ensures ordered { IfOk result (λ ids. Found ids.rules ids.order) }
     {
         let rules = RuleOrder::of(alloc, schema)?;
-        let order = rules.sorted()?;
-        let abstract_patterns = abstract_pattern_ids(alloc, schema.patterns.as_slice())?;
-        let patterns = pattern_ids(alloc, schema.patterns.as_slice())?;
-        let phases = phase_ids(alloc, schema.phases.as_slice())?;
-        let diagnostics = diagnostic_ids(alloc, schema.diagnostics.as_slice())?;
-        Ok(Ids {
+        match rules.sorted() {
+            Ok(order) => Ids::with_order(alloc, rules, order, schema),
+            Err(error) => {
+                drop(rules);
+                Err(error)
+            }
+        }
+    }
+
+    /// The ids of a schema with these abstract rules, in this order.
+    fn with_order(
+        alloc: Global,
+        rules: RuleOrder<'a>,
+        order: Option<RuleOrder<'a>>,
+        schema: &RawSchema,
+    ) -> Result<Ids<'a>, AllocError>
+        ensures known { IfOk result (λ ids. known_by ids ≡ with_parts (no_parts rules.entry) schema.now) }
+        ensures rules { IfOk result (λ ids. ids.rules ≡ rules.entry) }
+        ensures ordered { IfOk result (λ ids. ids.order ≡ order.entry) }
+    {
+        let mut ids = Ids {
             rules,
             order,
-            abstract_patterns,
-            patterns,
-            phases,
-            diagnostics,
-        })
+            abstract_patterns: IdSet::new(alloc),
+            patterns: IdSet::new(alloc),
+            phases: IdSet::new(alloc),
+            diagnostics: IdSet::new(alloc),
+        };
+        match ids.fill(schema) {
+            Ok(()) => Ok(ids),
+            Err(error) => {
+                drop(ids);
+                Err(error)
+            }
+        }
+    }
+
+    /// Adds the ids of a schema besides those of its rules.
+    fn fill(&mut self, schema: &RawSchema) -> Result<(), AllocError>
+        ensures added { OnOk result (known_by self.new ≡ with_parts (known_by self.old) schema.now) }
+        ensures rules { OnOk result (self.new.rules ≡ self.old.rules) }
+        ensures ordered { OnOk result (self.new.order ≡ self.old.order) }
+    {
+        let patterns = schema.patterns.as_slice();
+        self.abstract_patterns.add_abstract_patterns(patterns)?;
+        self.patterns.add_patterns(patterns)?;
+        self.phases.add_phases(schema.phases.as_slice())?;
+        self.diagnostics
+            .add_diagnostics(schema.diagnostics.as_slice())?;
+        Ok(())
+    }
+
+    /// The order, where there is one.
+    pub(crate) fn into_order(mut self) -> RuleOrder<'a>
+        requires { IsSome self.order }
+        ensures { self.entry.order ≡ Some result }
+    {
+        let order = self.order.take().unwrap();
+        drop(self);
+        order
     }
 
     /// Whether a name leads to an id by `extends`.

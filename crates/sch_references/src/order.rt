@@ -16,7 +16,6 @@ use std::marker::Model;
 /// Rules with ids of their own in some order, seen by contracts as the list of these rules.
 ///
 /// A rule is lent from the schema. A name is found in constant time.
-#[derive(Drop)]
 pub struct RuleOrder<'a> {
     alloc: Global,
     ids: IndexSet<String>,
@@ -32,6 +31,18 @@ impl<'a> Model for RuleOrder<'a> {
     ghost view = { λ o. map (λ rule. rule.now) o.rules.items };
 
     ghost invariant = { λ o. map (λ rule. rule.id) (map (λ rule. rule.now) o.rules.items) ≡ map (λ id. Some (string_bytes id)) o.ids.keys };
+}
+
+impl Drop for RuleOrder<'_> {
+    fn drop(self) {
+        let RuleOrder {
+            alloc: _,
+            ids,
+            rules,
+        } = self;
+        drop(ids);
+        drop(rules);
+    }
 }
 
 impl<'a> RuleOrder<'a> {
@@ -104,8 +115,8 @@ impl<'a> RuleOrder<'a> {
         let Some(id) = &rule.id else {
             return Ok(());
         };
-        let id = String::from_str(self.alloc, id.as_str())?;
         self.rules.reserve(1)?;
+        let id = String::from_str(self.alloc, id.as_str())?;
         self.ids.insert_full(id)?;
         self.rules.push(rule)?;
         Ok(())

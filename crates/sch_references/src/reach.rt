@@ -1,7 +1,8 @@
 //! To which rules a name leads by `extends`.
 
-ghost use Rattle.std.specs.Prelude.{◌≡◌, [], IfOk, OnOk};
+ghost use Rattle.std.specs.Prelude.{◌≡◌, [], false, IfOk, OnOk};
 ghost use Rattle.std.specs.List.{flat_map};
+ghost use Rattle.std.specs.Str.{bytes_eq};
 ghost use Rattle.sch_references.specs.Cycles.{leads_to};
 ghost use Rattle.sch_model.specs.Items.{extended_in};
 ghost use Rattle.sch_references.specs.References.{is_among};
@@ -72,14 +73,25 @@ impl<'a> RuleOrder<'a> {
             return Ok(true);
         }
         let mut found = self.empty();
-        self.meet(&mut found, name)?;
+        let leads = self.search(&mut found, name, id);
+        drop(found);
+        leads
+    }
+
+    /// The same where the names differ; the rules to which the name leads are put among those found.
+    fn search(&self, found: &mut RuleOrder<'a>, name: &str, id: &str) -> Result<bool, AllocError>
+        requires differ { bytes_eq name.now id.now ≡ false }
+        requires empty { found.old ≡ [] }
+        ensures { IfOk result (λ leads. leads ≡ leads_to self.now name.now id.now) }
+    {
+        self.meet(found, name)?;
         let mut next = 0;
         while next < found.len() {
             let items = found.rule(next).items.as_slice();
             if is_extended(items, id) {
                 return Ok(true);
             }
-            self.meet_items(&mut found, items)?;
+            self.meet_items(found, items)?;
             next += 1;
         }
         Ok(false)

@@ -36,8 +36,11 @@ pub fn check_references<'a>(
 {
     let ids = Ids::of(alloc, schema)?;
     match ids.refuse(alloc, schema) {
-        Ok(()) => Ok(ids.order.unwrap()),
-        Err(error) => Err(error),
+        Ok(()) => Ok(ids.into_order()),
+        Err(error) => {
+            drop(ids);
+            Err(error)
+        }
     }
 }
 

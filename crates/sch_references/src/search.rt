@@ -3,14 +3,14 @@
 ghost use Rattle.std.specs.Prelude.{◌≡◌, ℕ, List, [], ◌∷◌, true, IfOk, OnOk};
 ghost use Rattle.sch_references.specs.Extends.{is_named};
 ghost use Rattle.sch_references.specs.inner.Order.{Found};
-ghost use Rattle.sch_references.specs.inner.Sorting.{After, Busy, Idle, IsLess, NextExtends, Visited, work};
+ghost use Rattle.sch_references.specs.inner.Sorting.{After, Busy, FoundBy, Idle, IsLess, NextExtends, Visited, work};
 
 use crate::order::RuleOrder;
 use sch_model::{RawItem, RawRule};
 use std::alloc::AllocError;
 
 /// A rule that is being followed: the name that led to it, and the items that are left.
-#[derive(Drop)]
+#[derive(Clone, Copy)]
 pub(crate) struct Frame<'a> {
     name: &'a str,
     rule: &'a RawRule,
@@ -137,6 +137,33 @@ impl<'a> Search<'a> {
             None => Ok(true),
         }
     }
+
+    /// Visits all rules; false where there is a cycle.
+    fn visit_all(&mut self, rules: &RuleOrder<'a>) -> Result<bool, AllocError>
+        requires { Idle rules.now self.old }
+        ensures { IfOk result (FoundBy rules.now self.new) }
+    {
+        for place in 0..rules.len() {
+            if !self.visit_rule(rules, rules.rule(place))? {
+                return Ok(false);
+            }
+        }
+        Ok(true)
+    }
+
+    /// The rules in the order in which they were left.
+    fn into_order(self) -> RuleOrder<'a>
+        ensures { result ≡ self.entry.order }
+    {
+        let Search {
+            entered,
+            order,
+            below,
+        } = self;
+        drop(entered);
+        drop(below);
+        order
+    }
 }
 
 impl<'a> RuleOrder<'a> {
@@ -151,11 +178,16 @@ impl<'a> RuleOrder<'a> {
             order: self.empty(),
             below: Vec::new(self.allocator()),
         };
-        for place in 0..self.len() {
-            if !search.visit_rule(self, self.rule(place))? {
-                return Ok(None);
+        match search.visit_all(self) {
+            Ok(true) => Ok(Some(search.into_order())),
+            Ok(false) => {
+                drop(search);
+                Ok(None)
+            }
+            Err(error) => {
+                drop(search);
+                Err(error)
             }
         }
-        Ok(Some(search.order))
     }
 }

@@ -12,7 +12,7 @@ use Rattle.sch_references.specs.declared.search.Search.{Search}
 use Rattle.sch_references.specs.declared.search.Step.{Step}
 use Rattle.sch_references.specs.declared.search.Step.TheVariants as step
 use Rattle.sch_references.specs.inner.Firsts.{left}
-use Rattle.sch_references.specs.inner.Order.{Sorted, settles}
+use Rattle.sch_references.specs.inner.Order.{Found, Sorted, settles}
 use Rattle.sch_references.specs.inner.Ways.{Cyclic, Each}
 
 -- a rule that is being followed, with the items that are left
@@ -74,6 +74,11 @@ abbrev pub IsLess : List RawRule → Search → ℕ → Step → Type 0
 IsLess rules s bound (step.Next top) = work rules s top < bound
 IsLess rules s bound step.Done = Unit {0}
 IsLess rules s bound step.Cycle = Unit {0}
+
+-- how the visits of all rules end: true where there was no cycle
+abbrev pub FoundBy : List RawRule → Search → Bool → Type 0
+FoundBy rules s true = Found rules (Some s.order)
+FoundBy rules s false = Cyclic rules
 
 -- how a visit of a name ends: true where there was no cycle
 abbrev pub Visited : List RawRule → Search → Option (List ℕ) → Bool → Type 0

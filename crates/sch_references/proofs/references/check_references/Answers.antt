@@ -3,14 +3,14 @@ use Rattle.sch_references.specs.inner.KnownIds.{known_by}
 use Rattle.sch_references.proofs.CheckLemmas.{is-some, order-of, refused, unbroken}
 use Rattle.sch_references.proofs.references.check_references.Goals as goal
 
-pub unwrap-requires : goal.unwrap-requires
-unwrap-requires c =
+pub into_order-requires : goal.into_order-requires
+into_order-requires c =
     is-some c.args.schema.now c.in_ok-ids.ids.rules c.in_ok-ids.ids.order
     (unbroken (known_by c.in_ok-ids.ids) c.in_ok-ids.ids.rules c.args.schema.now c.in_ok-ids.ensures.known c.in_ok-ids.ensures.rules c.in-Ok.ensures)
     c.in_ok-ids.ensures.rules c.in_ok-ids.ensures.ordered
 
-pub returns-clause-refused : goal.returns-clause-refused
-returns-clause-refused c =
+pub returns-in-Err-clause-refused : goal.returns-in-Err-clause-refused
+returns-in-Err-clause-refused c =
     refused (known_by c.in_ok-ids.ids) c.in_ok-ids.ids.rules c.args.schema.now c.in-Err.error c.in_ok-ids.ensures.known c.in_ok-ids.ensures.rules c.in-Err.ensures
 
 pub returns-in-Ok-clause-unbroken : goal.returns-in-Ok-clause-unbroken
@@ -19,6 +19,6 @@ returns-in-Ok-clause-unbroken c =
 
 pub returns-in-Ok-clause-ordered : goal.returns-in-Ok-clause-ordered
 returns-in-Ok-clause-ordered c =
-    order-of c.args.schema.now c.in_ok-ids.ids.rules c.in_ok-ids.ids.order c.unwrap.result
+    order-of c.args.schema.now c.in_ok-ids.ids.rules c.in_ok-ids.ids.order c.into_order.result
     (unbroken (known_by c.in_ok-ids.ids) c.in_ok-ids.ids.rules c.args.schema.now c.in_ok-ids.ensures.known c.in_ok-ids.ensures.rules c.in-Ok.ensures)
-    c.in_ok-ids.ensures.rules c.in_ok-ids.ensures.ordered c.unwrap.ensures
+    c.in_ok-ids.ensures.rules c.in_ok-ids.ensures.ordered c.into_order.ensures

@@ -1,21 +1,7 @@
--- One rule more was entered, up to all.
-use Rattle.std.proofs.Common.{arith}
-use Rattle.sch_references.proofs.SortLemmas.{idle-start, sort-end, sort-next}
+-- The search begins with nothing, and its end is told.
+use Rattle.sch_references.proofs.SortLemmas.{idle-start}
 use Rattle.sch_references.proofs.order.RuleOrder.sorted.Goals as goal
 
-pub loop-place-init : goal.loop-place-init
-loop-place-init c = record {
-  idle = idle-start c.args.self.now (record { entered = c.empty.result; order = c.empty-2.result; below = c.new.result }) c.empty-2.ensures c.empty.ensures c.new.ensures.items;
-  entered = tt;
-}
-
-pub loop-place-preserved : goal.loop-place-preserved
-loop-place-preserved c =
-    let r = sort-next c.args.self.now c.loop-place.search c.visit_rule.new.self c.loop-place.place c.rule.result.now c.in_ok-visit_rule.field-0 c.loop-place.invariant.entered
-    (omega (arith, c.loop-place-test.true, c.len-place-end.ensures)) c.rule.ensures c.in_ok-visit_rule.ensures.visited c.if-not-branch.false c.in_ok-visit_rule.ensures.kept in
-    record { idle = r.0; entered = r.1 }
-
-pub returns : goal.returns
-returns c =
-    sort-end c.args.self.now c.loop-place.search c.loop-place.place c.loop-place.invariant.idle c.loop-place.invariant.entered
-    (omega (arith, c.loop-place-test.false, c.len-place-end.ensures)) (omega (arith, c.loop-place.auto.place-end, c.len-place-end.ensures))
+pub visit_all-requires : goal.visit_all-requires
+visit_all-requires c =
+    idle-start c.args.self.now (record { entered = c.empty.result; order = c.empty-2.result; below = c.new.result }) c.empty-2.ensures c.empty.ensures c.new.ensures.items

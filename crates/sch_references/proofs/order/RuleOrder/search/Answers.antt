@@ -5,12 +5,12 @@ use Rattle.sch_model.specs.Items.{extended_in}
 use Rattle.sch_references.specs.References.{is_among}
 use Rattle.sch_references.specs.inner.Ways.{Adds, AddsAll}
 use Rattle.sch_references.proofs.ReachLemmas.{all-longer, reach-end, reach-found, reach-next, reach-start}
-use Rattle.sch_references.proofs.order.RuleOrder.leads_to.Goals as goal
+use Rattle.sch_references.proofs.order.RuleOrder.search.Goals as goal
 
 pub loop-next-init : goal.loop-next-init
 loop-next-init c = record {
   reached = reach-start c.args.self.now c.meet.new.found c.args.name.now c.args.id.now
-      (subst (λ found. Adds c.args.self.now c.args.name.now found c.meet.new.found) c.empty-found.ensures c.in_ok-meet.ensures);
+      (subst (λ found. Adds c.args.self.now c.args.name.now found c.meet.new.found) c.requires.empty c.in_ok-meet.ensures);
   most = omega arith;
 }
 
@@ -32,4 +32,4 @@ loop-next-preserved c =
 pub returns : goal.returns
 returns c =
     sym (reach-end c.args.self.now c.loop-next.found c.args.name.now c.args.id.now c.loop-next.next c.loop-next.invariant.reached
-    (omega (arith, c.loop-next-test.false, c.len.ensures)) c.loop-next.invariant.most (sym c.eq.ensures ∙ c.if-eq.false))
+    (omega (arith, c.loop-next-test.false, c.len.ensures)) c.loop-next.invariant.most c.requires.differ)

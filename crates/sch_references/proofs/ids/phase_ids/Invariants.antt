@@ -1,8 +1,0 @@
--- The ids so far are kept.
-use Rattle.std.proofs.Common.{◌≡◌, ◌∷◌, [], take}
-use Rattle.std.specs.List.{flat_map}
-use Rattle.sch_references.specs.References.{is_among}
-use Rattle.sch_references.proofs.ids.phase_ids.Given as goal
-
-abbrev pub invariant-loop-phase : goal.invariant-loop-phase
-invariant-loop-phase l = is_among l.ids ≡ is_among (flat_map (λ phase. phase.id ∷ []) (take l.phase-index l.phases))
