@@ -1,6 +1,7 @@
 -- Places at which rules can be broken, in any order, and the first broken rule among them: that of the place with the least
 -- node number, and there the one with the least number. A schema's elements are numbered in document order.
-use Rattle.std.specs.Prelude.{◌≡◌, ℕ, ◌<◌, ◌≤◌, ◌⊎◌, Bool, ◌&&◌, ◌||◌, ◌==◌, nat_lt, List, [], ◌∷◌, Option, None, Some, if◌then◌else◌}
+use Rattle.std.specs.Prelude.{◌≡◌, ℕ, ◌<◌, ◌≤◌, ◌⊎◌, List, [], ◌∷◌, Option, None}
+pub use Rattle.sch_first_fault.specs.Earlier.{earlier, precedes}
 use Rattle.sch_model.specs.declared.fault.SchemaFault.{SchemaFault}
 use Rattle.sch_rules.specs.FirstBroken.{Gives, least}
 
@@ -24,14 +25,6 @@ abbrev pub NoneBroken : List Place → Type 0
 NoneBroken places = (rule n : ℕ) (name : List ℕ) → BrokenAmong places rule n name → ⊥
 
 -- the same as a function
-abbrev pub precedes : SchemaFault → SchemaFault → Bool
-precedes f g = nat_lt f.node g.node || (f.node == g.node && nat_lt f.rule g.rule)
-
-abbrev pub earlier : Option SchemaFault → Option SchemaFault → Option SchemaFault
-earlier None g = g
-earlier (Some f) None = Some f
-earlier (Some f) (Some g) = if precedes g f then Some g else Some f
-
 abbrev pub first_among : List Place → Option SchemaFault
 first_among [] = None
 first_among (place ∷ places) = earlier (least place.node place.rules) (first_among places)

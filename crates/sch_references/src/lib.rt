@@ -2,7 +2,6 @@
 //! 19757-3:2016, section 5.4), and the order in which abstract rules extend one another.
 #![tactic(auto)]
 
-mod first;
 mod ids;
 mod order;
 mod reach;

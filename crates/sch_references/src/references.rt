@@ -12,10 +12,10 @@ ghost use Rattle.sch_references.specs.inner.Order.{Found};
 ghost use Rattle.sch_references.specs.inner.KnownIds.{known_by};
 ghost use Rattle.sch_references.specs.inner.Onto.{onto};
 
-use crate::first::FirstFault;
 use crate::ids::Ids;
 use crate::order::RuleOrder;
 use sch_base::Text;
+use sch_first_fault::FirstFault;
 use sch_model::{
     Active, Assertion, Head, NodeId, Phase, RawItem, RawPattern, RawRule, RawSchema, SchemaError,
 };

@@ -1,9 +1,9 @@
-//! The first of the rules that are broken.
+//! The first of the faults of a schema that are told.
 
 ghost use Rattle.std.specs.Prelude.{◌≡◌, None, Some, OnOk};
-ghost use Rattle.sch_references.specs.Places.{earlier, precedes};
-ghost use Rattle.sch_references.specs.Ended.{Ended};
-ghost use Rattle.sch_references.specs.inner.Onto.{is_later};
+ghost use Rattle.sch_first_fault.specs.Earlier.{earlier, precedes};
+ghost use Rattle.sch_first_fault.specs.Ended.{Ended};
+ghost use Rattle.sch_first_fault.specs.inner.Later.{is_later};
 
 use doc_tree::NodeId;
 use sch_base::Text;
@@ -13,7 +13,7 @@ use std::marker::Model;
 
 /// The first of the faults that were told so far, seen by contracts as that fault.
 #[derive(Drop)]
-pub(crate) struct FirstFault {
+pub struct FirstFault {
     alloc: Global,
     fault: Option<SchemaFault>,
 }
@@ -29,14 +29,14 @@ impl Model for FirstFault {
 
 impl FirstFault {
     /// No fault was told.
-    pub(crate) fn new(alloc: Global) -> FirstFault
+    pub fn new(alloc: Global) -> FirstFault
         ensures { result ≡ None }
     {
         FirstFault { alloc, fault: None }
     }
 
     /// Tells a fault. Its name is copied where no fault so far stands before it.
-    pub(crate) fn tell(&mut self, rule: u32, node: NodeId, name: &str) -> Result<(), AllocError>
+    pub fn tell(&mut self, rule: u32, node: NodeId, name: &str) -> Result<(), AllocError>
         ensures { OnOk result (self.new ≡ earlier self.old (Some (record { rule = rule; node = node; name = name.now }))) }
     {
         if self.is_later(rule, node) {
@@ -62,7 +62,7 @@ impl FirstFault {
     }
 
     /// Refuses where a fault was told.
-    pub(crate) fn end(self) -> Result<(), SchemaError>
+    pub fn end(self) -> Result<(), SchemaError>
         ensures { Ended self result }
     {
         match self.fault {
