@@ -14,17 +14,9 @@ use Rattle.sch_rules.specs.Elements.{document_element, element_name, first_or, i
 use Rattle.sch_rules.specs.FirstBroken.{Broken}
 use Rattle.sch_rules.specs.Rules.{wrong_document}
 use Rattle.sch_rules.specs.Words.{schematron, word_of}
-use Rattle.sch_read.specs.inner.Counts.{Counts, Stands}
-use Rattle.sch_read.proofs.PlaceLemmas.{stands_below}
-
--- what is found in a list stands in it
-pub found-mem : (p : ℕ → Bool) (xs : List ℕ) (x : ℕ) → find p xs ≡ Some x → mem x xs ≡ true
-found-mem p [] x h = absurd (cc)
-found-mem p (y ∷ xs) x h = found-cases (p y) h (found-mem p xs x)
-  where
-    found-cases : (b : Bool) → cond b (Some y) (find p xs) ≡ Some x → (find p xs ≡ Some x → mem x xs ≡ true) → mem x (y ∷ xs) ≡ true
-    found-cases true h rest = let same : x ≡ y = cc in subst (λ k. mem x (k ∷ xs) ≡ true) same (mem-head x xs)
-    found-cases false h rest = mem-tail x y xs (rest h)
+use Rattle.sch_source.specs.Counts.{Counts, Stands}
+use Rattle.sch_source.proofs.ListLemmas.{found-mem}
+use Rattle.sch_source.proofs.PlaceLemmas.{stands_below}
 
 -- the root is no element
 root_not_foreign : (T : Table) → kind_of T 0 ≡ Some Root → is_foreign T 0 ≡ false

@@ -5,19 +5,11 @@ use Rattle.std.proofs.Math.ListN.{take-append-drop}
 use Rattle.std.proofs.Math.Seq.{drop-cons, take-length, take-suc}
 use Rattle.std.proofs.lemmas.Grind.{flat_map-append}
 use Rattle.sch_base.proofs.Lists.{flat_map-next, flat_map-cut}
-use Rattle.doc_tree.specs.Lists.{mem}
 use Rattle.doc_tree.specs.Table.{Table}
 use Rattle.doc_tree.specs.Walks.{below}
-use Rattle.doc_tree.proofs.ListLemmas.{mem-get}
 use Rattle.sch_model.specs.declared.fault.SchemaError.{SchemaError}
 use Rattle.sch_rules.specs.Keys.{Key}
 use Rattle.sch_read.proofs.ToldLemmas.{Checked, checked-stop, checked-then}
-
-pub mem-at : (xs : List ℕ) (i x : ℕ) → x ≡ slice_index_or xs i x → i < length xs → mem x xs ≡ true
-mem-at xs i x is less = subst (λ n. mem n xs ≡ true) (sym is) (mem-get xs i x less)
-
-pub all_taken : {A : Type 0} (xs : List A) (i : ℕ) → length xs ≤ i → i ≤ length xs → take i xs ≡ xs
-all_taken xs i least most = let at : i ≡ length xs = omega arith in rw at (take-length xs)
 
 pub kid-next : (T : Table) (a b c : List Key) (kids : List ℕ) (i kid : ℕ) → kid ≡ slice_index_or kids i kid → i < length kids →
     Checked T a b (flat_map (below T) (take i kids)) (Ok tt) → Checked T b c (below T kid) (Ok tt) → Checked T a c (flat_map (below T) (take (i + 1) kids)) (Ok tt)

@@ -4,8 +4,4 @@ pub mod ToldLemmas
 pub mod JudgeLemmas
 pub mod KidLemmas
 pub mod PlaceLemmas
-pub mod IdLemmas
-pub mod MessageLemmas
-pub mod WalkLemmas
-pub mod CountLemmas
 pub mod DocumentLemmas

@@ -15,23 +15,7 @@ use Rattle.sch_rules.specs.Rules.{rules}
 use Rattle.sch_model.specs.declared.fault.SchemaError.{SchemaError}
 use Rattle.sch_read.specs.inner.Told.{Told}
 use Rattle.sch_read.proofs.ToldLemmas.{Checked, IsQuiet, checked-one, checked-quiet, checked-then}
-
-pub cond-same : {A : Type 0} (b : Bool) (x : A) → cond b x x ≡ x
-cond-same true x = refl
-cond-same false x = refl
-
--- no element
-pub no_element : (T : Table) (n : ℕ) → kind_of T n ≡ Some Attribute → element_name (content_of T n) ≡ None
-no_element T n is = by (content_of T n) is
-  where
-    by : (content : Option Content) → kind_at content ≡ Some Attribute → element_name content ≡ None
-    by None is = absurd (cc)
-    by (Some root) is = absurd (cc)
-    by (Some (element name decls)) is = absurd (cc)
-    by (Some (attribute name value)) is = refl
-    by (Some (text characters)) is = absurd (cc)
-    by (Some (comment characters)) is = absurd (cc)
-    by (Some (instruction name body)) is = absurd (cc)
+use Rattle.sch_source.proofs.PlaceLemmas.{cond-same, ignored-inside, inside, no_element}
 
 pub quiet-attribute : (T : Table) (n : ℕ) → kind_of T n ≡ Some Attribute → IsQuiet T n
 quiet-attribute T n is = record { no_fault = no_fault; no_key = no_key }
@@ -54,74 +38,18 @@ quiet-attribute T n is = record { no_fault = no_fault; no_key = no_key }
 pub quiet-ignored : (T : Table) (n : ℕ) → is_ignored T n ≡ true → IsQuiet T n
 quiet-ignored T n is = record { no_fault = λ taken. rw is refl; no_key = rw is refl }
 
--- what passes in a list
-list_any-cases : (p : ℕ → Bool) (n m : ℕ) (ns : List ℕ) (b : Bool) → eqb n m ≡ b → p n ≡ true → (mem n ns ≡ true → list_any p ns ≡ true) →
-    (b || mem n ns) ≡ true → (p m || list_any p ns) ≡ true
-list_any-cases p n m ns true e is rest h = let same : p m ≡ true = subst (λ k. p k ≡ true) (eqb-true n m e) is in rw same refl
-list_any-cases p n m ns false e is rest h = or_true (p m) (rest h)
-  where
-    or_true : (b : Bool) → list_any p ns ≡ true → (b || list_any p ns) ≡ true
-    or_true true e = refl
-    or_true false e = e
-
-list_any-mem : (p : ℕ → Bool) (n : ℕ) (ns : List ℕ) → p n ≡ true → mem n ns ≡ true → list_any p ns ≡ true
-list_any-mem p n [] is h = absurd (true≢false (sym h))
-list_any-mem p n (m ∷ ns) is h = list_any-cases p n m ns (eqb n m) refl is (list_any-mem p n ns is) h
-
 module _ (T : Table) (ordered : Ordered T) (nested : Nested T) where
-  -- what stands below a node, the node left out
-  abbrev pub inside : ℕ → List ℕ
-  inside n = attrs_of T n ++ flat_map (below T) (kids_of T n)
-
-  -- what stands in an element of another namespace is ignored
-  pub ignored-inside : (n m : ℕ) → is_live T n ≡ true → is_foreign T n ≡ true → mem m (inside n) ≡ true → is_ignored T m ≡ true
-  ignored-inside n m live foreign h =
-      let at = ordered.below_in_order n live in
-      let parts : below T n ≡ n ∷ inside n = ordered.below_at n in
-      let whole : order T ≡ at.0 ++ (below T n ++ at.1) = at.2 in
-      let count : occurs n (order T) ≡ occurs n at.0 + (occurs n (below T n) + occurs n at.1) =
-      ap (occurs n) whole ∙ occurs-append n at.0 (below T n ++ at.1) ∙ ap (λ k. occurs n at.0 + k) (occurs-append n (below T n) at.1) in
-      let twice : occurs n (below T n) ≡ suc (occurs n (inside n)) = ap (occurs n) parts ∙ occurs-same n (inside n) in
-      let once : occurs n (inside n) ≡ 0 = omega (arith, ordered.once n) in
-      let below_n : mem m (below T n) ≡ true = rw parts (In-mem m (n ∷ inside n) (omega (arith, mem-In m (inside n) h))) in
-      let in_order : mem m (order T) ≡ true =
-      rw whole (In-mem m (at.0 ++ (below T n ++ at.1)) (omega (arith, mem-In m (below T n) below_n, occurs-append m at.0 (below T n ++ at.1), occurs-append m (below T n) at.1))) in
-      let up : mem n (above T m) ≡ true = sym (nested n m (ordered.live_in_order m ∙ in_order)) ∙ below_n in
-      by (eqb n m) refl once up
-    where
-      by : (b : Bool) → eqb n m ≡ b → occurs n (inside n) ≡ 0 → (b || mem n (ancestors T m)) ≡ true → is_ignored T m ≡ true
-      by true e once up =
-          let same : n ≡ m = eqb-true n m e in
-          let there : 1 ≤ occurs n (inside n) = subst (λ k. 1 ≤ occurs k (inside n)) (sym same) (mem-In m (inside n) h) in
-          absurd (omega arith)
-      by false e once up = list_any-mem (is_foreign T) n (ancestors T m) foreign up
-
   pub below-foreign : (a b : List Key) (n : ℕ) → is_live T n ≡ true → is_foreign T n ≡ true →
       Told (fault_at T a n) (keys_at T n) a b (Ok tt) → Checked T a b (below T n) (Ok tt)
   below-foreign a b n live foreign told =
       subst (λ ns. Checked T a b ns (Ok tt)) (sym (ordered.below_at n))
-      (checked-then T a b b (n ∷ []) (inside n) (Ok tt) (checked-one T a b n (Ok tt) told)
-      (checked-quiet T b (inside n) (λ m h. quiet-ignored T m (ignored-inside n m live foreign h))))
+      (checked-then T a b b (n ∷ []) (inside T ordered nested n) (Ok tt) (checked-one T a b n (Ok tt) told)
+      (checked-quiet T b (inside T ordered nested n) (λ m h. quiet-ignored T m (ignored-inside T ordered nested n m live foreign h))))
 
   pub below-kids : WellFormed T → (a b c : List Key) (n : ℕ) (r : Result (Unit {0}) SchemaError) →
       Told (fault_at T a n) (keys_at T n) a b (Ok tt) → Checked T b c (flat_map (below T) (kids_of T n)) r → Checked T a c (below T n) r
   below-kids formed a b c n r told next =
       subst (λ ns. Checked T a c ns r) (sym (ordered.below_at n))
-      (checked-then T a b c (n ∷ []) (inside n) r (checked-one T a b n (Ok tt) told)
+      (checked-then T a b c (n ∷ []) (inside T ordered nested n) r (checked-one T a b n (Ok tt) told)
       (checked-then T b b c (attrs_of T n) (flat_map (below T) (kids_of T n)) r
       (checked-quiet T b (attrs_of T n) (λ m h. quiet-attribute T m (formed.attribute_kind n m h))) next))
-
--- a kid stands one level below, and counts where its parent does
-pub record StandsBelow (T : Table) (n kid : ℕ) : Type 0 where
-  pub lives : is_live T kid ≡ true
-  pub depth : length (ancestors T kid) ≡ suc (length (ancestors T n))
-  pub counts : is_ignored T n ≡ false → is_foreign T n ≡ false → is_ignored T kid ≡ false
-
-pub stands_below : (T : Table) → WellFormed T → HasWaysUp T → (n kid : ℕ) → mem kid (kids_of T n) ≡ true → StandsBelow T n kid
-stands_below T formed ways n kid member =
-    let up : ancestors T kid ≡ n ∷ ancestors T n = ways.ancestors_at kid n (formed.kid_parent n kid member) in
-    record {
-      lives = ways.kid_live n kid member;
-      depth = ap length up;
-      counts = λ counts own. ap (list_any (is_foreign T)) up ∙ ap (λ b. b || is_ignored T n) own ∙ counts;
-    }

@@ -14,35 +14,41 @@ ghost use Rattle.sch_read.specs.inner.Told.{IsRefusal, Refuses, Told};
 
 use crate::keys::KeyTable;
 use crate::rules::Found;
-use crate::source::Source;
 use doc_tree::NodeId;
 use sch_base::Text;
 use sch_model::{SchemaError, SchemaFault};
 use sch_rules::Word;
+use sch_source::Source;
 
-impl Source<'_> {
+/// The document of a schema, checked against the rules of schemas.
+#[derive(Clone, Copy)]
+pub(crate) struct Checker<'a> {
+    pub(crate) source: Source<'a>,
+}
+
+impl Checker<'_> {
     /// Refuses a document that breaks a rule, at the first place in document order by the least number.
     pub(crate) fn check(&self) -> Result<(), SchemaError>
-        ensures { Refuses (first_broken self.now.tree.now.nodes) result }
+        ensures { Refuses (first_broken self.now.source.tree.now.nodes) result }
     {
-        self.tree.laws();
-        let mut taken = KeyTable::new(self.alloc);
-        self.check_below(&mut taken, self.tree.root())
+        self.source.tree.laws();
+        let mut taken = KeyTable::new(self.source.alloc);
+        self.check_below(&mut taken, self.source.tree.root())
     }
 
     /// Checks a node and all below it, where these names are used before.
     fn check_below(&self, taken: &mut KeyTable, n: NodeId) -> Result<(), SchemaError>
-        requires lives { is_live self.now.tree.now.nodes n ≡ true }
-        requires counts { is_ignored self.now.tree.now.nodes n ≡ false }
-        ensures { Told (first_over self.now.tree.now.nodes taken.old (below self.now.tree.now.nodes n))
-            (flat_map (keys_at self.now.tree.now.nodes) (below self.now.tree.now.nodes n)) taken.old taken.new result }
+        requires lives { is_live self.now.source.tree.now.nodes n ≡ true }
+        requires counts { is_ignored self.now.source.tree.now.nodes n ≡ false }
+        ensures { Told (first_over self.now.source.tree.now.nodes taken.old (below self.now.source.tree.now.nodes n))
+            (flat_map (keys_at self.now.source.tree.now.nodes) (below self.now.source.tree.now.nodes n)) taken.old taken.new result }
     {
-        self.tree.laws();
+        self.source.tree.laws();
         self.judge(taken, n)?;
-        if self.is_foreign(n) {
+        if self.source.is_foreign(n) {
             return Ok(());
         }
-        for kid in self.tree.kids(n) {
+        for kid in self.source.tree.kids(n) {
             self.check_below(taken, *kid)?;
         }
         Ok(())
@@ -50,10 +56,10 @@ impl Source<'_> {
 
     /// Checks a place, and uses its name.
     fn judge(&self, taken: &mut KeyTable, n: NodeId) -> Result<(), SchemaError>
-        requires { is_ignored self.now.tree.now.nodes n ≡ false }
-        ensures { Told (fault_at self.now.tree.now.nodes taken.old n) (keys_at self.now.tree.now.nodes n) taken.old taken.new result }
+        requires { is_ignored self.now.source.tree.now.nodes n ≡ false }
+        ensures { Told (fault_at self.now.source.tree.now.nodes taken.old n) (keys_at self.now.source.tree.now.nodes n) taken.old taken.new result }
     {
-        self.judge_as(taken, n, self.word_at(n))
+        self.judge_as(taken, n, self.source.word_at(n))
     }
 
     /// The same of a node that is this element.
@@ -63,7 +69,7 @@ impl Source<'_> {
         n: NodeId,
         word: Option<Word>,
     ) -> Result<(), SchemaError>
-        ensures { Told (least n (rules_of self.now.tree.now.nodes taken.old n word)) (keys_of self.now.tree.now.nodes n word) taken.old taken.new result }
+        ensures { Told (least n (rules_of self.now.source.tree.now.nodes taken.old n word)) (keys_of self.now.source.tree.now.nodes n word) taken.old taken.new result }
     {
         self.refuse(n, self.element_fault(n, word))?;
         self.refuse(n, self.attribute_fault(n, word))?;
@@ -78,13 +84,13 @@ impl Source<'_> {
         n: NodeId,
         word: Option<Word>,
     ) -> Result<(), SchemaError>
-        ensures { Told (least n ((8, repeated self.now.tree.now.nodes taken.old n word) ∷ [])) (keys_of self.now.tree.now.nodes n word) taken.old taken.new result }
+        ensures { Told (least n ((8, repeated self.now.source.tree.now.nodes taken.old n word) ∷ [])) (keys_of self.now.source.tree.now.nodes n word) taken.old taken.new result }
     {
         let Some(name) = self.use_at(n, word) else {
             return Ok(());
         };
         let text = name.name;
-        let alloc = self.alloc;
+        let alloc = self.source.alloc;
         if taken.take(alloc, name)? {
             Ok(())
         } else {
@@ -112,7 +118,7 @@ impl Source<'_> {
     fn refusal(&self, n: NodeId, found: Found<'_>) -> SchemaError
         ensures { IsRefusal (fault_seen n found.entry) result }
     {
-        match Text::copy(self.alloc, found.name) {
+        match Text::copy(self.source.alloc, found.name) {
             Ok(name) => SchemaError::Fault(SchemaFault {
                 rule: found.rule,
                 node: n,

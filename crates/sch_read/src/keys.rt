@@ -8,11 +8,11 @@ ghost use Rattle.std.specs.Option.{option_copied};
 ghost use Rattle.sch_rules.specs.Keys.{is_taken, keys_for, keys_of};
 ghost use Rattle.sch_read.specs.inner.Kept.{use_seen, uses_seen};
 
-use crate::source::Source;
-use crate::words::is_word;
+use crate::check::Checker;
 use doc_tree::NodeId;
 use indexmap::IndexSet;
 use sch_rules::{Named, Word};
+use sch_source::is_word;
 use std::alloc::{AllocError, Global};
 use std::marker::Model;
 
@@ -86,31 +86,35 @@ fn use_of(kind: Named, within: NodeId, name: Option<&str>) -> Option<Use<'_>>
     }
 }
 
-impl<'a> Source<'a> {
+impl<'a> Checker<'a> {
     /// The name that an element uses.
     pub(crate) fn use_at(&self, n: NodeId, word: Option<Word>) -> Option<Use<'a>>
-        ensures { uses_seen result ≡ keys_of self.now.tree.now.nodes n word }
+        ensures { uses_seen result ≡ keys_of self.now.source.tree.now.nodes n word }
     {
-        let schema = self.tree.root();
+        let schema = self.source.tree.root();
         match word {
             Some(Word::Title) => self.title_use(n),
-            Some(Word::Ns) => use_of(Named::Prefix, schema, self.said(n, "prefix")),
-            Some(Word::Phase) => use_of(Named::Phase, schema, self.said(n, "id")),
-            Some(Word::Pattern) => use_of(Named::Pattern, schema, self.said(n, "id")),
+            Some(Word::Ns) => use_of(Named::Prefix, schema, self.source.said(n, "prefix")),
+            Some(Word::Phase) => use_of(Named::Phase, schema, self.source.said(n, "id")),
+            Some(Word::Pattern) => use_of(Named::Pattern, schema, self.source.said(n, "id")),
             Some(Word::Rule) => self.rule_use(n),
-            Some(Word::Diagnostic) => use_of(Named::Diagnostic, schema, self.said(n, "id")),
-            Some(Word::Property) => use_of(Named::Property, schema, self.said(n, "id")),
-            Some(Word::Param) => use_of(Named::Param, self.parent_or_root(n), self.said(n, "name")),
+            Some(Word::Diagnostic) => use_of(Named::Diagnostic, schema, self.source.said(n, "id")),
+            Some(Word::Property) => use_of(Named::Property, schema, self.source.said(n, "id")),
+            Some(Word::Param) => use_of(
+                Named::Param,
+                self.parent_or_root(n),
+                self.source.said(n, "name"),
+            ),
             _ => None,
         }
     }
 
     /// The use of the title of the schema.
     fn title_use(&self, n: NodeId) -> Option<Use<'a>>
-        ensures { uses_seen result ≡ keys_of self.now.tree.now.nodes n (Some word.Title) }
+        ensures { uses_seen result ≡ keys_of self.now.source.tree.now.nodes n (Some word.Title) }
     {
-        if is_word(Word::Schema, self.word_above(n)) {
-            use_of(Named::Title, self.tree.root(), Some("title"))
+        if is_word(Word::Schema, self.source.word_above(n)) {
+            use_of(Named::Title, self.source.tree.root(), Some("title"))
         } else {
             None
         }
@@ -118,10 +122,14 @@ impl<'a> Source<'a> {
 
     /// The use of the id of an abstract rule.
     fn rule_use(&self, n: NodeId) -> Option<Use<'a>>
-        ensures { uses_seen result ≡ keys_of self.now.tree.now.nodes n (Some word.Rule) }
+        ensures { uses_seen result ≡ keys_of self.now.source.tree.now.nodes n (Some word.Rule) }
     {
-        if self.is_abstract(n) {
-            use_of(Named::AbstractRule, self.tree.root(), self.said(n, "id"))
+        if self.source.is_abstract(n) {
+            use_of(
+                Named::AbstractRule,
+                self.source.tree.root(),
+                self.source.said(n, "id"),
+            )
         } else {
             None
         }
@@ -129,11 +137,11 @@ impl<'a> Source<'a> {
 
     /// The node's parent, and the root for the root.
     fn parent_or_root(&self, n: NodeId) -> NodeId
-        ensures { result ≡ first_or 0 (parent_of self.now.tree.now.nodes n) }
+        ensures { result ≡ first_or 0 (parent_of self.now.source.tree.now.nodes n) }
     {
-        match self.tree.parent(n) {
+        match self.source.tree.parent(n) {
             Some(parent) => parent,
-            None => self.tree.root(),
+            None => self.source.tree.root(),
         }
     }
 }

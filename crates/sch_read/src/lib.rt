@@ -2,14 +2,9 @@
 #![tactic(auto)]
 
 mod check;
-mod ids;
 mod keys;
-mod message;
-mod patterns;
 mod rules;
 mod schema;
-mod source;
-mod values;
 mod words;
 
 pub use schema::read_schema;

@@ -1,61 +1,12 @@
 //! The tables of elements and attributes (ISO/IEC 19757-3, section 5).
 
 ghost use Rattle.std.specs.Prelude.{◌≡◌};
-ghost use Rattle.sch_rules.specs.Words.{has_text, holds, is_diagnostic, is_message_part, is_pattern_part, is_phase_part, is_property, is_rule_part, is_schema_part, is_styled, is_word, may_hold, word_of};
+ghost use Rattle.sch_rules.specs.Words.{holds, is_diagnostic, is_message_part, is_pattern_part, is_phase_part, is_property, is_rule_part, is_schema_part, is_styled, may_hold};
 ghost use Rattle.sch_rules.specs.Rules.{is_bad_binding, is_name_attribute, is_truth, is_truth_attribute};
-ghost use Rattle.sch_rules.specs.RawSchema.{holds_text};
 
 use doc_tree::{is_xml, is_xmlns, xml_namespace};
 use sch_rules::Word;
-
-/// The element with a local name; None where there is none.
-#[tactic(auto, unfolding(sch_rules::specs::Words::word_of))]
-pub(crate) fn word_of(name: &str) -> Option<Word>
-    ensures { result ≡ word_of name.now }
-{
-    match name {
-        "schema" => Some(Word::Schema),
-        "title" => Some(Word::Title),
-        "ns" => Some(Word::Ns),
-        "p" => Some(Word::P),
-        "let" => Some(Word::Let),
-        "phase" => Some(Word::Phase),
-        "active" => Some(Word::Active),
-        "pattern" => Some(Word::Pattern),
-        "param" => Some(Word::Param),
-        "rule" => Some(Word::Rule),
-        "extends" => Some(Word::Extends),
-        "assert" => Some(Word::Assert),
-        "report" => Some(Word::Report),
-        "diagnostics" => Some(Word::Diagnostics),
-        "diagnostic" => Some(Word::Diagnostic),
-        "properties" => Some(Word::Properties),
-        "property" => Some(Word::Property),
-        "dir" => Some(Word::Dir),
-        "emph" => Some(Word::Emph),
-        "span" => Some(Word::Span),
-        "value-of" => Some(Word::ValueOf),
-        "name" => Some(Word::Name),
-        _ => None,
-    }
-}
-
-/// Whether there is a word, and it is this one.
-pub(crate) fn is_word(word: Word, other: Option<Word>) -> bool
-    ensures { result ≡ is_word word other }
-{
-    match other {
-        Some(other) => word == other,
-        None => false,
-    }
-}
-
-/// Whether the element is `dir`, `emph` or `span`.
-fn is_styled(word: Word) -> bool
-    ensures { result ≡ is_styled word }
-{
-    matches!(word, Word::Dir | Word::Emph | Word::Span)
-}
+use sch_source::is_styled;
 
 /// Whether a message may hold the element.
 fn is_message_part(word: Word) -> bool
@@ -150,27 +101,6 @@ pub(crate) fn may_hold(parent: Option<Word>, kid: Option<Word>) -> bool
     match (parent, kid) {
         (Some(parent), Some(kid)) => holds(parent, kid),
         _ => false,
-    }
-}
-
-/// Whether text in the element counts.
-fn has_text(word: Word) -> bool
-    ensures { result ≡ has_text word }
-{
-    match word {
-        Word::Title | Word::P | Word::Active => true,
-        Word::Assert | Word::Report | Word::Diagnostic | Word::Property => true,
-        _ => is_styled(word),
-    }
-}
-
-/// Whether there is an element, and text in it counts.
-pub(crate) fn holds_text(word: Option<Word>) -> bool
-    ensures { result ≡ holds_text word }
-{
-    match word {
-        Some(word) => has_text(word),
-        None => false,
     }
 }
 

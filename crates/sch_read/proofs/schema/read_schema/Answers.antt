@@ -1,6 +1,6 @@
 -- A document that breaks no rule has a document element that counts.
 use Rattle.std.proofs.Common.{sym, subst}
-use Rattle.sch_read.specs.inner.Counts.{Counts}
+use Rattle.sch_source.specs.Counts.{Counts}
 use Rattle.sch_read.proofs.DocumentLemmas.{document_counts}
 use Rattle.sch_read.proofs.schema.read_schema.Goals as goal
 

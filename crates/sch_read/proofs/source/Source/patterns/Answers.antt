@@ -1,8 +1,0 @@
--- A kid of an element that counts.
-use Rattle.sch_read.proofs.CountLemmas.{kid_stands}
-use Rattle.sch_read.proofs.source.Source.patterns.Goals as goal
-
-pub push_pattern-requires : goal.push_pattern-requires
-push_pattern-requires c =
-    kid_stands c.args.self.now.tree.now.nodes c.laws.ensures.well_formed c.laws.ensures.ways_up c.args.n c.loop-kid.kid-index c.kid-item.result c.kids-kid-items.result.now
-    c.requires c.kids-kid-items.ensures c.kid-item.is c.loop-kid-test.true

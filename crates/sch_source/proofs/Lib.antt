@@ -1,0 +1,6 @@
+pub mod ListLemmas
+pub mod PlaceLemmas
+pub mod IdLemmas
+pub mod MessageLemmas
+pub mod WalkLemmas
+pub mod CountLemmas

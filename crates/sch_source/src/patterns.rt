@@ -1,0 +1,292 @@
+//! The patterns that a document says, with their rules and assertions, and its diagnostics.
+
+ghost use Rattle.std.specs.Prelude.{◌≡◌, ◌∷◌, [], ◌++◌, codes, IfOk, OnOk};
+ghost use Rattle.std.specs.List.{flat_map};
+ghost use Rattle.doc_tree.specs.Table.{kids_of};
+ghost use Rattle.sch_model.specs.declared.raw.RawItem.TheVariants as item;
+ghost use Rattle.sch_rules.specs.Attributes.{said_text};
+ghost use Rattle.sch_rules.specs.declared.word.Word.TheVariants as word;
+ghost use Rattle.sch_rules.specs.RawSchema.{assertion_of, diagnostic_of, diagnostics_at, item_at, let_of, pattern_of, read_if, read_kids, rule_of};
+ghost use Rattle.sch_source.specs.Counts.{Counts, Stands};
+
+use crate::ids::ids_in;
+use crate::source::Source;
+use crate::words::is_word;
+use doc_tree::NodeId;
+use sch_base::ItemList;
+use sch_model::{
+    Assertion, Diagnostic, DiagnosticList, RawItem, RawItemList, RawPattern, RawPatternList,
+    RawRule, RawRuleList,
+};
+use sch_rules::Word;
+use std::alloc::AllocError;
+
+impl Source<'_> {
+    /// An assert, or a report.
+    fn assertion(&self, report: bool, n: NodeId) -> Result<Assertion, AllocError>
+        requires { Stands self.now.tree.now.nodes n }
+        ensures { IfOk result (λ assertion. assertion ≡ assertion_of self.now.tree.now.nodes report n) }
+    {
+        let test = self.text(n, "test")?;
+        let mut assertion = Assertion {
+            node: n,
+            report,
+            id: None,
+            role: None,
+            flag: None,
+            test,
+            diagnostics: ItemList::new(self.alloc),
+            message: ItemList::new(self.alloc),
+        };
+        match self.read_assertion(&mut assertion, n) {
+            Ok(()) => Ok(assertion),
+            Err(error) => {
+                drop(assertion);
+                Err(error)
+            }
+        }
+    }
+
+    /// Reads what an assertion says besides its test.
+    fn read_assertion(&self, assertion: &mut Assertion, n: NodeId) -> Result<(), AllocError>
+        requires { Stands self.now.tree.now.nodes n }
+        ensures { OnOk result (assertion.new ≡ record (assertion_of self.now.tree.now.nodes assertion.old.report n) { node = assertion.old.node; test = assertion.old.test }) }
+    {
+        assertion.id = self.optional(n, "id")?;
+        assertion.role = self.optional(n, "role")?;
+        assertion.flag = self.optional(n, "flag")?;
+        assertion.diagnostics = ids_in(self.alloc, self.said_text(n, "diagnostics"))?;
+        assertion.message = self.message(n)?;
+        Ok(())
+    }
+
+    /// Puts a let, an assertion or an `extends` at the end, where the node is one.
+    fn push_item(&self, list: &mut RawItemList, n: NodeId) -> Result<(), AllocError>
+        requires { Stands self.now.tree.now.nodes n }
+        ensures { OnOk result (list.new ≡ list.old ++ item_at self.now.tree.now.nodes n) }
+    {
+        match self.word_at(n) {
+            Some(Word::Let) => self.push_let_item(list, n),
+            Some(Word::Assert) => self.push_assertion(list, false, n),
+            Some(Word::Report) => self.push_assertion(list, true, n),
+            Some(Word::Extends) => self.push_extends(list, n),
+            _ => Ok(()),
+        }
+    }
+
+    /// Puts a let at the end.
+    fn push_let_item(&self, list: &mut RawItemList, n: NodeId) -> Result<(), AllocError>
+        ensures { OnOk result (list.new ≡ list.old ++ item.Let (let_of self.now.tree.now.nodes n) ∷ []) }
+    {
+        let decl = self.let_decl(n)?;
+        list.push(RawItem::Let(decl))
+    }
+
+    /// Puts an assertion at the end.
+    fn push_assertion(
+        &self,
+        list: &mut RawItemList,
+        report: bool,
+        n: NodeId,
+    ) -> Result<(), AllocError>
+        requires { Stands self.now.tree.now.nodes n }
+        ensures { OnOk result (list.new ≡ list.old ++ item.Assertion (assertion_of self.now.tree.now.nodes report n) ∷ []) }
+    {
+        let assertion = self.assertion(report, n)?;
+        list.push(RawItem::Assertion(assertion))
+    }
+
+    /// Puts an `extends` at the end.
+    fn push_extends(&self, list: &mut RawItemList, n: NodeId) -> Result<(), AllocError>
+        ensures { OnOk result (list.new ≡ list.old ++ item.Extends n (said_text self.now.tree.now.nodes n (codes "rule")) ∷ []) }
+    {
+        let rule = self.text(n, "rule")?;
+        list.push(RawItem::Extends { node: n, rule })
+    }
+
+    /// What a rule holds, in its order.
+    fn items(&self, n: NodeId) -> Result<RawItemList, AllocError>
+        requires { Counts self.now.tree.now.nodes n }
+        ensures { IfOk result (λ list. list ≡ flat_map (item_at self.now.tree.now.nodes) (kids_of self.now.tree.now.nodes n)) }
+    {
+        self.tree.laws();
+        let mut list = ItemList::new(self.alloc);
+        for kid in self.tree.kids(n) {
+            self.push_item(&mut list, *kid)?;
+        }
+        Ok(list)
+    }
+
+    /// A rule.
+    fn rule(&self, n: NodeId) -> Result<RawRule, AllocError>
+        requires { Counts self.now.tree.now.nodes n }
+        ensures { IfOk result (λ rule. rule ≡ rule_of self.now.tree.now.nodes n) }
+    {
+        let mut rule = RawRule {
+            node: n,
+            is_abstract: self.is_abstract(n),
+            id: None,
+            context: None,
+            role: None,
+            flag: None,
+            items: ItemList::new(self.alloc),
+        };
+        match self.read_rule(&mut rule, n) {
+            Ok(()) => Ok(rule),
+            Err(error) => {
+                drop(rule);
+                Err(error)
+            }
+        }
+    }
+
+    /// Reads what a rule says and holds.
+    fn read_rule(&self, rule: &mut RawRule, n: NodeId) -> Result<(), AllocError>
+        requires { Counts self.now.tree.now.nodes n }
+        ensures { OnOk result (rule.new ≡ record (rule_of self.now.tree.now.nodes n) { node = rule.old.node; is_abstract = rule.old.is_abstract }) }
+    {
+        rule.id = self.optional(n, "id")?;
+        rule.context = self.optional(n, "context")?;
+        rule.role = self.optional(n, "role")?;
+        rule.flag = self.optional(n, "flag")?;
+        rule.items = self.items(n)?;
+        Ok(())
+    }
+
+    /// A pattern.
+    fn pattern(&self, n: NodeId) -> Result<RawPattern, AllocError>
+        requires { Counts self.now.tree.now.nodes n }
+        ensures { IfOk result (λ pattern. pattern ≡ pattern_of self.now.tree.now.nodes n) }
+    {
+        let mut pattern = RawPattern {
+            node: n,
+            is_abstract: self.is_abstract(n),
+            id: None,
+            is_a: None,
+            params: ItemList::new(self.alloc),
+            lets: ItemList::new(self.alloc),
+            rules: ItemList::new(self.alloc),
+        };
+        match self.read_pattern(&mut pattern, n) {
+            Ok(()) => Ok(pattern),
+            Err(error) => {
+                drop(pattern);
+                Err(error)
+            }
+        }
+    }
+
+    /// Reads what a pattern says and holds.
+    fn read_pattern(&self, pattern: &mut RawPattern, n: NodeId) -> Result<(), AllocError>
+        requires { Counts self.now.tree.now.nodes n }
+        ensures { OnOk result (pattern.new ≡ record (pattern_of self.now.tree.now.nodes n) { node = pattern.old.node; is_abstract = pattern.old.is_abstract }) }
+    {
+        pattern.id = self.optional(n, "id")?;
+        pattern.is_a = self.optional(n, "is-a")?;
+        pattern.params = self.params(n)?;
+        pattern.lets = self.lets(n)?;
+        pattern.rules = self.rules(n)?;
+        Ok(())
+    }
+
+    /// A diagnostic.
+    fn diagnostic(&self, n: NodeId) -> Result<Diagnostic, AllocError>
+        requires { Stands self.now.tree.now.nodes n }
+        ensures { IfOk result (λ diagnostic. diagnostic ≡ diagnostic_of self.now.tree.now.nodes n) }
+    {
+        let id = self.text(n, "id")?;
+        let message = self.message(n)?;
+        Ok(Diagnostic {
+            node: n,
+            id,
+            message,
+        })
+    }
+
+    /// Puts a rule at the end, where the node is one.
+    fn push_rule(&self, list: &mut RawRuleList, n: NodeId) -> Result<(), AllocError>
+        requires { Stands self.now.tree.now.nodes n }
+        ensures { OnOk result (list.new ≡ list.old ++ read_if self.now.tree.now.nodes word.Rule (rule_of self.now.tree.now.nodes) n) }
+    {
+        if is_word(Word::Rule, self.word_at(n)) {
+            list.push(self.rule(n)?)?;
+        }
+        Ok(())
+    }
+
+    /// The rules among a node's kids.
+    fn rules(&self, n: NodeId) -> Result<RawRuleList, AllocError>
+        requires { Counts self.now.tree.now.nodes n }
+        ensures { IfOk result (λ list. list ≡ read_kids self.now.tree.now.nodes word.Rule (rule_of self.now.tree.now.nodes) n) }
+    {
+        self.tree.laws();
+        let mut list = ItemList::new(self.alloc);
+        for kid in self.tree.kids(n) {
+            self.push_rule(&mut list, *kid)?;
+        }
+        Ok(list)
+    }
+
+    /// Puts a pattern at the end, where the node is one.
+    fn push_pattern(&self, list: &mut RawPatternList, n: NodeId) -> Result<(), AllocError>
+        requires { Stands self.now.tree.now.nodes n }
+        ensures { OnOk result (list.new ≡ list.old ++ read_if self.now.tree.now.nodes word.Pattern (pattern_of self.now.tree.now.nodes) n) }
+    {
+        if is_word(Word::Pattern, self.word_at(n)) {
+            list.push(self.pattern(n)?)?;
+        }
+        Ok(())
+    }
+
+    /// The patterns among a node's kids.
+    pub(crate) fn patterns(&self, n: NodeId) -> Result<RawPatternList, AllocError>
+        requires { Counts self.now.tree.now.nodes n }
+        ensures { IfOk result (λ list. list ≡ read_kids self.now.tree.now.nodes word.Pattern (pattern_of self.now.tree.now.nodes) n) }
+    {
+        self.tree.laws();
+        let mut list = ItemList::new(self.alloc);
+        for kid in self.tree.kids(n) {
+            self.push_pattern(&mut list, *kid)?;
+        }
+        Ok(list)
+    }
+
+    /// Puts a diagnostic at the end, where the node is one.
+    fn push_diagnostic(&self, list: &mut DiagnosticList, n: NodeId) -> Result<(), AllocError>
+        requires { Stands self.now.tree.now.nodes n }
+        ensures { OnOk result (list.new ≡ list.old ++ read_if self.now.tree.now.nodes word.Diagnostic (diagnostic_of self.now.tree.now.nodes) n) }
+    {
+        if is_word(Word::Diagnostic, self.word_at(n)) {
+            list.push(self.diagnostic(n)?)?;
+        }
+        Ok(())
+    }
+
+    /// Puts the diagnostics of a `diagnostics` element at the end, where the node is one.
+    fn push_diagnostics(&self, list: &mut DiagnosticList, n: NodeId) -> Result<(), AllocError>
+        requires { Stands self.now.tree.now.nodes n }
+        ensures { OnOk result (list.new ≡ list.old ++ diagnostics_at self.now.tree.now.nodes n) }
+    {
+        if !is_word(Word::Diagnostics, self.word_at(n)) {
+            return Ok(());
+        }
+        self.tree.laws();
+        for kid in self.tree.kids(n) {
+            self.push_diagnostic(list, *kid)?;
+        }
+        Ok(())
+    }
+
+    /// The diagnostics of a schema.
+    pub(crate) fn diagnostics(&self, n: NodeId) -> Result<DiagnosticList, AllocError>
+        requires { Counts self.now.tree.now.nodes n }
+        ensures { IfOk result (λ list. list ≡ flat_map (diagnostics_at self.now.tree.now.nodes) (kids_of self.now.tree.now.nodes n)) }
+    {
+        self.tree.laws();
+        let mut list = ItemList::new(self.alloc);
+        for kid in self.tree.kids(n) {
+            self.push_diagnostics(&mut list, *kid)?;
+        }
+        Ok(list)
+    }
+}
