@@ -13,7 +13,6 @@ use xp_typed_tree::Typed;
 
 /// A schema compiled for one phase (ISO/IEC 19757-3, clause 6): what the report says of it, its lets in force and its
 /// active patterns with their rules.
-#[derive(Drop)]
 pub struct Plan {
     pub title: Option<Text>,
     pub schema_version: Option<Text>,
@@ -25,6 +24,25 @@ pub struct Plan {
     pub lets: LetInForceList,
     /// The active patterns, in the order of the schema.
     pub patterns: PlanPatternList,
+}
+
+impl Drop for Plan {
+    fn drop(self) {
+        let Plan {
+            title,
+            schema_version,
+            phase,
+            namespaces,
+            lets,
+            patterns,
+        } = self;
+        drop(title);
+        drop(schema_version);
+        drop(phase);
+        drop(namespaces);
+        drop(lets);
+        drop(patterns);
+    }
 }
 
 impl Plan {
