@@ -6,8 +6,9 @@ use Rattle.std.specs.Str.Pattern.{FindsChar}
 use Rattle.std.proofs.lemmas.Str.{chars-nil, chars-append, chars_from_encodes, encode_ascii, IsUtf8-take, IsCharBoundary-before_ascii}
 use Rattle.std.proofs.lemmas.List.{take-append-drop}
 use Rattle.sch_model.specs.declared.raw.Param.{Param}
-use Rattle.sch_expansion.specs.Filled.{dollar_filled, filled, filled_after, is_dollar, longest_name, value_of}
-use Rattle.sch_expansion.specs.inner.Fronts.{IsAfter}
+use Rattle.sch_expansion.specs.Filled.{dollar_filled, filled, filled_after, is_dollar, value_of}
+use Rattle.sch_texts.specs.Names.{longest_name}
+use Rattle.sch_texts.specs.Fronts.{IsAfter}
 
 -- characters without a `$` stay
 kept-chars : (params : List Param) (cs ds : List ℕ) → NonePass is_dollar cs → filled_after params zero (cs ++ ds) ≡ encode_utf8_all cs ++ filled_after params zero ds

@@ -1,23 +1,13 @@
 -- Texts of an instance: the parameters of its abstract pattern replaced (ISO/IEC 19757-3, section 5.4.8).
 use Rattle.std.specs.Prelude.{ℕ, zero, suc, ◌==◌, Bool, List, [], ◌∷◌, ◌++◌, Option, None, Some, chars, encode_utf8, encode_utf8_all, length, if◌then◌else◌}
 use Rattle.std.specs.Str.{bytes_eq}
-use Rattle.sch_base.specs.Characters.{is_name_char, is_name_start}
 use Rattle.sch_model.specs.declared.raw.Param.{Param}
+use Rattle.sch_texts.specs.Names.{longest_name}
 
 -- the value of the parameter with this name
 abbrev pub value_of : List Param → List ℕ → Option (List ℕ)
 value_of [] name = None
 value_of (param ∷ params) name = if bytes_eq name param.name then Some param.value else value_of params name
-
--- the front of characters that can stand in a name
-abbrev pub name_chars : List ℕ → List ℕ
-name_chars [] = []
-name_chars (c ∷ characters) = if is_name_char c then c ∷ name_chars characters else []
-
--- the longest NCName with which characters begin (Namespaces in XML 1.0, section 3); nothing where they begin with none
-abbrev pub longest_name : List ℕ → List ℕ
-longest_name [] = []
-longest_name (c ∷ characters) = if is_name_start c then c ∷ name_chars characters else []
 
 abbrev pub is_dollar : ℕ → Bool
 is_dollar c = c == 36

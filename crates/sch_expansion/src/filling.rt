@@ -5,10 +5,10 @@ ghost use Rattle.sch_expansion.specs.Filled.{filled};
 ghost use Rattle.sch_expansion.specs.Pieces.{IsNextPiece, piece_text};
 ghost use Rattle.sch_expansion.specs.inner.Places.{kept_in, param_names, place_in};
 
-use crate::fronts::{after_name, before};
 use crate::places::Places;
 use sch_base::Text;
 use sch_model::Param;
+use sch_texts::{after_name, before};
 use std::alloc::{AllocError, Global};
 use std::marker::Model;
 

@@ -6,7 +6,6 @@ mod copies;
 mod expansion;
 mod filling;
 mod flat;
-mod fronts;
 mod laws;
 mod nothing;
 mod origins;

@@ -1,11 +1,10 @@
--- Attributes and ids, one after another.
-use Rattle.std.proofs.Common.{◌≡◌, ℕ, ◌+◌, ◌<◌, List, [], ◌∷◌, ◌++◌, Option, None, Some, map, take, length, append-nil, slice_index_or, refl, sym, ap, ◌∙◌, append_assoc}
+-- Attributes and items, one after another.
+use Rattle.std.proofs.Common.{◌≡◌, ℕ, ◌+◌, ◌<◌, List, [], ◌∷◌, ◌++◌, Option, None, Some, map, take, length, append-nil, slice_index_or, refl, ap, ◌∙◌}
 use Rattle.std.specs.List.{flat_map}
-use Rattle.std.specs.Prelude.{codes}
 use Rattle.std.proofs.lemmas.Grind.{flat_map-append}
 use Rattle.sch_base.proofs.Lists.{take-next}
 use Rattle.sch_flat.specs.declared.given.Given.{Given}
-use Rattle.sch_flat.specs.FlatDocument.{only_given, spaced}
+use Rattle.sch_flat.specs.FlatDocument.{only_given}
 use Rattle.sch_flat.specs.inner.Given.{seen}
 
 only_given-append : (xs ys : List Given) → only_given (map seen (xs ++ ys)) ≡ only_given (map seen xs) ++ only_given (map seen ys)
@@ -22,18 +21,6 @@ pub only_given_next : (xs : List Given) (i : ℕ) (x : Given) → x ≡ slice_in
     only_given (map seen (take (i + 1) xs)) ≡ only_given (map seen (take i xs)) ++ only_given (seen x ∷ [])
 only_given_next xs i x is less =
     ap (λ l. only_given (map seen l)) (take-next xs i x is less) ∙ only_given-append (take i xs) (x ∷ [])
-
-spaced-append : (id x : List ℕ) (ids : List (List ℕ)) → spaced (id ∷ (ids ++ x ∷ [])) ≡ spaced (id ∷ ids) ++ (codes " " ++ x)
-spaced-append id x [] = refl
-spaced-append id x (next ∷ ids) =
-    ap (λ l. id ++ (codes " " ++ l)) (spaced-append next x ids)
-    ∙ sym (append_assoc id (codes " " ++ spaced (next ∷ ids)) (codes " " ++ x))
-
--- one id more
-pub spaced_next : (first : List ℕ) (ids : List (List ℕ)) (i : ℕ) (x : List ℕ) → x ≡ slice_index_or ids i x → i < length ids →
-    spaced (first ∷ take (i + 1) ids) ≡ spaced (first ∷ take i ids) ++ (codes " " ++ x)
-spaced_next first ids i x is less =
-    ap (λ l. spaced (first ∷ l)) (take-next ids i x is less) ∙ spaced-append first x (take i ids)
 
 -- one item more
 pub flat_map_next : {A B : Type 0} (f : A → List B) (xs : List A) (i : ℕ) (x : A) → x ≡ slice_index_or xs i x → i < length xs →

@@ -40,12 +40,6 @@ in_order result old one two three four five new a b c d e f h1 h2 h3 h4 h5 h6 =
     ∙ append_assoc old a (b ++ (c ++ (d ++ (e ++ f)))))
     h6
 
--- an element round what it holds, before which nothing was written
-pub whole : (zero one two three held : List Event) (first last : Event) →
-    zero ≡ [] → one ≡ zero ++ first ∷ [] → two ≡ one ++ held → three ≡ two ++ last ∷ [] → three ≡ first ∷ (held ++ last ∷ [])
-whole zero one two three held first last a b c d =
-    d ∙ ap (λ l. l ++ last ∷ []) (c ∙ ap (λ l. l ++ held) (b ∙ ap (λ l. l ++ first ∷ []) a))
-
 pub no_diagnostics : (ds : List Diagnostic) → (length ds == 0) ≡ true → diagnostics_events ds ≡ []
 no_diagnostics [] h = refl
 no_diagnostics (d ∷ ds) h = absurd (grind arith)

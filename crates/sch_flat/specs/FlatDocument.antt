@@ -17,6 +17,7 @@ use Rattle.sch_model.specs.declared.parts.Ns.{Ns}
 use Rattle.sch_model.specs.declared.parts.Part.{Part}
 use Rattle.sch_model.specs.declared.parts.Part.TheVariants.{Chars, ValueOf, Name}
 use Rattle.sch_model.specs.declared.parts.Phase.{Phase}
+use Rattle.sch_texts.specs.Ids.{id_list}
 
 -- attributes with these names, in this order, and only where a value is given
 abbrev pub only_given : List (List ℕ × Option (List ℕ)) → List Attr
@@ -51,17 +52,6 @@ abbrev pub part_events : Part → List Event
 part_events (Chars text) = characters text
 part_events (ValueOf node select) = element (codes "sch:value-of") ((codes "select", Some select) ∷ []) []
 part_events (Name node path) = element (codes "sch:name") ((codes "path", path) ∷ []) []
-
--- ids with a single space between each two
-abbrev pub spaced : List (List ℕ) → List ℕ
-spaced [] = []
-spaced (id ∷ []) = id
-spaced (id ∷ next ∷ ids) = id ++ (codes " " ++ spaced (next ∷ ids))
-
--- a list of ids, absent without ids
-abbrev pub id_list : List (List ℕ) → Option (List ℕ)
-id_list [] = None
-id_list (id ∷ ids) = Some (spaced (id ∷ ids))
 
 abbrev pub assertion_name : Bool → List ℕ
 assertion_name report = if report then codes "sch:report" else codes "sch:assert"

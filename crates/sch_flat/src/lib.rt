@@ -2,7 +2,6 @@
 #![tactic(auto)]
 
 mod given;
-mod ids;
 mod known_sizes;
 mod lines;
 mod measured;

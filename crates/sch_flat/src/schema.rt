@@ -17,6 +17,19 @@ pub fn flat_events(alloc: Global, flat: &FlatSchema) -> Result<EventList, AllocE
     ensures { IfOk result (λ events. events ≡ flat_events flat.now) }
 {
     let mut writer = Writer::new(alloc);
+    match write_schema(flat, &mut writer) {
+        Ok(()) => Ok(writer.into_events()),
+        Err(error) => {
+            drop(writer);
+            Err(error)
+        }
+    }
+}
+
+/// Writes the document element.
+fn write_schema(flat: &FlatSchema, writer: &mut Writer) -> Result<(), AllocError>
+    ensures { OnOk result (writer.new.events ≡ writer.old.events ++ flat_events flat.now) }
+{
     writer.start(
         "sch:schema",
         &[
@@ -26,9 +39,8 @@ pub fn flat_events(alloc: Global, flat: &FlatSchema) -> Result<EventList, AllocE
             Given::IfAny("defaultPhase", &flat.head.default_phase),
         ],
     )?;
-    write_held(flat, &mut writer)?;
-    writer.end("sch:schema")?;
-    Ok(writer.into_events())
+    write_held(flat, writer)?;
+    writer.end("sch:schema")
 }
 
 /// Writes what the document element holds.

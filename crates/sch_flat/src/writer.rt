@@ -4,14 +4,15 @@ ghost use Rattle.std.specs.Prelude.{◌≡◌, ◌∷◌, [], ◌++◌, List, ma
 ghost use Rattle.std.specs.List.{flat_map};
 ghost use Rattle.pyx_core.specs.declared.event.Event.{Event};
 ghost use Rattle.pyx_core.specs.declared.event.Event.TheVariants as event;
-ghost use Rattle.sch_flat.specs.FlatDocument.{characters, element, id_list, only_given};
+ghost use Rattle.sch_flat.specs.FlatDocument.{characters, element, only_given};
+ghost use Rattle.sch_texts.specs.Ids.{id_list};
 ghost use Rattle.sch_flat.specs.inner.Given.{seen};
 
 use crate::given::Given;
-use crate::ids::joined_ids;
 use pyx_core::{Attr, AttrList, Event, EventList};
 use sch_base::{ItemList, Text};
 use sch_model::TextList;
+use sch_texts::joined_ids;
 use std::alloc::{AllocError, Global};
 
 /// What stands in the document of a schema.

@@ -7,7 +7,7 @@ use Rattle.std.proofs.lemmas.Str.{chars-encodes, encode_ascii, encodes-append, l
 use Rattle.std.proofs.Math.Utf8.{scalar, scalars}
 use Rattle.sch_base.specs.Characters.{is_whitespace}
 use Rattle.sch_rules.specs.RawSchema.{ids_in, pieces, with_character, without_empty}
-use Rattle.sch_flat.specs.FlatDocument.{spaced}
+use Rattle.sch_texts.specs.Ids.{spaced}
 
 -- a character of an id
 abbrev is_word : ℕ → Bool

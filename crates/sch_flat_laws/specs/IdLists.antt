@@ -1,7 +1,7 @@
 -- Lists of ids are read back.
 use Rattle.std.specs.Prelude.{◌≡◌, ℕ, List, IsUtf8}
 use Rattle.sch_rules.specs.RawSchema.{ids_in}
-use Rattle.sch_flat.specs.FlatDocument.{spaced}
+use Rattle.sch_texts.specs.Ids.{spaced}
 
 -- ids that a text lists are listed again by the text with a single space between each two
 abbrev pub IdsAreReadBack : Type 0

@@ -21,7 +21,8 @@ use Rattle.sch_rules.specs.declared.word.Word.TheVariants as word
 use Rattle.sch_rules.specs.Elements.{is_ignored, word_above, word_at}
 use Rattle.sch_rules.specs.RawSchema.{assertion_of, holds_text, ids_in, item_at, item_of, let_of, param_of, part_at, pattern_of, read_if, read_kids, rule_of, text_at}
 use Rattle.sch_rules.specs.Words.{is_word, word_of}
-use Rattle.sch_flat.specs.FlatDocument.{assertion_attributes, assertion_events, assertion_name, element as sch_element, id_list, let_events, part_events, pattern_events, rule_events, spaced}
+use Rattle.sch_flat.specs.FlatDocument.{assertion_attributes, assertion_events, assertion_name, element as sch_element, let_events, part_events, pattern_events, rule_events}
+use Rattle.sch_texts.specs.Ids.{id_list, spaced}
 use Rattle.sch_flat_laws.specs.Expansion.{raw_pattern, raw_rule}
 use Rattle.sch_model.specs.Placeless.{placeless_assertion, placeless_item, placeless_let, placeless_pattern, placeless_rule}
 use Rattle.sch_flat_reading.specs.Readable.{Each, ReadableAssertion, ReadablePattern, ReadableRule}

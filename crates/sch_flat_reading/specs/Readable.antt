@@ -7,7 +7,7 @@ use Rattle.sch_model.specs.declared.flat.FlatSchema.{FlatSchema}
 use Rattle.sch_model.specs.declared.parts.Assertion.{Assertion}
 use Rattle.sch_model.specs.declared.parts.Diagnostic.{Diagnostic}
 use Rattle.sch_rules.specs.RawSchema.{ids_in}
-use Rattle.sch_flat.specs.FlatDocument.{spaced}
+use Rattle.sch_texts.specs.Ids.{spaced}
 use Rattle.sch_flat_laws.specs.Joined.{are_joined}
 use Rattle.sch_model.specs.Placeless.{is_some_part}
 

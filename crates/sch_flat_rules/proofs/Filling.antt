@@ -8,7 +8,8 @@ use Rattle.std.proofs.lemmas.Str.{scalars-chars}
 use Rattle.pyx_core.proofs.TextLemmas.{of_chars_append, utf8_of}
 use Rattle.sch_base.specs.Characters.{is_xml_char}
 use Rattle.sch_model.specs.declared.raw.Param.{Param}
-use Rattle.sch_expansion.specs.Filled.{dollar_filled, filled, filled_after, is_dollar, longest_name, value_of}
+use Rattle.sch_expansion.specs.Filled.{dollar_filled, filled, filled_after, is_dollar, value_of}
+use Rattle.sch_texts.specs.Names.{longest_name}
 use Rattle.sch_flat_reading.specs.Readable.{Each}
 use Rattle.sch_flat_rules.proofs.MadeTexts.{GoodPiece, Made, MadeIfAny, all-good, is-good, made-ascii, made-encoded, made_nil}
 

@@ -30,7 +30,8 @@ use Rattle.sch_rules.specs.RawSchema.{active_of, assertion_of, chars_before, cha
 use Rattle.sch_rules.specs.Words.{is_word}
 use Rattle.sch_references.specs.Extends.{abstract_rules}
 use Rattle.sch_expansion.specs.Flat.{assertion_in, assertion_with, bare_pattern, flat_rule, flat_schema, let_in, let_with, part_with, pattern_from, rule_with, text_or_empty}
-use Rattle.sch_flat.specs.FlatDocument.{active_events, assertion_attributes, assertion_events, assertion_name, characters, diagnostic_events, diagnostics_events, element, flat_events, held_events, id_list, let_events, ns_events, only_given, part_events, pattern_events, phase_events, rule_events, spaced, title_events}
+use Rattle.sch_flat.specs.FlatDocument.{active_events, assertion_attributes, assertion_events, assertion_name, characters, diagnostic_events, diagnostics_events, element, flat_events, held_events, let_events, ns_events, only_given, part_events, pattern_events, phase_events, rule_events, title_events}
+use Rattle.sch_texts.specs.Ids.{id_list, spaced}
 use Rattle.sch_flat_laws.specs.FlatText.{is_made}
 use Rattle.sch_flat_reading.specs.Readable.{Each}
 use Rattle.sch_flat_rules.specs.Accepted.{MadeOfChars}

@@ -14,7 +14,7 @@ use Rattle.pyx_core.specs.Nesting.{of_chars}
 use Rattle.sch_base.specs.Characters.{is_whitespace, is_xml_char}
 use Rattle.sch_rules.specs.Attributes.{is_called, said, said_text}
 use Rattle.sch_rules.specs.RawSchema.{ids_in, pieces, with_character, without_empty}
-use Rattle.sch_flat.specs.FlatDocument.{spaced}
+use Rattle.sch_texts.specs.Ids.{spaced}
 use Rattle.sch_flat_reading.specs.Readable.{Each}
 use Rattle.sch_flat_rules.specs.Accepted.{MadeContent, MadeOfChars}
 

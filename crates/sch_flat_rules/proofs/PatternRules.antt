@@ -25,7 +25,8 @@ use Rattle.sch_rules.specs.Elements.{word_above, word_at}
 use Rattle.sch_rules.specs.Keys.{Key, keys_for}
 use Rattle.sch_rules.specs.Rules.{has_bad_form, has_kid, is_truth, mixed, mixed_instance, unsupported}
 use Rattle.sch_rules.specs.Words.{is_word, word_of}
-use Rattle.sch_flat.specs.FlatDocument.{assertion_attributes, assertion_events, assertion_name, characters, diagnostic_events, element as sch_element, id_list, let_events, part_events, pattern_events, rule_events}
+use Rattle.sch_flat.specs.FlatDocument.{assertion_attributes, assertion_events, assertion_name, characters, diagnostic_events, element as sch_element, let_events, part_events, pattern_events, rule_events}
+use Rattle.sch_texts.specs.Ids.{id_list}
 use Rattle.sch_model.specs.Placeless.{is_some_part}
 use Rattle.sch_flat_reading.specs.Readable.{Each, ReadableAssertion, ReadableDiagnostic, ReadablePattern, ReadableRule}
 use Rattle.sch_flat_reading.proofs.Document.{are_kids, diagnostics_element, title_element}

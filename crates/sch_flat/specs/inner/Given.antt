@@ -1,7 +1,7 @@
 -- Attributes as they are handed on: a value that is always there, one that may be, or a list of ids.
 use Rattle.std.specs.Prelude.{ℕ, List, Option, Some}
 use Rattle.sch_flat.specs.declared.given.Given.{Given}
-use Rattle.sch_flat.specs.FlatDocument.{id_list}
+use Rattle.sch_texts.specs.Ids.{id_list}
 use Rattle.sch_flat.specs.declared.given.Given.TheVariants.{Fixed, Always, IfAny, Ids}
 
 -- the name, and the value if there is one

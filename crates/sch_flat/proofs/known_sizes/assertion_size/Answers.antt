@@ -1,7 +1,8 @@
 -- The test apart.
 use Rattle.std.proofs.Common.{[], ◌∷◌, ◌++◌, Some, ap, ◌∙◌}
 use Rattle.std.specs.Prelude.{codes}
-use Rattle.sch_flat.specs.FlatDocument.{assertion_name, element, id_list}
+use Rattle.sch_flat.specs.FlatDocument.{assertion_name, element}
+use Rattle.sch_texts.specs.Ids.{id_list}
 use Rattle.sch_flat.specs.FlatSize.{size_of}
 use Rattle.sch_flat.proofs.KnownLemmas.{known}
 use Rattle.sch_flat.proofs.known_sizes.assertion_size.Goals as goal

@@ -1,9 +1,9 @@
 -- One id more.
 use Rattle.std.proofs.Common.{◌∷◌, ◌+◌, length, take, ap, sym, ◌∙◌}
 use Rattle.pyx_core.specs.Escapes.{escaped}
-use Rattle.sch_flat.specs.FlatDocument.{spaced}
+use Rattle.sch_texts.specs.Ids.{spaced}
 use Rattle.sch_flat.specs.FlatSize.{capped}
-use Rattle.sch_flat.proofs.ListLemmas.{spaced_next}
+use Rattle.sch_texts.proofs.IdLemmas.{spaced_next}
 use Rattle.sch_flat.proofs.SizeLemmas.{spaced_len_next}
 use Rattle.sch_flat.proofs.lines.spaced_len.Goals as goal
 

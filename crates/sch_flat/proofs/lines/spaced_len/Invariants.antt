@@ -1,7 +1,7 @@
 -- The ids so far are counted.
 use Rattle.std.proofs.Common.{◌≡◌, ◌∷◌, length, take}
 use Rattle.pyx_core.specs.Escapes.{escaped}
-use Rattle.sch_flat.specs.FlatDocument.{spaced}
+use Rattle.sch_texts.specs.Ids.{spaced}
 use Rattle.sch_flat.specs.FlatSize.{capped}
 use Rattle.sch_flat.proofs.lines.spaced_len.Given as goal
 

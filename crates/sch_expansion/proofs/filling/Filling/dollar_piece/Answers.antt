@@ -1,7 +1,8 @@
 use Rattle.std.proofs.Common.{◌≡◌, ◌++◌, sym, ap, length, ◌∙◌, arith, length-append}
 use Rattle.std.specs.Prelude.{chars, encode_utf8_all}
 use Rattle.std.proofs.lemmas.List.{append_cancel_right}
-use Rattle.sch_expansion.specs.Filled.{filled, longest_name}
+use Rattle.sch_expansion.specs.Filled.{filled}
+use Rattle.sch_texts.specs.Names.{longest_name}
 use Rattle.sch_expansion.specs.Pieces.{value_at}
 use Rattle.sch_expansion.proofs.FillLemmas.{dollar-goes, dollar-stays}
 use Rattle.sch_expansion.proofs.PlaceLemmas.{param-none, param-some}

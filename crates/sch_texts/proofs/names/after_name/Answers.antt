@@ -1,6 +1,6 @@
 use Rattle.std.proofs.Common.{sym, ap, length, ◌∙◌}
-use Rattle.sch_expansion.proofs.FrontLemmas.{name-more, name-stop, name-end}
-use Rattle.sch_expansion.proofs.fronts.after_name.Goals as goal
+use Rattle.sch_texts.proofs.FrontLemmas.{name-more, name-stop, name-end}
+use Rattle.sch_texts.proofs.names.after_name.Goals as goal
 
 pub returns-in-Some : goal.returns-in-Some
 returns-in-Some c =

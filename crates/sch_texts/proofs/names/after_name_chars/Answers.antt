@@ -1,6 +1,6 @@
 use Rattle.std.proofs.Common.{sym, ap, length, ◌∙◌}
-use Rattle.sch_expansion.proofs.FrontLemmas.{chars-more, chars-stop, chars-end}
-use Rattle.sch_expansion.proofs.fronts.after_name_chars.Goals as goal
+use Rattle.sch_texts.proofs.FrontLemmas.{chars-more, chars-stop, chars-end}
+use Rattle.sch_texts.proofs.names.after_name_chars.Goals as goal
 
 pub loop-c-preserved : goal.loop-c-preserved
 loop-c-preserved c = (

@@ -1,9 +1,9 @@
 -- One id more.
 use Rattle.std.proofs.Common.{◌++◌, ◌∷◌, ap, sym, ◌∙◌, take, append_assoc}
 use Rattle.std.specs.Prelude.{codes}
-use Rattle.sch_flat.specs.FlatDocument.{spaced}
-use Rattle.sch_flat.proofs.ListLemmas.{spaced_next}
-use Rattle.sch_flat.proofs.ids.spaced_ids.Goals as goal
+use Rattle.sch_texts.specs.Ids.{spaced}
+use Rattle.sch_texts.proofs.IdLemmas.{spaced_next}
+use Rattle.sch_texts.proofs.ids.spaced_ids.Goals as goal
 
 pub loop-id-preserved : goal.loop-id-preserved
 loop-id-preserved c =

@@ -3,8 +3,8 @@ use Rattle.std.proofs.Common.{◌≡◌, ℕ, Bool, true, false, cond, List, [],
 use Rattle.std.specs.Prelude.{encode_utf8, encode_utf8_all, chars, IsUtf8}
 use Rattle.std.proofs.lemmas.Str.{chars-nil, chars_past_char}
 use Rattle.sch_base.specs.Characters.{is_name_char, is_name_start}
-use Rattle.sch_expansion.specs.Filled.{longest_name, name_chars}
-use Rattle.sch_expansion.specs.inner.Fronts.{IsAfter}
+use Rattle.sch_texts.specs.Names.{longest_name, name_chars}
+use Rattle.sch_texts.specs.Fronts.{IsAfter}
 
 -- nothing is found at the front
 pub after-none : (front : List ℕ → List ℕ) (text : List ℕ) → front (chars text) ≡ [] → IsAfter front text text

@@ -1,8 +1,8 @@
 //! Names at the front of a text.
 
 ghost use Rattle.std.specs.Prelude.{◌≡◌, ◌++◌};
-ghost use Rattle.sch_expansion.specs.Filled.{longest_name, name_chars};
-ghost use Rattle.sch_expansion.specs.inner.Fronts.{IsAfter, IsEnd};
+ghost use Rattle.sch_texts.specs.Fronts.{IsAfter, IsEnd};
+ghost use Rattle.sch_texts.specs.Names.{longest_name, name_chars};
 
 use sch_base::{is_name_char, is_name_start};
 
@@ -21,7 +21,7 @@ fn after_name_chars(text: &str) -> &str
 }
 
 /// What follows the longest NCName in front; the text itself where it begins with none.
-pub(crate) fn after_name(text: &str) -> &str
+pub fn after_name(text: &str) -> &str
     ensures { IsAfter longest_name text.now result.now }
 {
     let mut chars = text.chars();
@@ -32,7 +32,7 @@ pub(crate) fn after_name(text: &str) -> &str
 }
 
 /// What stands in the text before its end `rest`.
-pub(crate) fn before<'a>(text: &'a str, rest: &str) -> &'a str
+pub fn before<'a>(text: &'a str, rest: &str) -> &'a str
     requires { IsEnd text.now rest.now }
     ensures { text.now ≡ result.now ++ rest.now }
 {

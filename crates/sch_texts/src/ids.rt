@@ -1,14 +1,13 @@
 //! Lists of ids as one text.
 
 ghost use Rattle.std.specs.Prelude.{◌≡◌, ◌∷◌, IfOk};
-ghost use Rattle.sch_flat.specs.FlatDocument.{id_list, spaced};
+ghost use Rattle.sch_texts.specs.Ids.{id_list, spaced};
 
-use sch_base::Text;
-use sch_model::TextList;
+use sch_base::{ItemList, Text};
 use std::alloc::{AllocError, Global};
 
 /// The ids with single spaces between them, where there are some.
-pub(crate) fn joined_ids(alloc: Global, ids: &TextList) -> Result<Option<Text>, AllocError>
+pub fn joined_ids(alloc: Global, ids: &ItemList<Text>) -> Result<Option<Text>, AllocError>
     ensures { IfOk result (λ text. text ≡ id_list ids.now) }
 {
     match ids.as_slice().split_first() {
