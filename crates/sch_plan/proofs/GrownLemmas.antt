@@ -8,7 +8,7 @@ use Rattle.xp_types.specs.Scope.{Named}
 use Rattle.sch_plan.specs.Broken.{second_let}
 use Rattle.sch_plan.specs.Expressions.{expression}
 use Rattle.sch_plan.specs.Lets.{Seen, all_lets, is_seen, one_let, scope, seen_after}
-use Rattle.sch_plan.specs.Walk.{Then, Stretch, each, goes}
+use Rattle.sch_phases.specs.Walk.{Then, Stretch, each, goes}
 use Rattle.sch_plan.proofs.Inversions.{same-value, then-ok, unless-ok}
 use Rattle.sch_plan.proofs.ScopeLemmas.{taken}
 

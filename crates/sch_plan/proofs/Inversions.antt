@@ -3,7 +3,7 @@ use Rattle.std.proofs.Common.{◌≡◌, Bool, false, List, [], ◌∷◌, Ok, E
 use Rattle.std.specs.List.{All}
 use Rattle.std.proofs.lemmas.List.Elements.{All-nil, All-cons}
 use Rattle.sch_model.specs.declared.fault.SchemaFault.{SchemaFault}
-use Rattle.sch_plan.specs.Walk.{Stretch, Then, Unless, every, goes}
+use Rattle.sch_phases.specs.Walk.{Stretch, Then, Unless, every, goes}
 
 pub same-value : {A : Type 0} (a b : A) → goes b (Ok a) → a ≡ b
 same-value a b e = cc

@@ -6,7 +6,7 @@ use Rattle.std.proofs.Math.Numerals.{add-one}
 use Rattle.sch_model.specs.declared.fault.SchemaError.{SchemaError}
 use Rattle.sch_model.specs.declared.fault.SchemaError.TheVariants.{Fault, Memory}
 use Rattle.sch_model.specs.declared.fault.SchemaFault.{SchemaFault}
-use Rattle.sch_plan.specs.Walk.{Answers, Stretch, Then, each, every, goes}
+use Rattle.sch_phases.specs.Walk.{Answers, Stretch, Then, each, every, goes}
 
 pub nothing-left : {A : Type 0} (xs : List A) → length xs ≡ 0 → xs ≡ []
 nothing-left [] e = refl

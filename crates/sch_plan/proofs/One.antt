@@ -1,7 +1,7 @@
 -- A stretch has one outcome, where its parts have.
 use Rattle.std.proofs.Common.{◌≡◌, Bool, true, false, List, [], ◌∷◌, Result, Ok, Err, sym, ap, ◌∙◌, subst, inl, inr, ◌⊎◌}
 use Rattle.sch_model.specs.declared.fault.SchemaFault.{SchemaFault}
-use Rattle.sch_plan.specs.Walk.{Stretch, Then, Unless, each, every, goes, stops}
+use Rattle.sch_phases.specs.Walk.{Stretch, Then, Unless, each, every, goes, stops}
 
 pub record IsOne {A : Type 0} (m : Stretch A) : Type 0 where
   pub same : (r s : Result A SchemaFault) → m r → m s → r ≡ s

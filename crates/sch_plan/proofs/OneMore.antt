@@ -20,14 +20,14 @@ use Rattle.xp_typed_tree.specs.WellTyped.{type_of}
 use Rattle.xp_syntax.specs.Laws.{OneSpelling, OnePatternSpelling, FirstFaultsAreUnique, FirstPatternFaultsAreUnique, FaultyTextsSpellNothing, FaultyTextsSpellNoPattern}
 use Rattle.xp_types.specs.Scope.{Scope}
 use Rattle.xp_types.specs.Laws.{TypesAreUnique, TypedHaveNoFault, FirstTypeFaultsAreUnique, PatternTypesAreUnique, TypedPatternsHaveNoFault, FirstPatternTypeFaultsAreUnique}
-use Rattle.sch_plan.specs.declared.phases.Choice.{Choice}
+use Rattle.sch_phases.specs.declared.phases.Choice.{Choice}
 use Rattle.sch_plan.specs.Broken.{no_path, second_let, syntax_fault, too_long, too_many_patterns, type_fault}
 use Rattle.sch_plan.specs.Compiled.{are_too_many, compiled, global_lets, let_count, walk}
 use Rattle.sch_plan.specs.Expressions.{expression, is_node_set, is_too_long, match_pattern, path, pattern_spelled, pattern_typed_in, short_expression, short_pattern, spelled, typed_in}
 use Rattle.sch_plan.specs.Lets.{Seen, all_lets, is_seen, nothing_before, one_let, pattern_scope, scope}
-use Rattle.sch_plan.specs.Phases.{chosen, chosen_by, chosen_name, of_phase, phase_of}
+use Rattle.sch_phases.specs.Phases.{chosen, chosen_by, chosen_name, of_phase, phase_of}
 use Rattle.sch_plan.specs.Rules.{all_patterns, diagnostic_of, diagnostics_of, message, one_assertion, one_diagnostic, one_part, one_pattern, one_rule}
-use Rattle.sch_plan.specs.Walk.{Unless, every, goes}
+use Rattle.sch_phases.specs.Walk.{Unless, every, goes}
 use Rattle.sch_plan.proofs.One.{IsOne, each-one, every-one, goes-one, stops-one, then-one, unless-one}
 
 -- the laws of the lower floors

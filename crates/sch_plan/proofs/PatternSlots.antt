@@ -12,7 +12,7 @@ use Rattle.sch_plan.specs.declared.walker.PatternParts.{PatternParts}
 use Rattle.sch_plan.specs.Compiled.{lets_of_patterns}
 use Rattle.sch_plan.specs.Lets.{Seen, all_lets}
 use Rattle.sch_plan.specs.Rules.{all_patterns, one_pattern, one_rule}
-use Rattle.sch_plan.specs.Walk.{Then, each, every, goes}
+use Rattle.sch_phases.specs.Walk.{Then, each, every, goes}
 use Rattle.sch_plan.proofs.Inversions.{every-all, same-value, then-ok}
 use Rattle.sch_plan.proofs.LetLemmas.{AfterLets, LetsSeen, after-lets}
 use Rattle.sch_plan.proofs.RuleSlots.{RuleSeen, rule-seen}

@@ -21,7 +21,7 @@ use Rattle.xp_types.specs.Laws.{PatternSlotsAreInScope, SlotsAreInScope}
 use Rattle.sch_plan.specs.Expressions.{expression, match_pattern, path}
 use Rattle.sch_plan.specs.Lets.{Seen, all_lets, pattern_scope, scope}
 use Rattle.sch_plan.specs.Rules.{diagnostics_of, message, one_assertion, one_diagnostic, one_part, one_rule}
-use Rattle.sch_plan.specs.Walk.{Then, every, goes}
+use Rattle.sch_phases.specs.Walk.{Then, every, goes}
 use Rattle.sch_plan.proofs.Inversions.{every-all, same-value, then-ok}
 use Rattle.sch_plan.proofs.LetLemmas.{AfterLets, LetsSeen, after-lets}
 use Rattle.sch_plan.proofs.SlotLemmas.{IsPath, all-flat, all-flat-twice, expression-seen, path-seen, pattern-seen, places}

@@ -16,7 +16,7 @@ use Rattle.xp_types.specs.Laws.{PatternSlotsAreInScope, SlotsAreInScope}
 use Rattle.sch_plan.specs.Broken.{no_path, too_long}
 use Rattle.sch_plan.specs.Expressions.{expression, is_node_set, is_too_long, match_pattern, path, pattern_spelled, pattern_typed_in, short_expression, short_pattern, spelled, typed_in}
 use Rattle.sch_plan.specs.Lets.{Seen, pattern_scope, scope}
-use Rattle.sch_plan.specs.Walk.{Unless, goes}
+use Rattle.sch_phases.specs.Walk.{Unless, goes}
 use Rattle.sch_plan.proofs.Inversions.{same-value, then-ok, unless-ok}
 
 -- the slots of variables, with their types

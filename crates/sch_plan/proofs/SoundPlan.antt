@@ -18,14 +18,14 @@ use Rattle.xp_typed_tree.specs.declared.value_type.ValueType.{ValueType}
 use Rattle.xp_typed_tree.specs.Slots.{slots_in}
 use Rattle.xp_typed_tree.specs.WellTyped.{type_of}
 use Rattle.xp_types.specs.Laws.{PatternSlotsAreInScope, SlotsAreInScope}
-use Rattle.sch_plan.specs.declared.phases.Choice.{Choice}
+use Rattle.sch_phases.specs.declared.phases.Choice.{Choice}
 use Rattle.sch_plan.specs.declared.walker.PatternParts.{PatternParts}
 use Rattle.sch_plan.specs.Broken.{too_many_patterns}
 use Rattle.sch_plan.specs.Compiled.{are_too_many, compiled, global_lets, in_force, let_count, pattern_lets, plan_of, plan_pattern, walk}
 use Rattle.sch_plan.specs.Lets.{Seen, all_lets, nothing_before}
-use Rattle.sch_plan.specs.Phases.{chosen}
+use Rattle.sch_phases.specs.Phases.{chosen}
 use Rattle.sch_plan.specs.Rules.{all_patterns, diagnostic_of}
-use Rattle.sch_plan.specs.Walk.{Then, Unless, goes}
+use Rattle.sch_phases.specs.Walk.{Then, Unless, goes}
 use Rattle.sch_plan.proofs.Inversions.{same-value, then-ok, unless-ok}
 use Rattle.sch_plan.proofs.LetLemmas.{AfterLets, LetsSeen, after-lets}
 use Rattle.sch_plan.proofs.RuleSlots.{RuleSeen}

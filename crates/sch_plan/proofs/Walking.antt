@@ -1,9 +1,9 @@
 -- Stretches of the walk one after another, as the program answers them.
-use Rattle.std.proofs.Common.{◌≡◌, Bool, true, false, Result, Ok, Err, refl, sym, subst, inl, inr}
+use Rattle.std.proofs.Common.{◌≡◌, ◌⊎◌, Bool, true, false, Result, Ok, Err, refl, sym, subst, inl, inr}
 use Rattle.sch_model.specs.declared.fault.SchemaError.{SchemaError}
 use Rattle.sch_model.specs.declared.fault.SchemaError.TheVariants.{Fault, Memory}
 use Rattle.sch_model.specs.declared.fault.SchemaFault.{SchemaFault}
-use Rattle.sch_plan.specs.Walk.{Answers, Stretch, Then, Unless, goes}
+use Rattle.sch_phases.specs.Walk.{Answers, Stretch, Then, Unless, goes}
 
 -- want of memory may be answered always
 pub answers_memory : {A : Type 0} (m : Stretch A) → Answers m (Err Memory)
@@ -31,6 +31,11 @@ module _ {A : Type 0} (b : Bool) (f : SchemaFault) (m : Stretch A) where
   -- the rule is broken
   pub answers_refused : (g : SchemaFault) → b ≡ true → g ≡ f → Answers (Unless b f m) (Err (Fault g))
   answers_refused g is same = subst (λ x. Answers (Unless b f m) (Err (Fault x))) (sym same) (record { given = record { either = inl (is, refl) } })
+
+  -- it is, or memory is wanted
+  pub answers_refusal : (e : SchemaError) → b ≡ true → (e ≡ Fault f) ⊎ (e ≡ Memory) → Answers (Unless b f m) (Err e)
+  answers_refusal e is (inl refused) = subst (λ x. Answers (Unless b f m) (Err x)) (sym refused) (answers_refused f is refl)
+  answers_refusal e is (inr late) = answers_late (Unless b f m) e late
 
   -- it isn't
   pub answers_unless : (r : Result A SchemaError) → b ≡ false → Answers m r → Answers (Unless b f m) r

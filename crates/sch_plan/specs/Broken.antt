@@ -12,10 +12,6 @@ use Rattle.xp_types.specs.FaultNames as types
 abbrev pub broken : ℕ → ℕ → List ℕ → SchemaFault
 broken rule node name = record { rule = rule; node = node; name = name }
 
--- 20: there is no such phase
-abbrev pub no_phase : ℕ → List ℕ → SchemaFault
-no_phase node phase = broken 20 node phase
-
 -- 21: too many patterns are active
 abbrev pub too_many_patterns : ℕ → SchemaFault
 too_many_patterns node = broken 21 node (codes "1024")

@@ -12,13 +12,13 @@ use Rattle.sch_compiled.specs.declared.plan.Plan.{Plan}
 use Rattle.sch_compiled.specs.declared.parts.PlanLet.{PlanLet}
 use Rattle.sch_compiled.specs.declared.parts.PlanNs.{PlanNs}
 use Rattle.sch_compiled.specs.declared.parts.PlanPattern.{PlanPattern}
-use Rattle.sch_plan.specs.declared.phases.Choice.{Choice}
+use Rattle.sch_phases.specs.declared.phases.Choice.{Choice}
 use Rattle.sch_plan.specs.declared.walker.PatternParts.{PatternParts}
 use Rattle.sch_plan.specs.Broken.{too_many_patterns}
 use Rattle.sch_plan.specs.Lets.{Seen, all_lets, nothing_before}
-use Rattle.sch_plan.specs.Phases.{chosen}
+use Rattle.sch_phases.specs.Phases.{chosen}
 use Rattle.sch_plan.specs.Rules.{all_patterns, diagnostic_of}
-use Rattle.sch_plan.specs.Walk.{Stretch, Then, Unless, goes}
+use Rattle.sch_phases.specs.Walk.{Stretch, Then, Unless, goes}
 
 abbrev pub lets_of_patterns : List FlatPattern → ℕ
 lets_of_patterns [] = 0

@@ -17,7 +17,7 @@ use Rattle.xp_types.specs.TypeFaults.{IsFirstTypeFault}
 use Rattle.xp_types.specs.PatternTypes.{PatternHasType}
 use Rattle.xp_types.specs.PatternFaults.{IsFirstPatternTypeFault}
 use Rattle.sch_plan.specs.Broken.{no_path, syntax_fault, too_long, type_fault}
-use Rattle.sch_plan.specs.Walk.{Stretch, Then, Unless, goes}
+use Rattle.sch_phases.specs.Walk.{Stretch, Then, Unless, goes}
 
 abbrev pub is_too_long : List ℕ → Bool
 is_too_long text = nat_lt MAX_EXPRESSION_BYTES (length text)

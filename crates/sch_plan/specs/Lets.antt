@@ -9,7 +9,7 @@ use Rattle.xp_types.specs.Scope.{Binding, Named, Scope, bound, variable_of}
 use Rattle.sch_compiled.specs.declared.parts.PlanLet.{PlanLet}
 use Rattle.sch_plan.specs.Broken.{second_let}
 use Rattle.sch_plan.specs.Expressions.{expression}
-use Rattle.sch_plan.specs.Walk.{Stretch, Then, Unless, each, goes}
+use Rattle.sch_phases.specs.Walk.{Stretch, Then, Unless, each, goes}
 
 -- what is seen at a place of the walk: prefixes, variables with the slots of their values, and the slot of the next let
 pub record Seen : Type 0 where

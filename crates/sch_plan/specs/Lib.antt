@@ -1,9 +1,7 @@
-pub mod Walk
 pub mod Broken
 pub mod Expressions
 pub mod Lets
 pub mod Rules
-pub mod Phases
 pub mod Compiled
 pub mod OnePlan
 pub mod inner

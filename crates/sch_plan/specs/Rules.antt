@@ -17,7 +17,7 @@ use Rattle.sch_compiled.specs.declared.parts.PlanRule.{PlanRule}
 use Rattle.sch_plan.specs.declared.walker.PatternParts.{PatternParts}
 use Rattle.sch_plan.specs.Expressions.{expression, match_pattern, path}
 use Rattle.sch_plan.specs.Lets.{Seen, all_lets, pattern_scope, scope}
-use Rattle.sch_plan.specs.Walk.{Stretch, Then, every, each, goes}
+use Rattle.sch_phases.specs.Walk.{Stretch, Then, every, each, goes}
 
 -- a part of a message
 abbrev pub name_part : Seen → ℕ → Option (List ℕ) → Stretch PlanPart

@@ -1,4 +1,5 @@
 pub mod Counts
 pub mod Ids
 pub mod Moved
+pub mod Parts
 pub mod Planned

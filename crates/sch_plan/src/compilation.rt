@@ -4,24 +4,26 @@ ghost use Rattle.std.specs.Prelude.{◌≡◌, [], List, IfOk};
 ghost use Rattle.sch_compiled.specs.Soundness.{IsSound};
 ghost use Rattle.sch_model.specs.declared.parts.Head.{Head};
 ghost use Rattle.sch_model.specs.declared.parts.Ns.{Ns};
-ghost use Rattle.sch_plan.specs.Compiled.{compiled, global_lets, walk};
+ghost use Rattle.sch_plan.specs.Broken.{too_many_patterns};
+ghost use Rattle.sch_plan.specs.Compiled.{are_too_many, compiled, global_lets, let_count, walk};
 ghost use Rattle.sch_plan.specs.Lets.{nothing_before};
 ghost use Rattle.sch_plan.specs.Rules.{diagnostic_of};
-ghost use Rattle.sch_plan.specs.Walk.{Answers};
+ghost use Rattle.sch_phases.specs.Walk.{Answers, Unless};
 ghost use Rattle.sch_plan.specs.inner.Ids.{found_in};
 ghost use Rattle.sch_plan.specs.inner.Moved.{moved};
 ghost use Rattle.sch_plan.specs.inner.Planned.{planned, walk_from};
 
 use crate::counts::{is_counted, let_count};
-use crate::faults::broken;
+use crate::faults::refusal;
 use crate::ids::by_id;
-use crate::phases::{Choice, chosen};
 use crate::plans::{global_lets, plan_of};
 use crate::scopes::Scopes;
 use crate::walker::{PatternPartsList, Walker};
+use doc_tree::NodeId;
 use sch_base::{MAX_ACTIVE_PATTERNS, Text};
 use sch_compiled::{LetInForceList, Plan};
 use sch_model::{DiagnosticList, FlatSchema, Head, LetDeclList, Ns, NsList, SchemaError};
+use sch_phases::{Choice, chosen};
 use std::alloc::{AllocError, Global};
 use xp_types::slots_are_in_scope;
 
@@ -81,6 +83,32 @@ fn walk_all(walker: &mut Walker, lets: LetDeclList, choice: Choice) -> Result<Wa
     })
 }
 
+/// The walk over what a phase chooses, where so many lets are in force.
+fn walk_counted(
+    alloc: Global,
+    prefixes: &[Ns],
+    lets: LetDeclList,
+    diagnostics: DiagnosticList,
+    choice: Choice,
+    count: u32,
+) -> Result<Walked, SchemaError>
+    requires { count ≡ let_count lets choice }
+    ensures { (head : Head) → Answers (walk head prefixes.now lets diagnostics choice) (planned head prefixes.now result) }
+{
+    match begin(alloc, prefixes, diagnostics, count) {
+        Ok(mut walker) => {
+            let walked = walk_all(&mut walker, lets, choice);
+            drop(walker);
+            walked
+        }
+        Err(_) => {
+            drop(choice);
+            drop(lets);
+            Err(SchemaError::Memory)
+        }
+    }
+}
+
 /// The walk over what a phase chooses.
 fn walk_choice(
     alloc: Global,
@@ -91,29 +119,67 @@ fn walk_choice(
 ) -> Result<Walked, SchemaError>
     ensures { (head : Head) → Answers (walk head prefixes.now lets diagnostics choice) (planned head prefixes.now result) }
 {
-    let count = let_count(&lets, &choice)?;
-    let mut walker = begin(alloc, prefixes, diagnostics, count)?;
-    walk_all(&mut walker, lets, choice)
+    match let_count(&lets, &choice) {
+        Ok(count) => walk_counted(alloc, prefixes, lets, diagnostics, choice, count),
+        Err(_) => {
+            drop(choice);
+            drop(diagnostics);
+            drop(lets);
+            Err(SchemaError::Memory)
+        }
+    }
+}
+
+/// What a schema says beside its phases and patterns.
+#[derive(Drop)]
+struct Declared {
+    head: Head,
+    ns: NsList,
+    lets: LetDeclList,
+    diagnostics: DiagnosticList,
+}
+
+impl Declared {
+    /// The document element.
+    fn element(&self) -> NodeId
+        ensures { result ≡ self.now.head.node }
+    {
+        self.head.node
+    }
 }
 
 /// The plan of what a phase chooses.
-fn walk(
-    alloc: Global,
-    head: Head,
-    prefixes: NsList,
-    lets: LetDeclList,
-    diagnostics: DiagnosticList,
-    choice: Choice,
-) -> Result<Plan, SchemaError>
-    ensures { Answers (walk head prefixes lets diagnostics choice) result }
+fn walk(alloc: Global, declared: Declared, choice: Choice) -> Result<Plan, SchemaError>
+    ensures { Answers (walk declared.head declared.ns declared.lets declared.diagnostics choice) result }
 {
+    let Declared {
+        head,
+        ns,
+        lets,
+        diagnostics,
+    } = declared;
     let Walked {
         phase,
         lets,
         patterns,
-    } = walk_choice(alloc, prefixes.as_slice(), lets, diagnostics, choice)?;
-    let plan = plan_of(alloc, head, prefixes, phase, lets, patterns)?;
+    } = walk_choice(alloc, ns.as_slice(), lets, diagnostics, choice)?;
+    let plan = plan_of(alloc, head, ns, phase, lets, patterns)?;
     Ok(plan)
+}
+
+/// The plan of what a phase chooses, or rule 21: it makes too many patterns active.
+fn walk_if_few(alloc: Global, declared: Declared, choice: Choice) -> Result<Plan, SchemaError>
+    ensures { Answers (Unless (are_too_many choice.patterns) (too_many_patterns declared.head.node)
+        (walk declared.head declared.ns declared.lets declared.diagnostics choice)) result }
+{
+    let node = declared.element();
+    if choice.patterns.len() <= MAX_ACTIVE_PATTERNS {
+        walk(alloc, declared, choice)
+    } else {
+        drop(choice);
+        drop(declared);
+        Err(refusal(alloc, 21, node, "1024"))
+    }
 }
 
 /// The plan of a phase, or the first broken rule from 20 to 31.
@@ -128,12 +194,19 @@ fn compiled(alloc: Global, flat: FlatSchema, phase: &str) -> Result<Plan, Schema
         patterns,
         diagnostics,
     } = flat;
-    let choice = chosen(alloc, &head, phases, patterns, phase)?;
-    if choice.patterns.len() > MAX_ACTIVE_PATTERNS {
-        let fault = broken(alloc, 21, head.node, "1024")?;
-        return Err(SchemaError::Fault(fault));
+    let declared = Declared {
+        head,
+        ns,
+        lets,
+        diagnostics,
+    };
+    match chosen(alloc, &declared.head, phases, patterns, phase) {
+        Ok(choice) => walk_if_few(alloc, declared, choice),
+        Err(error) => {
+            drop(declared);
+            Err(error)
+        }
     }
-    walk(alloc, head, ns, lets, diagnostics, choice)
 }
 
 /// The plan of a phase, or the first rule from 20 to 31 that the schema breaks.

@@ -5,9 +5,9 @@ ghost use Rattle.sch_compiled.specs.Soundness.{IsCounted};
 ghost use Rattle.sch_plan.specs.Compiled.{let_count};
 ghost use Rattle.sch_plan.specs.inner.Counts.{ArePatternsCounted, IsPatternCounted, IsRuleCounted};
 
-use crate::phases::Choice;
 use sch_compiled::{Plan, PlanPattern, PlanRule};
 use sch_model::LetDeclList;
+use sch_phases::Choice;
 use std::alloc::AllocError;
 
 /// A number and a length, together.

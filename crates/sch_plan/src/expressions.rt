@@ -4,7 +4,7 @@ ghost use Rattle.std.specs.Prelude.{◌≡◌, ◌≤◌, true, false, length};
 ghost use Rattle.xp_tree.specs.PatternTree.{pattern_of};
 ghost use Rattle.xp_tree.specs.View.{tree_of};
 ghost use Rattle.sch_plan.specs.Expressions.{expression, match_pattern, path, pattern_typed_in, short_expression, short_pattern, typed_in};
-ghost use Rattle.sch_plan.specs.Walk.{Answers};
+ghost use Rattle.sch_phases.specs.Walk.{Answers};
 
 use crate::faults::{broken, syntax_fault, type_fault};
 use doc_tree::NodeId;

@@ -1,12 +1,13 @@
 //! The rules that the walk tests, where they are broken.
 
-ghost use Rattle.std.specs.Prelude.{◌≡◌, IfOk};
+ghost use Rattle.std.specs.Prelude.{◌≡◌, ◌⊎◌, IfOk};
 ghost use Rattle.std.specs.Option.{option_copied};
+ghost use Rattle.sch_model.specs.declared.fault.SchemaError.TheVariants.{Fault, Memory};
 ghost use Rattle.sch_plan.specs.Broken.{broken, place_name, rule_of, syntax_fault, thing_of, type_fault};
 
 use doc_tree::NodeId;
 use sch_base::Text;
-use sch_model::SchemaFault;
+use sch_model::{SchemaError, SchemaFault};
 use std::alloc::{AllocError, Global};
 use xp_grammar::SyntaxFault;
 use xp_types::{TypeFault, TypeKind};
@@ -22,6 +23,16 @@ pub(crate) fn broken(
 {
     let name = Text::copy(alloc, name)?;
     Ok(SchemaFault { rule, node, name })
+}
+
+/// The error of a rule that is broken at an element; want of memory where the name that is told can't be copied.
+pub(crate) fn refusal(alloc: Global, rule: u32, node: NodeId, name: &str) -> SchemaError
+    ensures { (result ≡ Fault (broken rule node name.now)) ⊎ (result ≡ Memory) }
+{
+    match broken(alloc, rule, node, name) {
+        Ok(fault) => SchemaError::Fault(fault),
+        Err(AllocError) => SchemaError::Memory,
+    }
 }
 
 /// A kind of fault with its offset in bytes, and the thing that is refused where there is one.

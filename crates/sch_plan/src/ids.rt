@@ -1,25 +1,30 @@
-//! Ids that are looked up.
+//! Diagnostics that are looked up by their ids.
 
-ghost use Rattle.std.specs.Prelude.{◌≡◌, ◌||◌, ℕ, List, IfOk, OnOk};
-ghost use Rattle.sch_plan.specs.Phases.{is_active};
+ghost use Rattle.std.specs.Prelude.{◌≡◌, ◌∷◌, ℕ, List, IfOk, OnOk};
+ghost use Rattle.std.specs.Option.{option_or};
+ghost use Rattle.sch_model.specs.declared.parts.Diagnostic.{Diagnostic};
 ghost use Rattle.sch_plan.specs.Rules.{diagnostic_of};
-ghost use Rattle.sch_plan.specs.inner.Ids.{found_in, has_id};
+ghost use Rattle.sch_plan.specs.inner.Ids.{found_in};
 
-use indexmap::{IndexMap, IndexSet};
-use sch_base::Text;
-use sch_model::{Active, Diagnostic, DiagnosticList};
+use indexmap::IndexMap;
+use sch_model::{Diagnostic, DiagnosticList};
 use std::alloc::{AllocError, Global};
 
-/// The patterns that a phase names. A name is found in constant time.
-pub(crate) fn active_ids(alloc: Global, active: &[Active]) -> Result<IndexSet<String>, AllocError>
-    ensures { IfOk result (λ ids. has_id ids.keys ≡ is_active active.now) }
+/// Keeps a diagnostic by its id, unless one with this id is kept.
+fn keep(
+    alloc: Global,
+    found: &mut IndexMap<String, Diagnostic>,
+    diagnostic: Diagnostic,
+) -> Result<(), AllocError>
+    ensures { OnOk result ((more : List Diagnostic) (id : List ℕ) → option_or (found_in found.new.entries id) (diagnostic_of more id) ≡ option_or (found_in found.old.entries id) (diagnostic_of (diagnostic ∷ more) id)) }
 {
-    let mut ids = IndexSet::new(alloc);
-    for its in active {
-        let id = String::from_str(alloc, its.pattern.as_str())?;
-        ids.insert_full(id)?;
+    if found.contains_key(diagnostic.id.as_str()) {
+        drop(diagnostic);
+        return Ok(());
     }
-    Ok(ids)
+    let id = String::from_str(alloc, diagnostic.id.as_str())?;
+    found.insert(id, diagnostic)?;
+    Ok(())
 }
 
 /// The diagnostics by their ids; of two with one id the first. One is found in constant time.
@@ -31,10 +36,7 @@ pub(crate) fn by_id(
 {
     let mut found = IndexMap::new(alloc);
     for diagnostic in diagnostics.into_vec() {
-        let id = String::from_str(alloc, diagnostic.id.as_str())?;
-        if !found.contains_key(id.as_str()) {
-            found.insert(id, diagnostic)?;
-        }
+        keep(alloc, &mut found, diagnostic)?;
     }
     Ok(found)
 }

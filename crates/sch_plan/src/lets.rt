@@ -1,7 +1,7 @@
 //! Lets.
 
 ghost use Rattle.sch_plan.specs.Lets.{all_lets, one_let};
-ghost use Rattle.sch_plan.specs.Walk.{Answers};
+ghost use Rattle.sch_phases.specs.Walk.{Answers};
 ghost use Rattle.sch_plan.specs.inner.Moved.{moved};
 
 use crate::scopes::Scopes;

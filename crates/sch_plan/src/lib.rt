@@ -10,7 +10,6 @@ mod ids;
 mod laws;
 mod lets;
 mod messages;
-mod phases;
 mod plans;
 mod scopes;
 mod walker;

@@ -1,7 +1,7 @@
 //! Messages and diagnostics.
 
 ghost use Rattle.sch_plan.specs.Rules.{message, name_part, one_diagnostic, one_part, value_part};
-ghost use Rattle.sch_plan.specs.Walk.{Answers};
+ghost use Rattle.sch_phases.specs.Walk.{Answers};
 
 use crate::scopes::Scopes;
 use doc_tree::NodeId;

@@ -3,7 +3,7 @@
 ghost use Rattle.std.specs.Prelude.{◌≡◌, ◌<◌, ◌^◌, false, [], length, take, IfOk, OnOk};
 ghost use Rattle.sch_plan.specs.Expressions.{expression, match_pattern, path};
 ghost use Rattle.sch_plan.specs.Lets.{is_seen, nothing_before, pattern_scope, scope, seen_after, with_prefix, with_prefixes};
-ghost use Rattle.sch_plan.specs.Walk.{Answers};
+ghost use Rattle.sch_phases.specs.Walk.{Answers};
 
 use crate::expressions::{expression, match_pattern, path};
 use doc_tree::NodeId;

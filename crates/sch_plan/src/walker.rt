@@ -1,22 +1,26 @@
 //! The walk over patterns, rules and assertions.
 
-ghost use Rattle.std.specs.Prelude.{◌≡◌, OnOk};
+ghost use Rattle.std.specs.Prelude.{◌≡◌, ℕ, List, Option, OnOk};
 ghost use Rattle.sch_plan.specs.Rules.{all_patterns, diagnostics_of, one_assertion, one_diagnostic, one_pattern, one_rule};
-ghost use Rattle.sch_plan.specs.Walk.{Answers, every};
+ghost use Rattle.sch_phases.specs.Walk.{Answers, every};
 ghost use Rattle.sch_plan.specs.inner.Ids.{found_in};
 ghost use Rattle.sch_plan.specs.inner.Moved.{moved};
+ghost use Rattle.sch_plan.specs.inner.Parts.{asserted, ruled, written_rule};
 
 use crate::scopes::Scopes;
+use doc_tree::NodeId;
 use indexmap::IndexMap;
 use sch_base::{ItemList, Text};
 use sch_compiled::{
-    PlanAssert, PlanAssertList, PlanDiagnosticList, PlanLetList, PlanRule, PlanRuleList,
+    PlanAssert, PlanAssertList, PlanDiagnosticList, PlanLetList, PlanPartList, PlanRule,
+    PlanRuleList,
 };
 use sch_model::{
     Assertion, AssertionList, Diagnostic, FlatPattern, FlatPatternList, FlatRule, FlatRuleList,
-    SchemaError,
+    LetDeclList, SchemaError,
 };
 use std::alloc::Global;
+use xp_typed_tree::{Typed, TypedPattern};
 
 /// An active pattern with its lets.
 #[derive(Drop)]
@@ -27,6 +31,22 @@ pub(crate) struct PatternParts {
 }
 
 pub(crate) type PatternPartsList = ItemList<PatternParts>;
+
+/// What the expressions of an assertion are compiled to.
+#[derive(Drop)]
+struct AssertionParts {
+    test: Typed,
+    diagnostics: PlanDiagnosticList,
+    message: PlanPartList,
+}
+
+/// What the expressions of a rule are compiled to.
+#[derive(Drop)]
+struct RuleParts {
+    context: TypedPattern,
+    lets: PlanLetList,
+    assertions: PlanAssertList,
+}
 
 /// A walk over patterns: what is seen, the diagnostics by their ids, and the number of lets in force.
 ///
@@ -54,23 +74,40 @@ impl Walker {
         Ok(list)
     }
 
-    /// An assertion. Its texts are moved, but for those of its message.
-    fn one_assertion(&self, its: Assertion) -> Result<PlanAssert, SchemaError>
-        ensures { Answers (one_assertion (found_in self.now.diagnostics.entries) self.now.seen its) result }
+    /// What an assertion is compiled to.
+    fn assertion_parts(&self, its: &Assertion) -> Result<AssertionParts, SchemaError>
+        ensures { Answers (one_assertion (found_in self.now.diagnostics.entries) self.now.seen its.now) (asserted its.now result) }
     {
         let test = self.seen.expression(its.node, its.test.as_str())?;
         let diagnostics = self.named_diagnostics(its.diagnostics.as_slice())?;
         let message = self.seen.message(self.alloc, its.message.as_slice())?;
-        Ok(PlanAssert {
-            report: its.report,
-            id: its.id,
-            role: its.role,
-            flag: its.flag,
-            test_text: its.test,
+        Ok(AssertionParts {
             test,
             diagnostics,
             message,
         })
+    }
+
+    /// An assertion. Its texts are moved, but for those of its message.
+    fn one_assertion(&self, its: Assertion) -> Result<PlanAssert, SchemaError>
+        ensures { Answers (one_assertion (found_in self.now.diagnostics.entries) self.now.seen its) result }
+    {
+        match self.assertion_parts(&its) {
+            Ok(parts) => Ok(PlanAssert {
+                report: its.report,
+                id: its.id,
+                role: its.role,
+                flag: its.flag,
+                test_text: its.test,
+                test: parts.test,
+                diagnostics: parts.diagnostics,
+                message: parts.message,
+            }),
+            Err(error) => {
+                drop(its);
+                Err(error)
+            }
+        }
     }
 
     /// The assertions of a rule.
@@ -84,28 +121,64 @@ impl Walker {
         Ok(list)
     }
 
+    /// What a rule is compiled to. Its lets are seen no more after it.
+    fn rule_parts(
+        &mut self,
+        node: NodeId,
+        text: &str,
+        lets: LetDeclList,
+        assertions: AssertionList,
+    ) -> Result<RuleParts, SchemaError>
+        ensures compiled { (id role flag : Option (List ℕ)) → Answers (one_rule (found_in self.old.diagnostics.entries) self.old.count self.old.seen (written_rule node text.now lets assertions id role flag)) (ruled text.now id role flag result) }
+        ensures kept { OnOk result (self.new ≡ self.old) }
+    {
+        let mark = self.seen.mark();
+        let next = self.seen.next();
+        let context = self.seen.match_pattern(node, text)?;
+        self.seen.go_on_at(self.count);
+        let lets = self.seen.all_lets(self.alloc, lets)?;
+        let assertions = self.all_assertions(assertions)?;
+        self.seen.cut(mark);
+        self.seen.go_on_at(next);
+        Ok(RuleParts {
+            context,
+            lets,
+            assertions,
+        })
+    }
+
     /// A rule, whose lets are seen no more after it. Its texts are moved.
     fn one_rule(&mut self, rule: FlatRule) -> Result<PlanRule, SchemaError>
         ensures compiled { Answers (one_rule (found_in self.old.diagnostics.entries) self.old.count self.old.seen rule) result }
         ensures kept { OnOk result (self.new ≡ self.old) }
     {
-        let mark = self.seen.mark();
-        let next = self.seen.next();
-        let context = self.seen.match_pattern(rule.node, rule.context.as_str())?;
-        self.seen.go_on_at(self.count);
-        let lets = self.seen.all_lets(self.alloc, rule.lets)?;
-        let assertions = self.all_assertions(rule.assertions)?;
-        self.seen.cut(mark);
-        self.seen.go_on_at(next);
-        Ok(PlanRule {
-            id: rule.id,
-            context_text: rule.context,
+        let FlatRule {
+            node,
+            id,
             context,
-            role: rule.role,
-            flag: rule.flag,
+            role,
+            flag,
             lets,
             assertions,
-        })
+        } = rule;
+        match self.rule_parts(node, context.as_str(), lets, assertions) {
+            Ok(parts) => Ok(PlanRule {
+                id,
+                context_text: context,
+                context: parts.context,
+                role,
+                flag,
+                lets: parts.lets,
+                assertions: parts.assertions,
+            }),
+            Err(error) => {
+                drop(flag);
+                drop(role);
+                drop(context);
+                drop(id);
+                Err(error)
+            }
+        }
     }
 
     /// The rules of a pattern.

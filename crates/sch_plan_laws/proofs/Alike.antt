@@ -1,7 +1,7 @@
 -- Stretches that go on with the same values; where they stop may differ.
 use Rattle.std.proofs.Common.{◌≡◌, Bool, false, List, [], ◌∷◌, map, Ok, Err, refl, subst, inl, inr}
 use Rattle.sch_model.specs.declared.fault.SchemaFault.{SchemaFault}
-use Rattle.sch_plan.specs.Walk.{Stretch, Then, Unless, each, every, goes, stops}
+use Rattle.sch_phases.specs.Walk.{Stretch, Then, Unless, each, every, goes, stops}
 
 pub record Alike {A : Type 0} (m n : Stretch A) : Type 0 where
   pub there : (a : A) → m (Ok a) → n (Ok a)

@@ -22,13 +22,13 @@ use Rattle.xp_types.specs.Scope.{Binding, Scope}
 use Rattle.sch_base.specs.declared.limits.TheConstants.{MAX_ACTIVE_PATTERNS}
 use Rattle.sch_compiled.specs.declared.parts.LetInForce.{LetInForce}
 use Rattle.sch_compiled.specs.declared.plan.Plan.{Plan}
-use Rattle.sch_plan.specs.Broken.{no_path, no_phase, second_let, too_long, too_many_patterns}
+use Rattle.sch_plan.specs.Broken.{no_path, second_let, too_long, too_many_patterns}
 use Rattle.sch_plan.specs.Compiled.{are_too_many, compiled, global_lets, let_count, lets_of_patterns, plan_ns, plan_of, plan_pattern, walk}
 use Rattle.sch_plan.specs.Expressions.{expression, is_node_set, is_too_long, match_pattern, path, pattern_spelled, pattern_typed_in, short_expression, short_pattern, spelled, typed_in}
 use Rattle.sch_plan.specs.Lets.{Seen, all_lets, is_seen, nothing_before, one_let, pattern_scope, scope, with_prefix, with_prefixes}
-use Rattle.sch_plan.specs.Phases.{active_patterns, all_chosen, choice_of, chosen_by, chosen_name, is_active, is_named, of_phase, phase_of}
+use Rattle.sch_phases.specs.Phases.{active_patterns, all_chosen, choice_of, chosen_by, chosen_name, is_active, is_named, no_phase, of_phase, phase_of}
 use Rattle.sch_plan.specs.Rules.{all_patterns, diagnostic_of, diagnostics_of, message, one_assertion, one_diagnostic, one_part, one_pattern, one_rule}
-use Rattle.sch_plan.specs.Walk.{Stretch, Then, Unless, every, goes}
+use Rattle.sch_phases.specs.Walk.{Stretch, Then, Unless, every, goes}
 use Rattle.sch_plan_laws.specs.Places.{PlansNeedNoPlaces}
 use Rattle.sch_plan_laws.proofs.Alike.{Alike, alike-each, alike-every, alike-goes, alike-same, alike-stops, alike-then, alike-unless}
 

@@ -6,11 +6,11 @@ use Rattle.sch_model.specs.declared.parts.Head.{Head}
 use Rattle.sch_model.specs.declared.parts.LetDecl.{LetDecl}
 use Rattle.sch_model.specs.declared.parts.Ns.{Ns}
 use Rattle.sch_plan.specs.declared.compilation.Walked.{Walked}
-use Rattle.sch_plan.specs.declared.phases.Choice.{Choice}
+use Rattle.sch_phases.specs.declared.phases.Choice.{Choice}
 use Rattle.sch_plan.specs.Compiled.{global_lets, plan_of}
 use Rattle.sch_plan.specs.Lets.{Seen}
 use Rattle.sch_plan.specs.Rules.{all_patterns}
-use Rattle.sch_plan.specs.Walk.{Stretch, Then, goes}
+use Rattle.sch_phases.specs.Walk.{Stretch, Then, goes}
 
 abbrev pub planned : {E : Type 0} → Head → List Ns → Result Walked E → Result Plan E
 planned head ns (Ok its) = Ok (plan_of head ns its.phase its.lets its.patterns)

@@ -1,6 +1,6 @@
 use Rattle.std.proofs.Common.{subst}
 use Rattle.sch_plan.specs.Expressions.{path}
-use Rattle.sch_plan.specs.Walk.{Answers}
+use Rattle.sch_phases.specs.Walk.{Answers}
 use Rattle.sch_plan.proofs.ScopeLemmas.{scope-of}
 use Rattle.sch_plan.proofs.scopes.Scopes.path.Goals as goal
 

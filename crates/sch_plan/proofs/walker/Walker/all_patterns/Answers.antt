@@ -4,7 +4,7 @@ use Rattle.std.specs.Vec.Iter.{into_iter_items}
 use Rattle.sch_plan.proofs.Loops.{each_end, each_go, each_refused, one-fewer}
 use Rattle.sch_plan.specs.declared.walker.Walker.{Walker}
 use Rattle.sch_plan.specs.Rules.{one_pattern}
-use Rattle.sch_plan.specs.Walk.{Answers}
+use Rattle.sch_phases.specs.Walk.{Answers}
 use Rattle.sch_plan.specs.inner.Ids.{found_in}
 use Rattle.sch_plan.proofs.walker.Walker.all_patterns.Goals as goal
 

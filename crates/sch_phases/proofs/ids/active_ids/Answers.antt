@@ -1,7 +1,7 @@
 -- One more, up to all.
 use Rattle.std.proofs.Common.{◌∙◌}
-use Rattle.sch_plan.proofs.IdLemmas.{ids-all, ids-next}
-use Rattle.sch_plan.proofs.ids.active_ids.Goals as goal
+use Rattle.sch_phases.proofs.IdLemmas.{ids-all, ids-next}
+use Rattle.sch_phases.proofs.ids.active_ids.Goals as goal
 
 pub loop-its-preserved : goal.loop-its-preserved
 loop-its-preserved c =

@@ -3,13 +3,17 @@
 use Rattle.std.specs.Prelude.{ℕ, Bool, true, false, List, [], ◌∷◌, Option, None, Some, codes, filter, if◌then◌else◌}
 use Rattle.std.specs.List.{list_any}
 use Rattle.std.specs.Str.{bytes_eq}
+use Rattle.sch_model.specs.declared.fault.SchemaFault.{SchemaFault}
 use Rattle.sch_model.specs.declared.flat.FlatPattern.{FlatPattern}
 use Rattle.sch_model.specs.declared.parts.Active.{Active}
 use Rattle.sch_model.specs.declared.parts.Head.{Head}
 use Rattle.sch_model.specs.declared.parts.Phase.{Phase}
-use Rattle.sch_plan.specs.declared.phases.Choice.{Choice}
-use Rattle.sch_plan.specs.Broken.{no_phase}
-use Rattle.sch_plan.specs.Walk.{Stretch, goes, stops}
+use Rattle.sch_phases.specs.declared.phases.Choice.{Choice}
+use Rattle.sch_phases.specs.Walk.{Stretch, goes, stops}
+
+-- 20: there is no such phase
+abbrev pub no_phase : ℕ → List ℕ → SchemaFault
+no_phase node phase = record { rule = 20; node = node; name = phase }
 
 abbrev pub phase_of : List Phase → List ℕ → Option Phase
 phase_of [] name = None

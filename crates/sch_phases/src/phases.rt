@@ -1,23 +1,25 @@
 //! The choice of a phase.
 
 ghost use Rattle.std.specs.Prelude.{◌≡◌, filter, IfOk};
-ghost use Rattle.sch_plan.specs.Phases.{active_patterns, choice_of, chosen, chosen_name, is_named, phase_of};
-ghost use Rattle.sch_plan.specs.Walk.{Answers};
-ghost use Rattle.sch_plan.specs.inner.Ids.{has_id};
+ghost use Rattle.sch_phases.specs.Phases.{active_patterns, choice_of, chosen, chosen_name, is_named, no_phase, phase_of};
+ghost use Rattle.sch_phases.specs.Walk.{Answers};
+ghost use Rattle.sch_phases.specs.inner.Ids.{has_id};
 
-use crate::faults::broken;
 use crate::ids::active_ids;
+use doc_tree::NodeId;
 use indexmap::IndexSet;
 use sch_base::{ItemList, Text};
-use sch_model::{Active, FlatPatternList, Head, LetDeclList, Phase, PhaseList, SchemaError};
+use sch_model::{
+    Active, FlatPatternList, Head, LetDeclList, Phase, PhaseList, SchemaError, SchemaFault,
+};
 use std::alloc::{AllocError, Global};
 
 /// The phase that is chosen, where not all patterns are; its lets; the active patterns, in the order of the schema.
 #[derive(Drop)]
-pub(crate) struct Choice {
-    pub(crate) phase: Option<Text>,
-    pub(crate) lets: LetDeclList,
-    pub(crate) patterns: FlatPatternList,
+pub struct Choice {
+    pub phase: Option<Text>,
+    pub lets: LetDeclList,
+    pub patterns: FlatPatternList,
 }
 
 /// The name of the phase that is meant; `#DEFAULT` is the schema's default, and all patterns for want of one.
@@ -95,8 +97,20 @@ fn choice_of(alloc: Global, patterns: FlatPatternList, phase: Phase) -> Result<C
     })
 }
 
+/// Rule 20: there is no phase of a name.
+fn no_phase(alloc: Global, node: NodeId, name: &str) -> Result<SchemaFault, AllocError>
+    ensures { IfOk result (λ fault. fault ≡ no_phase node name.now) }
+{
+    let name = Text::copy(alloc, name)?;
+    Ok(SchemaFault {
+        rule: 20,
+        node,
+        name,
+    })
+}
+
 /// The choice that a word makes, or rule 20: there is no such phase. Costs time linear in the schema's phases and patterns.
-pub(crate) fn chosen(
+pub fn chosen(
     alloc: Global,
     head: &Head,
     phases: PhaseList,
@@ -119,7 +133,7 @@ pub(crate) fn chosen(
             Ok(choice)
         }
         None => {
-            let fault = broken(alloc, 20, head.node, name)?;
+            let fault = no_phase(alloc, head.node, name)?;
             Err(SchemaError::Fault(fault))
         }
     }
