@@ -1,6 +1,6 @@
 -- How many units are stale: the count of entries, and that of the definition.
-use Rattle.std.proofs.Common.{◌≡◌, ◌∙◌, ℕ, ◌+◌, ◌<◌, ◌≤◌, zero, suc, Bool, true, false, ◌&&◌, cond, List, [], ◌∷◌, ◌++◌, length, map, Option, None, Some, is_none, if◌then◌else◌, refl, sym, ap, arith, add-zero, zero-add}
-use Rattle.std.proofs.lemmas.List.Sums.{length-filter, sum_by-append, sum_by-cons, sum_by_push}
+use Rattle.std.proofs.Common.{◌≡◌, ◌∙◌, ℕ, ◌+◌, ◌<◌, ◌≤◌, zero, suc, Bool, true, false, ◌&&◌, cond, List, [], ◌∷◌, length, map, Option, None, Some, is_none, if◌then◌else◌, refl, sym, ap, arith, zero-add}
+use Rattle.std.proofs.lemmas.List.Sums.{length-filter, sum_by-append, sum_by-cons}
 use Rattle.std.specs.List.{count_by, filter, flat_map, range_with_len, sum_by}
 use Rattle.doc_tree.specs.Table.{Table, is_live}
 use Rattle.xp_outcome.specs.Recorded.{note_all, nothing_read}
@@ -9,34 +9,12 @@ use Rattle.sch_units.specs.Validity.{pattern_numbers}
 use Rattle.edit_costs.specs.Dirty.{Since, is_stale, stale_units}
 use Rattle.edit_costs.specs.Units.{ValidationUnit, in_force, under, let_units, live_numbers, node_units, reads_of, units_of}
 use Rattle.kept_units.specs.declared.kept_units.KeptUnits.{KeptUnits}
-use Rattle.kept_units.specs.Keeping.{Keeps, kept_reads, place_of, reads_at}
-use Rattle.kept_units.specs.inner.Counting.{is_stale_node}
+use Rattle.kept_reads.specs.Counting.{is_stale_node}
+use Rattle.kept_reads.specs.Reads.{reads_at}
+use Rattle.kept_reads.proofs.CountingLemmas.{sum_more}
+use Rattle.kept_units.specs.Keeping.{Keeps, kept_reads, place_of}
 
--- Numbers in a row
-
--- one number more at the end
-range_push : (a n : ℕ) → range_with_len a (suc n) ≡ range_with_len a n ++ (a + n) ∷ []
-range_push a zero = let e : a ≡ a + 0 = omega arith in ap (λ (k : ℕ). k ∷ []) e
-range_push a (suc n) =
-    let e : (a + 1) + n ≡ a + suc n = omega arith in
-    ap (λ (ks : List ℕ). a ∷ ks) (range_push (a + 1) n ∙ ap (λ (k : ℕ). range_with_len (a + 1) n ++ k ∷ []) e)
-
-sum_more : (f : ℕ → ℕ) (n : ℕ) → sum_by f (range_with_len 0 (n + 1)) ≡ sum_by f (range_with_len 0 n) + f n
-sum_more f n =
-    let next : n + 1 ≡ suc n = omega arith in
-    let place : 0 + n ≡ n = omega arith in
-    ap (λ (k : ℕ). sum_by f (range_with_len 0 k)) next ∙ ap (sum_by f) (range_push 0 n) ∙ sum_by_push f (range_with_len 0 n) (0 + n)
-    ∙ ap (λ (k : ℕ). sum_by f (range_with_len 0 n) + f k) place
-
--- one number more, which passes or not
-count_more : (p : ℕ → Bool) (n : ℕ) (b : Bool) → p n ≡ b → count_by p (range_with_len 0 (n + 1)) ≡ count_by p (range_with_len 0 n) + cond b 1 0
-count_more p n b is = sum_more (λ (k : ℕ). cond (p k) 1 0) n ∙ ap (λ (b : Bool). count_by p (range_with_len 0 n) + cond b 1 0) is
-
-pub count_one : (p : ℕ → Bool) (n old new : ℕ) → p n ≡ true → old ≡ count_by p (range_with_len 0 n) → new ≡ old + 1 → new ≡ count_by p (range_with_len 0 (n + 1))
-count_one p n old new passes so_far is = is ∙ ap (λ (k : ℕ). k + 1) so_far ∙ sym (count_more p n true passes)
-
-pub count_none : (p : ℕ → Bool) (n old new : ℕ) → p n ≡ false → old ≡ count_by p (range_with_len 0 n) → new ≡ old → new ≡ count_by p (range_with_len 0 (n + 1))
-count_none p n old new fails so_far is = is ∙ so_far ∙ sym (add-zero (count_by p (range_with_len 0 n))) ∙ sym (count_more p n false fails)
+-- Sums
 
 -- one sum more
 pub sum_on : (f : ℕ → ℕ) (n base old more : ℕ) → more ≡ f n → old ≡ base + sum_by f (range_with_len 0 n) → old + more ≡ base + sum_by f (range_with_len 0 (n + 1))

@@ -19,9 +19,10 @@ use Rattle.edit_costs.specs.Costs.{Raised}
 use Rattle.edit_costs.specs.Dirty.{Since, is_changed, is_touched, units_to_run}
 use Rattle.edit_costs.specs.SameOutcome.{same_outcome}
 use Rattle.edit_costs.specs.Units.{ValidationUnit, in_force, under, let_units, node_units, reads_of, units_of}
-use Rattle.kept_units.specs.declared.kept_reads.KeptReads.{KeptReads}
+use Rattle.kept_reads.specs.declared.kept_reads.KeptReads.{KeptReads}
 use Rattle.kept_units.specs.declared.kept_units.KeptUnits.{KeptUnits}
-use Rattle.kept_units.specs.Keeping.{IsIndexed, Keeps, KeepsSince, fresh, kept_reads, may_be_stale, place_of, reads_at}
+use Rattle.kept_reads.specs.Reads.{IsIndexed, may_be_stale, reads_at}
+use Rattle.kept_units.specs.Keeping.{Keeps, KeepsSince, fresh, kept_reads, place_of}
 use Rattle.kept_units.specs.inner.Refreshing.{FlagsBelow, LetsAlone, LetsRefreshed, PairsAlone, PassesNodes, PatternKept, PatternKnown, PatternsRefreshed, Reaches, is_run}
 use Rattle.kept_units.proofs.LetLemmas.{lets_whole}
 use Rattle.kept_units.proofs.ListLemmas.{all_in}

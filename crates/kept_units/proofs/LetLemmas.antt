@@ -24,7 +24,8 @@ use Rattle.edit_costs.specs.Laws.{CleanUnitsStand, IsBefore, LetsNeedThoseBefore
 use Rattle.edit_costs.specs.SameOutcome.{same_outcome}
 use Rattle.edit_costs.specs.Units.{ValidationUnit, in_force, let_reads, let_work, reads_of, work_of}
 use Rattle.kept_units.specs.declared.kept_units.KeptUnits.{KeptUnits}
-use Rattle.kept_units.specs.Keeping.{Keeps, KeepsSince, kept_reads, reads_at}
+use Rattle.kept_reads.specs.Reads.{reads_at}
+use Rattle.kept_units.specs.Keeping.{Keeps, KeepsSince, kept_reads}
 use Rattle.kept_units.specs.inner.Refreshing.{FlagsBelow, LetAt, LetStays, LetsAlone, LetsRefreshed, RefreshesLet, RunsLet, TellsRun, flag_at, is_run, let_left, let_ran}
 use Rattle.kept_units.proofs.ListLemmas.{flag_before, flag_last, number_more, same_slots, within_slots}
 use Rattle.kept_units.proofs.RaisedLemmas.{raised_in, raised_let, raised_none, raised_out}

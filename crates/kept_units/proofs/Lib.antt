@@ -4,10 +4,6 @@ pub mod RaisedLemmas
 pub mod LetLemmas
 pub mod PairLemmas
 pub mod KeepLemmas
-pub mod Sets
-pub mod ReaderLemmas
-pub mod DroppingLemmas
-pub mod TouchedLemmas
 pub mod MarkingLemmas
 pub mod CountingLemmas
 pub mod Searches

@@ -1,6 +1,5 @@
 -- Lists that are filtered, and lists of entries.
 use Rattle.std.proofs.Common.{◌≡◌, ◌∙◌, ℕ, zero, suc, ◌+◌, ◌<◌, ◌≤◌, Bool, true, false, cond, List, [], ◌∷◌, ◌++◌, length, Option, None, Some, refl, sym, ap, arith, add-one, add-zero, append_assoc, append-nil, inl, inr, length-append}
-use Rattle.std.proofs.Math.ListN.{replicate}
 use Rattle.std.proofs.lemmas.Bool.{cases_lt}
 use Rattle.std.proofs.lemmas.List.{ext_get_or, get_or_past, length-replicate, length-set}
 use Rattle.std.proofs.lemmas.List.Elements.{filter-append}
@@ -54,14 +53,6 @@ flag_before (x ∷ flags) flag zero below = refl
 flag_before (x ∷ flags) flag (suc slot) below = flag_before flags flag slot (omega (arith, below))
 
 -- Slots
-
--- past the end of the first entries nothing is found
-pub padded : {V : Type 0} (entries : List (Option V)) (k place : ℕ) → in_slot (entries ++ replicate k None) place ≡ in_slot entries place
-padded [] zero place = refl
-padded [] (suc k) zero = refl
-padded [] (suc k) (suc place) = padded [] k place
-padded (x ∷ entries) k zero = refl
-padded (x ∷ entries) k (suc place) = padded entries k place
 
 -- slots that are all filled, and others with the same values and no more, are the same
 pub same_slots : {V : Type 0} (xs ys : List (Option V)) → length xs ≤ length ys → ((i : ℕ) → i < length ys → (v : V) × (in_slot ys i ≡ Some v)) →

@@ -18,11 +18,13 @@ use Rattle.sch_compiled.specs.declared.plan.Plan.{Plan}
 use Rattle.sch_compiled.specs.Findings.{OutcomeTable, outcome_at}
 use Rattle.edit_costs.specs.Dirty.{Since, is_new, is_stale, is_touched}
 use Rattle.edit_costs.specs.Units.{ValidationUnit, in_force, under, reads_of}
-use Rattle.kept_units.specs.declared.kept_reads.KeptReads.{KeptReads}
+use Rattle.kept_reads.specs.declared.kept_reads.KeptReads.{KeptReads}
 use Rattle.kept_units.specs.declared.kept_units.KeptUnits.{KeptUnits}
-use Rattle.kept_units.specs.Keeping.{Keeps, KeepsSince, kept_reads, may_be_stale, place_of, reads_at, touched_too}
-use Rattle.kept_units.specs.inner.Marking.{Drops, Marks, Thinned, entry_stays, entry_dropped, reads_touched, some_touched, untouched}
-use Rattle.kept_units.proofs.Sets.{any-from_list}
+use Rattle.kept_reads.specs.Reads.{may_be_stale, reads_at}
+use Rattle.kept_units.specs.Keeping.{Keeps, KeepsSince, kept_reads, place_of, touched_too}
+use Rattle.kept_reads.specs.Marking.{Marks, Thinned, entry_stays, entry_dropped, reads_touched, some_touched}
+use Rattle.kept_units.specs.inner.Marking.{Drops, untouched}
+use Rattle.kept_reads.proofs.Sets.{any-from_list}
 
 -- Sets of cells
 

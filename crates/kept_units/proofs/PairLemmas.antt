@@ -24,7 +24,8 @@ use Rattle.edit_costs.specs.Dirty.{Since, is_changed, is_new, is_touched}
 use Rattle.edit_costs.specs.Laws.{CleanUnitsStand}
 use Rattle.edit_costs.specs.Units.{ValidationUnit, under, node_units, reads_of}
 use Rattle.kept_units.specs.declared.kept_units.KeptUnits.{KeptUnits}
-use Rattle.kept_units.specs.Keeping.{IsIndexed, kept_reads, may_be_stale, place_of, reads_at}
+use Rattle.kept_reads.specs.Reads.{IsIndexed, may_be_stale, reads_at}
+use Rattle.kept_units.specs.Keeping.{kept_reads, place_of}
 use Rattle.kept_units.specs.inner.Refreshing.{GoesOn, goes_one, goes_past, NoneChanged, IsReady, NodesRefreshed, PairAt, PairStays, PairsAlone, PatternKept, PatternKnown, PatternsRefreshed, RefreshesPair, RunsPair, TellsRun, flag_at, is_run, pair_dead, pair_left, pair_ran}
 use Rattle.kept_units.proofs.ListLemmas.{flat_last, last_in, last_out, number_more}
 use Rattle.kept_units.proofs.RaisedLemmas.{raised_in, raised_none, raised_out, raised_pair, raised_then}

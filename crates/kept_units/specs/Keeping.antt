@@ -1,7 +1,6 @@
 -- What is kept of the units of a plan over a tree: what each gave when all were last evaluated, and what it read, where no edit has
 -- touched that since.
-use Rattle.std.specs.FinSet.{contains}
-use Rattle.std.specs.Prelude.{◌≡◌, ℕ, ◌+◌, ◌*◌, ◌/◌, ◌<◌, ◌≤◌, Bool, true, false, ◌||◌, List, length, Option, None, Some, IfSome, is_none, slice_index_or, if◌then◌else◌}
+use Rattle.std.specs.Prelude.{◌≡◌, ℕ, ◌+◌, ◌*◌, ◌<◌, ◌≤◌, Bool, true, false, ◌||◌, length, Option, None, Some, IfSome, is_none, if◌then◌else◌}
 use Rattle.doc_table.specs.inner.Sound.{Formed}
 use Rattle.doc_tree.specs.cell.Cell.{Cell}
 use Rattle.doc_tree.specs.Table.{Table, is_live}
@@ -13,8 +12,7 @@ use Rattle.sch_units.specs.Units.{lets_of}
 use Rattle.sch_units.specs.Validity.{pair_outcome}
 use Rattle.edit_costs.specs.Dirty.{Since, is_stale}
 use Rattle.edit_costs.specs.Units.{ValidationUnit, in_force, under, reads_of}
-use Rattle.unit_readers.specs.Readers.{IsReader}
-use Rattle.kept_units.specs.declared.kept_reads.KeptReads.{KeptReads}
+use Rattle.kept_reads.specs.Reads.{IsIndexed, may_be_stale, reads_at}
 use Rattle.kept_units.specs.declared.kept_units.KeptUnits.{KeptUnits}
 
 -- all units were evaluated over this tree, and no edit has come since
@@ -32,22 +30,9 @@ kept_reads plan None unit = None
 kept_reads plan (Some since) unit =
     if is_stale plan (Some since) unit then None else Some (note_all nothing_read (reads_of plan since.base unit))
 
--- what stands at a place of a list, nothing past its end
-abbrev pub reads_at : List (Option Recorded) → ℕ → Option Recorded
-reads_at entries place = slice_index_or entries place None
-
 -- where what a node read under a pattern stands
 abbrev pub place_of : Plan → ℕ → ℕ → ℕ
 place_of plan p n = n * length plan.patterns + p
-
--- whether a unit of a row may be stale, by the flags of blocks of 64 rows each; past the last block each may
-abbrev pub may_be_stale : List Bool → ℕ → Bool
-may_be_stale blocks row = slice_index_or blocks (row / 64) true
-
--- once the readers of cells are known, a unit whose reads are kept is a reader of each cell among them
-pub record IsIndexed (reads : KeptReads) : Type 0 where
-  pub readers : reads.is_indexed ≡ true → (place : ℕ) (held : Recorded) → reads_at reads.entries.items place ≡ Some held →
-      (c : Cell) → contains held.cells c ≡ true → IsReader reads.readers c place
 
 -- what is kept is of the tree over which all units were last evaluated; the edits since made T of it
 pub record KeepsSince (plan : Plan) (T : Table) (kept : KeptUnits) (since : Since) : Type 0 where

@@ -1,6 +1,6 @@
 //! What is kept of units.
 
-ghost use Rattle.std.specs.Prelude.{◌≡◌, ℕ, ◌≤◌, length, IfOk, OnOk, Option, None, Some};
+ghost use Rattle.std.specs.Prelude.{◌≡◌, ◌≤◌, length, IfOk, OnOk, Option, None, Some};
 ghost use Rattle.doc_tree.specs.Table.{Table};
 ghost use Rattle.sch_compiled.specs.Soundness.{IsCounted, IsSound};
 ghost use Rattle.edit_costs.specs.Costs.{Raised};
@@ -8,8 +8,8 @@ ghost use Rattle.edit_costs.specs.Dirty.{Since, units_to_run};
 ghost use Rattle.kept_units.specs.Keeping.{Keeps, fresh};
 ghost use Rattle.kept_units.specs.inner.Refreshing.{PassesNodes, Reaches};
 
-use crate::kept_reads::KeptReads;
 use doc_tree::{MAX_NODE_NUMBERS, Tree};
+use kept_reads::KeptReads;
 use rule_run::{Caller, Lets, PlanRun};
 use sch_compiled::{Findings, Plan};
 use sch_units::lets_stand_in_order;
@@ -21,7 +21,6 @@ use xp_outcome::Steps;
 ///
 /// An active pattern and a node take the place `n * patterns + p`, so that a new node only adds places; of a node that was deleted
 /// nothing is asked any more.
-#[derive(Drop)]
 pub struct KeptUnits {
     /// The outcomes of the lets in force, each in its slot.
     pub(crate) lets: Lets,
@@ -102,5 +101,20 @@ impl KeptUnits {
         self.reads
             .prepare(alloc, numbers as usize * plan.pattern_count() as usize)?;
         Ok(())
+    }
+}
+
+impl Drop for KeptUnits {
+    fn drop(self) {
+        let KeptUnits {
+            lets,
+            let_reads,
+            found,
+            reads,
+        } = self;
+        drop(lets);
+        drop(let_reads);
+        drop(found);
+        drop(reads);
     }
 }

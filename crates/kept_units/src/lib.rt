@@ -3,13 +3,11 @@
 #![tactic(auto)]
 
 mod counting;
-mod kept_reads;
 mod kept_units;
 mod marking;
 mod refreshing_lets;
 mod refreshing_pairs;
 mod scanning;
-mod unit_reads;
 
 pub use kept_units::KeptUnits;
 pub use scanning::Evaluated;

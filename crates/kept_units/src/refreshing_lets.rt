@@ -6,12 +6,13 @@ ghost use Rattle.sch_compiled.specs.Soundness.{IsSound};
 ghost use Rattle.sch_units.specs.Units.{unit_let};
 ghost use Rattle.edit_costs.specs.Dirty.{Since};
 ghost use Rattle.edit_costs.specs.SameOutcome.{same_outcome};
+ghost use Rattle.kept_reads.specs.Reads.{reads_at};
 ghost use Rattle.kept_units.specs.Keeping.{Keeps};
 ghost use Rattle.kept_units.specs.inner.Refreshing.{LetsAlone, LetsRefreshed, RefreshesLet, RunsLet, TellsChange, TellsRun, flag_at};
 
 use crate::kept_units::KeptUnits;
-use crate::unit_reads::UnitReads;
 use edit_costs::{clean_units_stand, lets_need_those_before, same_outcomes_are_equal};
+use kept_reads::{KeptReads, UnitReads};
 use rule_run::{Lets, PlanRun, run_let};
 use sch_units::lets_stand_in_order;
 use std::alloc::AllocError;
@@ -63,7 +64,7 @@ impl KeptUnits {
         ensures alone { OnOk result (LetsAlone run.now.plan.now self.old self.new) }
         ensures steps { steps.old ≤ steps.new }
     {
-        if is_to_run(&self.let_reads.entries[l as usize], changed) {
+        if is_to_run(&self.let_reads, l as usize, changed) {
             return self.evaluate_let(run, l, steps);
         }
         Ok(false)
@@ -91,11 +92,11 @@ impl KeptUnits {
     }
 }
 
-/// Whether a unit is to be evaluated: nothing is kept of what it read, or it read a let whose outcome has changed.
-pub(crate) fn is_to_run(reads: &Option<UnitReads>, changed: &Vec<bool>) -> bool
-    ensures { TellsRun reads.now changed.now.items result }
+/// Whether the unit at a place is to be evaluated: nothing is kept of what it read, or it read a let whose outcome has changed.
+pub(crate) fn is_to_run(kept: &KeptReads, place: usize, changed: &Vec<bool>) -> bool
+    ensures { TellsRun (reads_at kept.now.entries.items place) changed.now.items result }
 {
-    match reads {
+    match kept.entry(place) {
         None => true,
         Some(reads) => has_read_changed(reads, changed),
     }

@@ -7,13 +7,15 @@ ghost use Rattle.sch_compiled.specs.Soundness.{IsCounted};
 ghost use Rattle.sch_units.specs.Units.{unit_pair};
 ghost use Rattle.rule_run.specs.KeptMatches.{AreKeptFor};
 ghost use Rattle.edit_costs.specs.Dirty.{Since};
-ghost use Rattle.kept_units.specs.Keeping.{may_be_stale, place_of};
+ghost use Rattle.kept_reads.specs.Reads.{may_be_stale};
+ghost use Rattle.kept_units.specs.Keeping.{place_of};
 ghost use Rattle.kept_units.specs.inner.Refreshing.{GoesOn, IsReady, NodesRefreshed, NoneChanged, PairsAlone, PatternKept, PatternsRefreshed, RefreshesPair, RunsPair};
 
 use crate::kept_units::KeptUnits;
 use crate::refreshing_lets::is_to_run;
 use doc_tree::{MAX_NODE_NUMBERS, NodeId};
 use edit_costs::clean_units_stand;
+use kept_reads::place_in_row;
 use rule_run::{KeptMatches, PlanRun, run_pair_with};
 use sch_locality_laws::rules_are_typed;
 use std::alloc::AllocError;
@@ -147,7 +149,7 @@ impl KeptUnits {
             return Ok(());
         }
         let place = self.place(at, n);
-        if is_to_run(&self.reads.entries[place], at.changed) {
+        if is_to_run(&self.reads, place, at.changed) {
             return self.evaluate_pair(at, n, matches, steps);
         }
         Ok(())
@@ -194,7 +196,7 @@ fn place_of(at: &PatternRun<'_>, n: NodeId) -> usize
     requires counted { IsCounted at.now.run.plan.now }
     ensures { result ≡ place_of at.now.run.plan.now at.now.pattern n }
 {
-    n.index() * at.run.plan.pattern_count() as usize + at.pattern as usize
+    place_in_row(n, at.run.plan.pattern_count(), at.pattern)
 }
 
 /// Whether no let has another outcome.

@@ -21,8 +21,9 @@ use Rattle.edit_costs.specs.Units.{ValidationUnit, in_force, under, node_units, 
 use Rattle.edit_costs.specs.Dirty.{Since, is_changed, is_dirty}
 use Rattle.edit_costs.specs.Costs.{Raised}
 use Rattle.kept_units.specs.declared.kept_units.KeptUnits.{KeptUnits}
-use Rattle.kept_units.specs.Keeping.{IsIndexed, kept_reads, may_be_stale, place_of, reads_at}
-use Rattle.kept_units.specs.inner.KeptReads.{Passes}
+use Rattle.kept_reads.specs.Reads.{IsIndexed, may_be_stale, reads_at}
+use Rattle.kept_units.specs.Keeping.{kept_reads, place_of}
+use Rattle.kept_reads.specs.KeptReads.{Passes}
 
 -- Which units are evaluated
 

@@ -1,8 +1,8 @@
 -- The lets and the patterns so far are counted.
 use Rattle.std.proofs.Common.{◌≡◌, ◌+◌, ◌*◌, ◌≤◌, count_by, is_none, length}
 use Rattle.std.specs.List.{range_with_len, sum_by}
-use Rattle.kept_units.specs.Keeping.{reads_at}
-use Rattle.kept_units.specs.inner.Counting.{is_stale_node}
+use Rattle.kept_reads.specs.Reads.{reads_at}
+use Rattle.kept_reads.specs.Counting.{is_stale_node}
 use Rattle.kept_units.proofs.kept_units.KeptUnits.stale_count.Given as goal
 
 abbrev pub invariant-loop-p : goal.invariant-loop-p
