@@ -4,7 +4,7 @@ use Rattle.doc_table.specs.inner.Sound.{Formed}
 use Rattle.doc_table.proofs.TreeLaws.{ordered, ways-up, well-formed}
 use Rattle.doc_tree.specs.cell.Cell.{Cell}
 use Rattle.doc_tree.specs.Table.{Table}
-use Rattle.doc_locality_laws.specs.Agreement.{Agree, AgreementComposes, IsTree}
+use Rattle.doc_edit_laws.specs.Agreement.{Agree, AgreementComposes, IsTree}
 use Rattle.doc_edits.specs.Keeping.{DeletionsKeepTrees, GainsKeepTrees, InsertionsKeepTrees, RemovalsKeepTrees, SayingsKeepTrees}
 use Rattle.doc_edit_laws.specs.Along.{Edit, EditsLeave, Left, deletes, gains, inserts, loses, none, says, then}
 use Rattle.doc_edit_laws.proofs.AttributeAgreement.{attributes-leave, loss-formed}

@@ -21,8 +21,8 @@ use Rattle.doc_tree.specs.Table.{Table, Facts, Name, attribute, entry_at, kids_a
 use Rattle.doc_tree.specs.Walks.{ancestors, below, characters_in, order}
 use Rattle.doc_tree.proofs.ListLemmas.{In-mem, mem-append, occurs-append, occurs-head, occurs-other, eq_or}
 use Rattle.doc_axes.specs.Axes.{is_attribute_kind, is_descendant}
-use Rattle.doc_locality_laws.specs.Agreement.{Agree, Stays, lives_in_both}
-use Rattle.doc_locality_laws.proofs.Composing.{both}
+use Rattle.doc_edit_laws.specs.Agreement.{Agree, Stays, lives_in_both}
+use Rattle.doc_edit_laws.proofs.Composing.{both}
 use Rattle.doc_edits.specs.Changes.{gained, removed, removed_from, with_attribute, without}
 use Rattle.doc_edits.specs.Keeping.{GainsKeepTrees, RemovalsKeepTrees}
 use Rattle.doc_edits.proofs.ClearLemmas as clear

@@ -15,7 +15,7 @@ use Rattle.doc_tree.specs.Table.{Table, content_at, name_at, kids_of, kind_of, p
 use Rattle.doc_tree.specs.Walks.{above, below}
 use Rattle.doc_tree.proofs.ListLemmas.{In, In-mem, mem-In, In-cons, occurs-append, occurs-head, occurs-same}
 use Rattle.doc_tree.proofs.OrderLemmas.{nested}
-use Rattle.doc_locality_laws.specs.Agreement.{Agree}
+use Rattle.doc_edit_laws.specs.Agreement.{Agree}
 use Rattle.doc_edits.specs.Changes.{Meeting, deleted_by, kids_beside, meeting, removed, removed_from, said, saying, with_text}
 use Rattle.doc_edits.specs.Keeping.{DeletionsKeepTrees}
 use Rattle.doc_edits.proofs.ClearLemmas.{cut}

@@ -9,8 +9,8 @@ use Rattle.doc_table.proofs.Appending.{holder-live}
 use Rattle.doc_table.proofs.ListLemmas.{In, In-mem}
 use Rattle.doc_table.proofs.Ways.{live-below}
 use Rattle.doc_axes.specs.Axes.{is_attribute_kind, is_descendant}
-use Rattle.doc_locality_laws.specs.Agreement.{Agree, Stays, lives_in_both}
-use Rattle.doc_locality_laws.proofs.Composing.{both}
+use Rattle.doc_edit_laws.specs.Agreement.{Agree, Stays, lives_in_both}
+use Rattle.doc_edit_laws.proofs.Composing.{both}
 use Rattle.doc_edits.specs.Changes.{given_number, inserted, nodes_in}
 use Rattle.doc_edits.specs.Fitting.{MayTake}
 use Rattle.doc_edits.proofs.InsertionLemmas.{IsOther, attributes-kept, content-kept, length-inserted, links-kept, live-kept, number-new, old-other, parent-kept}

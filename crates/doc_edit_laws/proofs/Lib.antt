@@ -1,3 +1,5 @@
+pub mod OrderLemmas
+pub mod Composing
 pub mod TextLemmas
 pub mod LinkLemmas
 pub mod SayingAgreement

@@ -18,9 +18,9 @@ use Rattle.doc_tree.specs.Walks.{above, ancestors, below, characters_in, order}
 use Rattle.doc_tree.proofs.ListLemmas.{In, In-mem, mem-In, In-cons, In-append, none-mem, occurs-append, occurs-head, eq_or}
 use Rattle.doc_tree.proofs.OrderLemmas.{below-head, nested}
 use Rattle.doc_axes.specs.Axes.{is_attribute, is_descendant}
-use Rattle.doc_locality_laws.specs.Agreement.{Agree, Stays, lives_in_both}
-use Rattle.doc_locality_laws.proofs.Composing.{both}
-use Rattle.doc_locality_laws.proofs.OrderLemmas.{filter-narrow}
+use Rattle.doc_edit_laws.specs.Agreement.{Agree, Stays, lives_in_both}
+use Rattle.doc_edit_laws.proofs.Composing.{both}
+use Rattle.doc_edit_laws.proofs.OrderLemmas.{filter-narrow}
 use Rattle.doc_edits.specs.Changes.{without}
 use Rattle.doc_edits.proofs.ClearLemmas.{cut, cut-length, entry-gone, links-other, kids-parent, attributes-parent, parent-kept, content-kept, live-kept, without-none}
 use Rattle.doc_edits.proofs.PruneLemmas.{Cut, cut_at, none-in}

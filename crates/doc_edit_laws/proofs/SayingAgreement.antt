@@ -9,8 +9,8 @@ use Rattle.doc_tree.specs.Table.{Table, Facts, Content, root, element, attribute
 use Rattle.doc_tree.specs.Walks.{ancestors, characters_in, order}
 use Rattle.doc_tree.proofs.ListLemmas.{eq_or}
 use Rattle.doc_axes.specs.Axes.{is_descendant}
-use Rattle.doc_locality_laws.specs.Agreement.{Agree, lives_in_both}
-use Rattle.doc_locality_laws.proofs.Composing.{both}
+use Rattle.doc_edit_laws.specs.Agreement.{Agree, lives_in_both}
+use Rattle.doc_edit_laws.proofs.Composing.{both}
 use Rattle.doc_edits.specs.Changes.{said, saying, with_text}
 use Rattle.doc_edits.proofs.RecontentLemmas.{KeepsLabel, same-kind, same-links, same-live}
 use Rattle.doc_edits.proofs.TableLemmas.{changed-length, changed-other, changed-word}

@@ -17,9 +17,9 @@ use Rattle.doc_tree.proofs.ListLemmas.{In, In-cons, In-mem, eq_or, flat_map-same
 use Rattle.doc_tree.proofs.OrderLemmas.{nested}
 use Rattle.doc_axes.specs.Axes.{is_attribute, is_attribute_kind, is_descendant}
 use Rattle.doc_axes.proofs.SubLists.{Sub, sub-all, sub-back, sub-front, filter-sub}
-use Rattle.doc_locality_laws.specs.Agreement.{Stays, descendants, lives_in_both}
-use Rattle.doc_locality_laws.proofs.Composing.{of-both}
-use Rattle.doc_locality_laws.proofs.OrderLemmas.{orders-alike}
+use Rattle.doc_edit_laws.specs.Agreement.{Stays, descendants, lives_in_both}
+use Rattle.doc_edit_laws.proofs.Composing.{of-both}
+use Rattle.doc_edit_laws.proofs.OrderLemmas.{orders-alike}
 
 -- the characters of a node
 abbrev pub says : Table → ℕ → List ℕ

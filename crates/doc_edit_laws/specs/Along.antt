@@ -5,7 +5,7 @@ use Rattle.doc_tree.specs.cell.Cell.{Cell}
 use Rattle.doc_tree.specs.kind.Kind.TheVariants.{Attribute}
 use Rattle.doc_tree.specs.Kinds.{can_be_kid}
 use Rattle.doc_tree.specs.Table.{Name, Table, kind_of, parent_of}
-use Rattle.doc_locality_laws.specs.Agreement.{Agree, IsTree}
+use Rattle.doc_edit_laws.specs.Agreement.{Agree, IsTree}
 use Rattle.doc_edits.specs.Changes.{deleted, gained, inserted, removed, said}
 use Rattle.doc_edits.specs.Fitting.{MayGain, MaySay, MayTake}
 use Rattle.doc_edit_laws.specs.Touching.{touched_attributes, touched_deletion, touched_kids, touched_saying}

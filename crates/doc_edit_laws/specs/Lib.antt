@@ -1,3 +1,4 @@
+pub mod Agreement
 pub mod Touching
 pub mod Leaving
 pub mod Along

@@ -1,13 +1,19 @@
-//! What edits leave of a tree: outside the cells that they touch, it stays.
+//! What two trees of one document have in common outside some cells, and what edits leave of a tree: all outside the
+//! cells that they touch.
 #![tactic(auto)]
 
+ghost use Rattle.doc_edit_laws.specs.Agreement.{AgreementComposes};
 ghost use Rattle.doc_edit_laws.specs.Along.{EditsLeave};
 ghost use Rattle.doc_edit_laws.specs.Leaving.{AttributesLeave, DeletionsLeave, InsertionsLeave, SayingsLeave};
 
 use doc_edits::{
     additions_keep_trees, deletions_keep_trees, removals_keep_trees, sayings_keep_trees,
 };
-use doc_locality_laws::agreement_composes;
+
+/// Trees that agree with one between them, the first outside some cells and the last outside others, agree outside both.
+pub fn agreement_composes()
+    ensures { AgreementComposes }
+{}
 
 /// Where a node says another text.
 pub fn sayings_leave_the_rest()

@@ -12,7 +12,7 @@ use Rattle.doc_tree.specs.Refusals.{deletion_refusal, is_root}
 use Rattle.doc_tree.specs.Table.{Contents, Table, is_live, kids_of, kind_of, parent_of, value_of}
 use Rattle.doc_tree.specs.Walks.{ancestors, below}
 use Rattle.doc_tree.proofs.RefusalLemmas.{none-of-two, not-true}
-use Rattle.doc_locality_laws.proofs.Composing.{of-both}
+use Rattle.doc_edit_laws.proofs.Composing.{of-both}
 use Rattle.doc_edits.specs.Changes.{Meeting, deleted, deleted_by, kids_beside, meeting, removed, removed_from, saying}
 use Rattle.doc_edits.proofs.ClearLemmas.{live-kept}
 use Rattle.doc_edits.proofs.DeletionLemmas.{Met, first, first-formed, first-up, is-first, met}

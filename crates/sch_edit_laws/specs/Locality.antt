@@ -4,7 +4,7 @@ use Rattle.std.specs.List.{AllByRecursion as Each}
 use Rattle.doc_table.specs.inner.Sound.{Formed}
 use Rattle.doc_tree.specs.cell.Cell.{Cell}
 use Rattle.doc_tree.specs.Table.{Table}
-use Rattle.doc_locality_laws.specs.Agreement.{Stays}
+use Rattle.doc_edit_laws.specs.Agreement.{Stays}
 use Rattle.doc_edit_laws.specs.Along.{Edits}
 use Rattle.xp_typed_tree.specs.TypedTree.{TypedTree}
 use Rattle.xp_locality_laws.specs.Locality.{Changed}

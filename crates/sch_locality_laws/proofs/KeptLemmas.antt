@@ -5,7 +5,7 @@ use Rattle.std.proofs.lemmas.List.{get_or_past}
 use Rattle.std.proofs.lemmas.Bool.{eqb-false, ltb-false}
 use Rattle.doc_tree.specs.cell.Cell.{Cell}
 use Rattle.doc_tree.specs.Table.{Table}
-use Rattle.doc_locality_laws.specs.Agreement.{AllStay}
+use Rattle.doc_edit_laws.specs.Agreement.{AllStay}
 use Rattle.xp_outcome.specs.Evaluation.{Read, cell, variable}
 use Rattle.xp_outcome.specs.Slots.{in_slot, with_slot}
 use Rattle.xp_outcome.proofs.SlotLemmas.{others_stay, put_there}

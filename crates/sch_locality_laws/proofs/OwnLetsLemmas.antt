@@ -9,7 +9,7 @@ use Rattle.doc_tree.specs.Laws.{Ordered}
 use Rattle.doc_tree.specs.Lists.{mem}
 use Rattle.doc_tree.specs.Table.{Table, is_live}
 use Rattle.doc_tree.specs.Walks.{order}
-use Rattle.doc_locality_laws.proofs.Composing.{of-both}
+use Rattle.doc_edit_laws.proofs.Composing.{of-both}
 use Rattle.xp_outcome.specs.Evaluation.{Read, cell, variable}
 use Rattle.xp_outcome.specs.Slots.{in_slot}
 use Rattle.xp_values.specs.declared.values.Value.{Value}

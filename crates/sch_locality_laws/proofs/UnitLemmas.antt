@@ -5,7 +5,7 @@ use Rattle.std.proofs.lemmas.List.Elements.{All-head, All-tail}
 use Rattle.std.specs.Option.{option_to_list}
 use Rattle.doc_tree.specs.cell.Cell.{Cell}
 use Rattle.doc_tree.specs.Table.{Table}
-use Rattle.doc_locality_laws.specs.Agreement.{Stays}
+use Rattle.doc_edit_laws.specs.Agreement.{Stays}
 use Rattle.xp_typed_tree.specs.TypedTree.{TypedTree}
 use Rattle.xp_outcome.specs.Evaluation.{Evaluation, bind, done, gather, given, visit}
 use Rattle.xp_outcome.specs.Slots.{with_slot}

@@ -3,7 +3,7 @@ use Rattle.std.specs.Prelude.{◌≡◌, ℕ, ◌≤◌, Bool, false, length, ta
 use Rattle.std.specs.List.{AllByRecursion as Each}
 use Rattle.doc_tree.specs.cell.Cell.{Cell}
 use Rattle.doc_tree.specs.Table.{Table}
-use Rattle.doc_locality_laws.specs.Agreement.{Stays}
+use Rattle.doc_edit_laws.specs.Agreement.{Stays}
 use Rattle.xp_typed_tree.specs.TypedTree.{TypedTree}
 use Rattle.xp_typed_tree.specs.WellTyped.{PathsTyped}
 use Rattle.xp_outcome.specs.Evaluation.{Read, cell, variable}

@@ -14,8 +14,8 @@ use Rattle.doc_axes.specs.Axes.{axis_nodes, axis_order, backwards, is_ancestor, 
 use Rattle.doc_axes.specs.Plain.{plain_below}
 use Rattle.doc_axes.specs.Sets.{in_order}
 use Rattle.doc_axes.proofs.AxisLemmas.{descendant_axis}
-use Rattle.doc_locality_laws.specs.Agreement.{AllStay, IsTree, Stays, descendants}
-use Rattle.doc_locality_laws.proofs.Composing.{both, of-both}
+use Rattle.doc_edit_laws.specs.Agreement.{AllStay, IsTree, Stays, descendants}
+use Rattle.doc_edit_laws.proofs.Composing.{both, of-both}
 use Rattle.xp_meaning.specs.Evaluation.{Lets}
 use Rattle.xp_meaning.specs.Reads.{axis_reads, kids_of_parent, read_if, sibling_reads}
 use Rattle.xp_locality_laws.specs.Locality.{AllKept, Changed}

@@ -10,7 +10,7 @@ use Rattle.doc_tree.specs.Scope.{xml_namespace}
 use Rattle.doc_tree.specs.Table.{Table, attrs_of, is_live, kind_of, parent_of, value_of}
 use Rattle.doc_tree.specs.Walks.{above, ancestors}
 use Rattle.doc_tree.proofs.ListLemmas.{mem-head, mem-tail}
-use Rattle.doc_locality_laws.specs.Agreement.{AllStay, Stays}
+use Rattle.doc_edit_laws.specs.Agreement.{AllStay, Stays}
 use Rattle.xp_typed_tree.specs.declared.function.Function.{Function}
 use Rattle.xp_typed_tree.specs.declared.function.Function.TheVariants as functions
 use Rattle.xp_outcome.specs.Evaluation.{Evaluation, bind, cell, done, given, reading}

@@ -10,7 +10,7 @@ use Rattle.doc_tree.specs.Table.{Table}
 use Rattle.doc_axes.specs.Axes.{axis_nodes}
 use Rattle.doc_axes.specs.NodeTests.{is_comment, is_instruction, is_principal, named, passes}
 use Rattle.doc_axes.specs.Sets.{in_order}
-use Rattle.doc_locality_laws.specs.Agreement.{AllStay, Stays}
+use Rattle.doc_edit_laws.specs.Agreement.{AllStay, Stays}
 use Rattle.xp_outcome.specs.Evaluation.{Evaluation, all_reading, done, gather, visits}
 use Rattle.xp_values.specs.declared.values.EvalFault.{EvalFault}
 use Rattle.xp_values.specs.declared.values.Value.{Value}

@@ -2,7 +2,7 @@
 use Rattle.std.proofs.Common.{◌≡◌, ℕ, ◌+◌, Bool, true, false, cond, List, [], ◌∷◌, ◌++◌, Result, Ok, Err, refl, sym, ap, subst}
 use Rattle.doc_tree.specs.cell.Cell.{Cell}
 use Rattle.doc_tree.specs.Table.{Table}
-use Rattle.doc_locality_laws.specs.Agreement.{AllStay, Stays}
+use Rattle.doc_edit_laws.specs.Agreement.{AllStay, Stays}
 use Rattle.xp_outcome.specs.Evaluation.{Read, Evaluation, done, fault, given, behind, follow, bind, visit, visits, reading, all_reading, gather}
 use Rattle.xp_meaning.specs.Evaluation.{Lets}
 use Rattle.xp_meaning.proofs.Choices.{same_ok}

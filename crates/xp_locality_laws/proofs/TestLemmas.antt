@@ -10,9 +10,9 @@ use Rattle.doc_tree.proofs.ListLemmas.{In, In-mem, mem-In, mem-head, mem-tail}
 use Rattle.doc_axes.specs.Axes.{is_after}
 use Rattle.doc_axes.proofs.SubLists.{filter-same, sub-occurs}
 use Rattle.doc_axes.proofs.Merging.{kept, sub-filter}
-use Rattle.doc_locality_laws.specs.Agreement.{AllStay, IsTree, Stays, lives_in_both}
-use Rattle.doc_locality_laws.proofs.Composing.{both, of-both}
-use Rattle.doc_locality_laws.proofs.OrderLemmas.{orders-alike}
+use Rattle.doc_edit_laws.specs.Agreement.{AllStay, IsTree, Stays, lives_in_both}
+use Rattle.doc_edit_laws.proofs.Composing.{both, of-both}
+use Rattle.doc_edit_laws.proofs.OrderLemmas.{orders-alike}
 use Rattle.xp_locality_laws.specs.Locality.{Changed}
 
 -- what stands after a number among those that pass a test, where the number passes

@@ -6,7 +6,7 @@ use Rattle.doc_tree.specs.cell.Cell.TheVariants.{Text as TextOf, Value as ValueO
 use Rattle.doc_tree.specs.Kinds.{holds_kids}
 use Rattle.doc_tree.specs.Table.{Table, Content, root, element, attribute, text, comment, instruction, kind_of, kind_at, value_of, value_at, content_of}
 use Rattle.doc_tree.specs.Walks.{joined_text, string_value_in, string_value_of}
-use Rattle.doc_locality_laws.specs.Agreement.{AllStay, Stays}
+use Rattle.doc_edit_laws.specs.Agreement.{AllStay, Stays}
 use Rattle.xp_tree.specs.declared.operators.ArithOp.TheVariants as ops
 use Rattle.xp_tree.specs.declared.operators.Comparison.{Comparison}
 use Rattle.xp_outcome.specs.Evaluation.{Evaluation, cell, done, given, visits, all_reading}

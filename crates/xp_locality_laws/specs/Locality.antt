@@ -4,7 +4,7 @@ use Rattle.doc_tree.specs.cell.Cell.{Cell}
 use Rattle.doc_tree.specs.declared.axes.Axis.{Axis}
 use Rattle.doc_tree.specs.declared.axes.NodeTest.{NodeTest}
 use Rattle.doc_tree.specs.Table.{Table}
-use Rattle.doc_locality_laws.specs.Agreement.{Agree, AllStay, IsTree, Stays}
+use Rattle.doc_edit_laws.specs.Agreement.{Agree, AllStay, IsTree, Stays}
 use Rattle.xp_typed_tree.specs.TypedTree.{TypedTree, TypedTrees}
 use Rattle.xp_outcome.specs.Evaluation.{Evaluation, Read, cell, variable}
 use Rattle.xp_outcome.specs.Slots.{in_slot}

@@ -8,7 +8,7 @@ use Rattle.doc_tree.specs.Lists.{mem}
 use Rattle.doc_tree.specs.Table.{Table, parent_of}
 use Rattle.doc_tree.specs.Walks.{above, ancestors, order}
 use Rattle.doc_axes.specs.Axes.{is_ancestor, is_attribute_kind, on_axis}
-use Rattle.doc_locality_laws.specs.Agreement.{AllStay, Stays}
+use Rattle.doc_edit_laws.specs.Agreement.{AllStay, Stays}
 use Rattle.xp_typed_tree.specs.TypedTree.{TypedPatternStepTree, TypedPathTree}
 use Rattle.xp_typed_tree.specs.WellTyped.{PathsTyped, PatternStepsTyped, is_pattern_axis}
 use Rattle.xp_outcome.specs.Evaluation.{done, bind, visit}

@@ -2,7 +2,7 @@
 use Rattle.std.specs.Prelude.{ℕ, Bool, List, []}
 use Rattle.doc_tree.specs.cell.Cell.{Cell}
 use Rattle.doc_tree.specs.Table.{Table}
-use Rattle.doc_locality_laws.specs.Agreement.{Stays}
+use Rattle.doc_edit_laws.specs.Agreement.{Stays}
 use Rattle.xp_typed_tree.specs.TypedTree.{TypedPathTree}
 use Rattle.xp_typed_tree.specs.WellTyped.{PathsTyped}
 use Rattle.xp_meaning.specs.Evaluation.{Lets}

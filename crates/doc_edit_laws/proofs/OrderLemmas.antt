@@ -3,7 +3,7 @@ use Rattle.std.proofs.Common.{◌≡◌, ℕ, Bool, true, false, cond, List, [],
 use Rattle.std.specs.Prelude.{filter}
 use Rattle.doc_tree.specs.Table.{Table}
 use Rattle.doc_tree.specs.Walks.{order}
-use Rattle.doc_locality_laws.specs.Agreement.{Stays, lives_in_both}
+use Rattle.doc_edit_laws.specs.Agreement.{Stays, lives_in_both}
 
 -- a narrow test after a wide one is the narrow one alone
 pub filter-narrow : (narrow wide : ℕ → Bool) → ((n : ℕ) → narrow n ≡ true → wide n ≡ true) → (ns : List ℕ) → filter narrow (filter wide ns) ≡ filter narrow ns

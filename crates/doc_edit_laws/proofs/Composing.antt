@@ -4,8 +4,8 @@ use Rattle.doc_tree.specs.cell.Cell.{Cell}
 use Rattle.doc_tree.specs.cell.Cell.TheVariants.{Kids, Shape, Attrs, Value, Text}
 use Rattle.doc_tree.specs.Kinds.{holds_kids}
 use Rattle.doc_tree.specs.Table.{Table, is_live}
-use Rattle.doc_locality_laws.specs.Agreement.{Agree, IsTree, Stays, lives_in_both}
-use Rattle.doc_locality_laws.proofs.OrderLemmas.{orders-alike}
+use Rattle.doc_edit_laws.specs.Agreement.{Agree, IsTree, Stays, lives_in_both}
+use Rattle.doc_edit_laws.proofs.OrderLemmas.{orders-alike}
 
 pub both : (b c : Bool) → (b && c) ≡ true → (b ≡ true) × (c ≡ true)
 both true true h = (refl, refl)
