@@ -4,7 +4,7 @@
 
 ghost use Rattle.edit_costs.specs.Laws.{CleanUnitsStand, LetsNeedThoseBefore, SameOutcomesAreEqual};
 
-use sch_edit_laws::units_stand;
+use sch_locality_laws::units_stand;
 use xp_meaning_laws::{lets_read_are_named, meaning_needs_slots_alone};
 
 /// A unit that edits leave clean gives, reads and costs the same in the tree that they make.

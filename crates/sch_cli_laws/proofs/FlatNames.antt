@@ -23,7 +23,7 @@ use Rattle.sch_model.specs.declared.parts.Part.TheVariants.{Chars, ValueOf, Name
 use Rattle.sch_model.specs.declared.parts.Phase.{Phase}
 use Rattle.sch_rules.specs.Words.{schematron}
 use Rattle.sch_flat.specs.FlatDocument.{active_events, assertion_attributes, assertion_events, assertion_name, characters, diagnostic_events, diagnostics_events, element, flat_events, held_events, let_events, ns_events, part_events, pattern_events, phase_events, rule_events, title_events}
-use Rattle.sch_flat_reading.specs.Readable.{Each}
+use Rattle.sch_flat_laws.specs.Readable.{Each}
 use Rattle.sch_cli_laws.proofs.MadeLines.{each-append, each-flat, opens-each}
 use Rattle.sch_cli_laws.proofs.PlainWalks.{HasNoInclude}
 

@@ -12,8 +12,8 @@ use Rattle.doc_tree.specs.Lists.{upto}
 use Rattle.doc_tree.specs.Table.{Content, Facts, Table, attribute, attrs_of, comment, content_at, content_of, element, entry_at, instruction, kids_of, root, text}
 use Rattle.doc_tree.specs.Walks.{walk}
 use Rattle.sch_rules.specs.Elements.{document_element}
-use Rattle.sch_flat_reading.specs.Readable.{Each}
-use Rattle.sch_flat_rules.specs.Accepted.{MadeContent, MadeOfChars, ScopedTreesAreMade}
+use Rattle.sch_flat_laws.specs.Readable.{Each}
+use Rattle.sch_flat_laws.specs.Accepted.{MadeContent, MadeOfChars, ScopedTreesAreMade}
 use Rattle.sch_include.specs.declared.fault.IncludeFault.{IncludeFault}
 use Rattle.sch_include.specs.Included.{Included, Schema, WholeFile, as_it_is, nothing, whole_source}
 use Rattle.sch_include.specs.Includes.{is_include}

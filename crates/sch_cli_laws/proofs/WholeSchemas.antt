@@ -24,11 +24,11 @@ use Rattle.sch_flat.specs.FlatDocument.{flat_events}
 use Rattle.sch_flat.specs.FlatSize.{bytes_of, is_small}
 use Rattle.sch_sizes.specs.Sizes.{size_places}
 use Rattle.sch_abstract.specs.FirstFault.{first_fault}
-use Rattle.sch_flat_rules.specs.Accepted.{ExpansionIsAcceptedAgain, ExpansionsAreDocuments, IsAccepted, ScopedTreesAreMade, StaysAccepted}
-use Rattle.sch_flat_rules.proofs.Forgotten.{document_same}
-use Rattle.sch_flat_rules.proofs.Referring.{none_given}
-use Rattle.sch_flat_rules.proofs.Unbroken.{or_none}
-use Rattle.sch_flat_texts.specs.FlatFaults.{FlatTextsHaveNoFault}
+use Rattle.sch_flat_laws.specs.Accepted.{ExpansionIsAcceptedAgain, ExpansionsAreDocuments, IsAccepted, ScopedTreesAreMade, StaysAccepted}
+use Rattle.sch_flat_laws.proofs.Rules.Forgotten.{document_same}
+use Rattle.sch_flat_laws.proofs.Rules.Referring.{none_given}
+use Rattle.sch_flat_laws.proofs.Rules.Unbroken.{or_none}
+use Rattle.sch_flat_laws.specs.FlatFaults.{FlatTextsHaveNoFault}
 use Rattle.sch_include.specs.Included.{Including, OneInclusion}
 use Rattle.sch_include.specs.declared.fault.IncludeFault.{IncludeFault}
 use Rattle.sch_compiled.specs.declared.plan.Plan.{Plan}

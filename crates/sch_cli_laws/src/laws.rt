@@ -3,10 +3,10 @@
 ghost use Rattle.sch_cli_laws.specs.WholeSchemas.{WholeSchemasStay};
 
 use name_scopes_laws::documents_have_trees;
-use sch_flat_rules::{
-    expansion_is_accepted_again, expansions_are_documents, scoped_trees_are_made,
+use sch_flat_laws::{
+    expansion_is_accepted_again, expansions_are_documents, flat_texts_have_no_fault,
+    scoped_trees_are_made,
 };
-use sch_flat_texts::flat_texts_have_no_fault;
 use sch_include::one_inclusion;
 use sch_plan_laws::plans_need_no_places;
 

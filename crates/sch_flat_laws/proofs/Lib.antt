@@ -1,7 +1,4 @@
-pub mod CountLemmas
-pub mod ExpansionLemmas
-pub mod FlatNestingLemmas
-pub mod IdLemmas
-pub mod JoinedLemmas
-pub mod NameLemmas
-pub mod NestingLemmas
+pub mod Document
+pub mod Reading
+pub mod Rules
+pub mod Texts

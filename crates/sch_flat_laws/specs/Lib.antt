@@ -1,6 +1,12 @@
+pub mod Accepted
+pub mod Again
+pub mod Allowed
 pub mod Concrete
 pub mod Expansion
+pub mod FlatFaults
 pub mod FlatText
 pub mod IdLists
 pub mod Joined
 pub mod NodeCount
+pub mod ReadBack
+pub mod Readable

@@ -1,10 +1,14 @@
 //! Laws of the definitions, for the proofs of callers.
 
+ghost use Rattle.sch_flat_laws.specs.Accepted.{ExpansionIsAcceptedAgain, ExpansionsAreDocuments, FlatDocumentsAreAllowed, FlatDocumentsBreakNoRule, ReadingsAreReadable, ScopedTreesAreMade};
+ghost use Rattle.sch_flat_laws.specs.Again.{ExpansionStays};
 ghost use Rattle.sch_flat_laws.specs.Expansion.{FlatSchemasStay};
+ghost use Rattle.sch_flat_laws.specs.FlatFaults.{FlatTextsHaveNoFault};
 ghost use Rattle.sch_flat_laws.specs.FlatText.{FlatTextIsReadBack};
 ghost use Rattle.sch_flat_laws.specs.IdLists.{IdsAreReadBack};
 ghost use Rattle.sch_flat_laws.specs.Joined.{TextsStandApart};
 ghost use Rattle.sch_flat_laws.specs.NodeCount.{NodesAreCounted};
+ghost use Rattle.sch_flat_laws.specs.ReadBack.{FlatSchemasAreReadBack, FrontIsReadBack};
 
 /// The lines of the document of a schema have no fault, and give its events.
 pub fn flat_text_is_read_back()
@@ -33,3 +37,84 @@ pub fn ids_are_read_back()
 pub fn texts_stand_apart()
     ensures { TextsStandApart }
 {}
+
+/// The text of a schema's document, where it is read back and is no larger than a document may be, has no fault.
+pub fn flat_texts_have_no_fault()
+    ensures { FlatTextsHaveNoFault }
+{}
+
+/// What a flat schema says of itself, its prefixes, its lets and its phases are read back from the tree of its document.
+pub fn front_is_read_back()
+    ensures { FrontIsReadBack }
+{
+    doc_tree::laws_from_order();
+}
+
+/// The tree of the document that a flat schema is reads as that schema; only the places of its parts differ.
+pub fn flat_schemas_are_read_back()
+    ensures { FlatSchemasAreReadBack }
+{
+    doc_tree::laws_from_order();
+}
+
+/// What is read of the document of a flat schema is expanded to that schema; only the places of its parts differ.
+pub fn expansion_stays()
+    ensures { ExpansionStays }
+{
+    flat_schemas_stay();
+    flat_schemas_are_read_back();
+}
+
+/// The texts of a tree whose names are in scope are made of Chars.
+pub fn scoped_trees_are_made()
+    ensures { ScopedTreesAreMade }
+{}
+
+/// The document that a flat schema is breaks no rule, where the schema's names have the forms that the rules want, and no
+/// name is used twice.
+pub fn flat_documents_break_no_rule()
+    ensures { FlatDocumentsBreakNoRule }
+{
+    doc_tree::laws_from_order();
+}
+
+/// What is read of a document that breaks no rule from 1 to 9 is a schema that a document can say, and its names have the
+/// forms that the rules want.
+pub fn readings_are_readable()
+    ensures { ReadingsAreReadable }
+{
+    doc_tree::laws_from_order();
+    ids_are_read_back();
+    texts_stand_apart();
+}
+
+/// Where the document that a flat schema is breaks no rule, the schema's names have the forms that the rules want, and no name
+/// is used twice.
+pub fn flat_documents_are_allowed()
+    ensures { FlatDocumentsAreAllowed }
+{
+    expansion_stays();
+    scoped_trees_are_made();
+    readings_are_readable();
+}
+
+/// What a schema that breaks no rule is expanded to is, as a document, a schema that breaks no rule, and is read and expanded
+/// to the same schema; only the places of its parts differ.
+pub fn expansion_is_accepted_again()
+    ensures { ExpansionIsAcceptedAgain }
+{
+    flat_schemas_are_read_back();
+    expansion_stays();
+    scoped_trees_are_made();
+    flat_documents_break_no_rule();
+    readings_are_readable();
+}
+
+/// The lines of what a document is read as and expanded to have no fault, and give its events.
+pub fn expansions_are_documents()
+    ensures { ExpansionsAreDocuments }
+{
+    flat_text_is_read_back();
+    texts_stand_apart();
+    ids_are_read_back();
+}

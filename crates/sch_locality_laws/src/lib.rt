@@ -1,10 +1,13 @@
-//! Locality of units: what a let in force gives, and a node under a pattern, depends on what it reads, and on nothing else.
+//! Locality of units: what a let in force gives, and a node under a pattern, depends on what it reads, and on nothing else; so
+//! edits leave the units none of whose reads they touched.
 #![tactic(auto)]
 
 ghost use Rattle.std.specs.Prelude.{◌<◌, length};
 ghost use Rattle.sch_compiled.specs.Soundness.{IsCounted};
+ghost use Rattle.sch_locality_laws.specs.Edits.{EditsChange, UnitsStand};
 ghost use Rattle.sch_locality_laws.specs.Locality.{GivenLetsAreLocal, OwnLetsAreLocal, RulesTyped};
 
+use doc_edit_laws::edits_leave_the_rest;
 use sch_compiled::Plan;
 use xp_locality_laws::evaluations_are_local;
 use xslt_locality_laws::matches_are_local;
@@ -21,6 +24,16 @@ pub fn units_are_local()
 {
     evaluations_are_local();
     matches_are_local();
+}
+
+/// A unit none of whose reads the edits touched gives, reads and costs the same in the tree that they make. A unit is a let in
+/// force, or a node that lives in both trees under a pattern; a let that is read is touched where its outcome changed.
+pub fn units_stand()
+    ensures change { EditsChange }
+    ensures units { UnitsStand }
+{
+    edits_leave_the_rest();
+    units_are_local();
 }
 
 /// The contexts of the rules of an active pattern, counted from 0, are well typed: what the laws on pairs ask of a plan's

@@ -11,7 +11,7 @@ use Rattle.sch_compiled.specs.declared.parts.LetInForce.{LetInForce}
 use Rattle.sch_compiled.specs.declared.plan.Plan.{Plan}
 use Rattle.sch_units.specs.Units.{lets_of, unit_let, unit_pair}
 use Rattle.sch_locality_laws.specs.Locality.{RulesTyped}
-use Rattle.sch_edit_laws.specs.Locality.{UnitsStand}
+use Rattle.sch_locality_laws.specs.Edits.{UnitsStand}
 use Rattle.edit_costs.specs.Dirty.{is_changed, is_dirty, is_touched}
 use Rattle.edit_costs.specs.Units.{in_force, let_reads, under}
 use Rattle.edit_costs.proofs.CleanLemmas.{both, neither, unchanged-reads}

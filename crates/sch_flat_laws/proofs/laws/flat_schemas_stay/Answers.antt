@@ -1,5 +1,5 @@
 -- Nothing is left to expand.
-use Rattle.sch_flat_laws.proofs.ExpansionLemmas.{schema_stays}
+use Rattle.sch_flat_laws.proofs.Document.ExpansionLemmas.{schema_stays}
 use Rattle.sch_flat_laws.proofs.laws.flat_schemas_stay.Goals as goal
 
 pub returns : goal.returns

@@ -1,7 +1,7 @@
 -- The events nest, so that they are read back.
 use Rattle.pyx_core.specs.declared.mode.Mode.TheVariants.{Document}
 use Rattle.sch_flat.specs.FlatDocument.{flat_events}
-use Rattle.sch_flat_laws.proofs.FlatNestingLemmas.{schema_nests}
+use Rattle.sch_flat_laws.proofs.Document.FlatNestingLemmas.{schema_nests}
 use Rattle.sch_flat_laws.proofs.laws.flat_text_is_read_back.Goals as goal
 
 pub returns : goal.returns

@@ -1,5 +1,5 @@
 -- An element stands between the texts of two others.
-use Rattle.sch_flat_laws.proofs.JoinedLemmas.{texts_apart}
+use Rattle.sch_flat_laws.proofs.Document.JoinedLemmas.{texts_apart}
 use Rattle.sch_flat_laws.proofs.laws.texts_stand_apart.Goals as goal
 
 pub returns : goal.returns

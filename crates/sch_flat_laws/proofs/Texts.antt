@@ -1,0 +1,3 @@
+pub mod FlatWalks
+pub mod NameLemmas
+pub mod WalkLemmas
