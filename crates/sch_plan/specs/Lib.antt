@@ -1,3 +1,4 @@
+pub use Rattle.sch_phases.specs.Walk
 pub mod Broken
 pub mod Expressions
 pub mod Lets
