@@ -2,7 +2,7 @@
 #![tactic(auto)]
 
 ghost use Rattle.std.specs.Prelude.{◌≡◌, ◌<◌};
-ghost use Rattle.sch_cli.specs.declared.status.Status.TheVariants as statuses;
+ghost use Rattle.sch_cli.specs.status.Status.TheVariants as statuses;
 ghost use Rattle.sch_cli.specs.Output.{memory_line};
 ghost use Rattle.sch_cli.specs.Runs.{Tells};
 

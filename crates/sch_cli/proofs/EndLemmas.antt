@@ -17,13 +17,13 @@ use Rattle.edit_session.specs.declared.state.ReportError.{ReportError}
 use Rattle.edit_session.specs.declared.state.ReportError.TheVariants as report
 use Rattle.edit_session.specs.declared.state.Shown.{Shown}
 use Rattle.edit_session.specs.declared.state.Shown.TheVariants as shown
-use Rattle.sch_cli.specs.declared.status.Status.TheVariants as status
+use Rattle.sch_words.specs.declared.status.Status.TheVariants as status
 use Rattle.sch_cli.specs.declared.stop.Stop.{Stop}
 use Rattle.sch_cli.specs.declared.stop.Stop.TheVariants.{Usage, SchemaRefused, DocumentRefused, ScriptRefused, Missing, ReadFault, WriteFault, Memory}
-use Rattle.sch_cli.specs.declared.notice.Notice.{Notice}
-use Rattle.sch_cli.specs.Commands.{tell}
+use Rattle.sch_words.specs.declared.notice.Notice.{Notice}
+use Rattle.sch_words.specs.Commands.{tell}
 use Rattle.sch_cli.specs.CommandOutput.{AreWritten, ComesTo, IsBegun, IsEnd, IsOutputOf, IsReadAlong, IsReadBy, IsReadFor, IsText, Treed}
-use Rattle.sch_cli.specs.Notices.{notice_text}
+use Rattle.sch_words.specs.Notices.{notice_text}
 use Rattle.sch_cli.specs.Output.{Output, ended, expanded, in_front, line_shown, state, status_shown}
 use Rattle.sch_cli.specs.Runs.{AppendsFront, Fronted, counted_if}
 use Rattle.sch_cli.specs.Stages.{BeginsStates, Expanding, Expansion, Following, Is, Planning, Scripting, States, Stating, Then, Treeing, Validating, refused_rule}

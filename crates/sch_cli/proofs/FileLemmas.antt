@@ -24,7 +24,7 @@ use Rattle.sch_include.specs.Taking.{fault_of}
 use Rattle.sch_compiled.specs.declared.plan.Plan.{Plan}
 use Rattle.edit_session.specs.Pairs.{pair_cap_for}
 use Rattle.edit_session.specs.Standing.{Standing}
-use Rattle.sch_cli.specs.declared.status.Status.TheVariants as status
+use Rattle.sch_words.specs.declared.status.Status.TheVariants as status
 use Rattle.sch_cli.specs.declared.refusal.FileRefusal.TheVariants.{TooLarge, Faulted}
 use Rattle.sch_cli.specs.declared.refusal.ScriptRefusal.TheVariants as script
 use Rattle.sch_cli.specs.declared.stop.Stop.{Stop}

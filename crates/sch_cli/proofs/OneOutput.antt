@@ -32,9 +32,9 @@ use Rattle.edit_session.specs.declared.state.Shown.{Shown}
 use Rattle.sch_cli.specs.declared.refusal.FileRefusal.{FileRefusal}
 use Rattle.sch_cli.specs.declared.refusal.FileRefusal.TheVariants.{TooLarge, Faulted}
 use Rattle.sch_cli.specs.declared.refusal.ScriptRefusal.TheVariants as script
-use Rattle.sch_cli.specs.declared.status.Status.TheVariants.{ScriptRefused}
+use Rattle.sch_words.specs.declared.status.Status.TheVariants.{ScriptRefused}
 use Rattle.sch_cli.specs.Refusals.{script_refused_line}
-use Rattle.sch_cli.specs.Commands.{Command, tell, expand, validate, follow, command_of}
+use Rattle.sch_words.specs.Commands.{Command, tell, expand, validate, follow, command_of}
 use Rattle.sch_cli.specs.CommandOutput.{IsEnd, IsOutput, IsOutputOf}
 use Rattle.sch_cli.specs.Documents.{IsDocument, IsRefused}
 use Rattle.sch_cli.specs.Following.{Follows, comes_to_end, edit_line, edits, refused_line, refuses, stops_at, then_shown, under}

@@ -7,12 +7,12 @@ use Rattle.sch_include.specs.Ends.{IsFirst}
 use Rattle.sch_compiled.specs.declared.plan.Plan.{Plan}
 use Rattle.edit_session.specs.declared.state.Shown.{Shown}
 use Rattle.edit_session.specs.declared.state.Shown.TheVariants as shown
-use Rattle.sch_cli.specs.declared.status.Status.{Status}
-use Rattle.sch_cli.specs.declared.status.Status.TheVariants as status
+use Rattle.sch_words.specs.declared.status.Status.{Status}
+use Rattle.sch_words.specs.declared.status.Status.TheVariants as status
 use Rattle.sch_cli.specs.declared.stop.Stop.{Stop}
 use Rattle.sch_cli.specs.declared.stop.Stop.TheVariants.{Memory}
-use Rattle.sch_cli.specs.declared.notice.Notice.{Notice}
-use Rattle.sch_cli.specs.Commands.{Command, tell, validate, follow}
+use Rattle.sch_words.specs.declared.notice.Notice.{Notice}
+use Rattle.sch_words.specs.Commands.{Command, tell, validate, follow}
 use Rattle.sch_cli.specs.CommandOutput.{IsOpenedBy, IsOpenedFor, Opens, OpensBoth, Treed}
 use Rattle.sch_cli.specs.Runs.{IsLast, OpensDecided, OpensFiles, OpensOver, counted_if, is_status}
 use Rattle.sch_cli.specs.Stages.{Planning}

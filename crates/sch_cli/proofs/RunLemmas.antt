@@ -6,13 +6,13 @@ use Rattle.sch_io.specs.SinkLog.{SinkLog}
 use Rattle.sch_io.specs.Wrote.{Appends}
 use Rattle.edit_session.specs.declared.state.Shown.{Shown}
 use Rattle.edit_session.specs.declared.state.Shown.TheVariants as shown
-use Rattle.sch_cli.specs.declared.command.Command.{Command as Borrowed}
-use Rattle.sch_cli.specs.declared.status.Status.{Status}
-use Rattle.sch_cli.specs.declared.status.Status.TheVariants as status
+use Rattle.sch_words.specs.declared.command.Command.{Command as Borrowed}
+use Rattle.sch_words.specs.declared.status.Status.{Status}
+use Rattle.sch_words.specs.declared.status.Status.TheVariants as status
 use Rattle.sch_cli.specs.declared.stop.Stop.{Stop}
 use Rattle.sch_cli.specs.declared.stop.Stop.TheVariants.{Usage, SchemaRefused, DocumentRefused, ScriptRefused, Missing, ReadFault, WriteFault, Memory}
-use Rattle.sch_cli.specs.Commands.{Command, command_of}
-use Rattle.sch_cli.specs.Commands as commands
+use Rattle.sch_words.specs.Commands.{Command, command_of}
+use Rattle.sch_words.specs.Commands as commands
 use Rattle.sch_cli.specs.Output.{Output, faulted_line}
 use Rattle.sch_cli.specs.CommandOutput.{AreWritten, ComesTo, IsOutput, IsOutputOf}
 use Rattle.sch_cli.specs.Runs.{Decided, Ends, EndsBy, IsLast, IsLineOf, Tells, is_status, may_evaluate, may_write}

@@ -22,7 +22,7 @@ use Rattle.sch_cli.specs.Output.{stopped}
 use Rattle.sch_cli.specs.Refusals.{schema_rule_line}
 use Rattle.sch_cli.specs.Stages.{Flattening, Reading, refused_rule, stop_at, stop_if}
 use Rattle.sch_cli.specs.declared.refusal.SchemaRefusal.TheVariants.{Rule}
-use Rattle.sch_cli.specs.declared.status.Status.TheVariants as status
+use Rattle.sch_words.specs.declared.status.Status.TheVariants as status
 use Rattle.sch_cli.specs.declared.stop.Stop.{Stop}
 use Rattle.sch_cli.specs.declared.stop.Stop.TheVariants.{SchemaRefused}
 use Rattle.sch_cli.specs.inner.Stops.{ByCause, Gives, IsRefusal, stopped_by}

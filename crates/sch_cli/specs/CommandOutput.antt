@@ -8,9 +8,9 @@ use Rattle.sch_include.specs.Ends.{IsFirst}
 use Rattle.sch_include.specs.Included.{Including}
 use Rattle.sch_include.specs.Taking.{fault_of}
 use Rattle.sch_compiled.specs.declared.plan.Plan.{Plan}
-use Rattle.sch_cli.specs.declared.status.Status.TheVariants.{Usage}
-use Rattle.sch_cli.specs.Commands.{Command, tell, expand, validate, follow, command_of}
-use Rattle.sch_cli.specs.Notices.{notice_text}
+use Rattle.sch_words.specs.declared.status.Status.TheVariants.{Usage}
+use Rattle.sch_words.specs.Commands.{Command, tell, expand, validate, follow, command_of}
+use Rattle.sch_words.specs.Notices.{notice_text}
 use Rattle.sch_cli.specs.Output.{Output, notice_output, stopped, usage_line}
 use Rattle.sch_cli.specs.Stages.{BeginsStates, Expansion, Following, Planning, Scripting, Treeing, Validating}
 

@@ -13,7 +13,7 @@ use Rattle.edit_session.specs.Pairs.{pair_cap_for}
 use Rattle.edit_session.specs.State.{shows, state_text}
 use Rattle.edit_session.specs.declared.state.Shown.{Shown}
 use Rattle.edit_session.specs.declared.state.Shown.TheVariants.{Clean, Findings, Fault}
-use Rattle.sch_cli.specs.declared.status.Status.TheVariants.{ScriptRefused}
+use Rattle.sch_words.specs.declared.status.Status.TheVariants.{ScriptRefused}
 use Rattle.sch_cli.specs.declared.refusal.ScriptRefusal.TheVariants.{Faulted}
 use Rattle.sch_cli.specs.Output.{Output, ended, in_front, stopped}
 use Rattle.sch_cli.specs.Refusals.{script_refused_line}

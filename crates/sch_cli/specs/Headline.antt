@@ -1,7 +1,7 @@
 -- What a run promises: what it writes, and what it costs.
 use Rattle.std.specs.Prelude.{ℕ, List, Option}
 use Rattle.sch_io.specs.Files.{Files}
-use Rattle.sch_cli.specs.declared.status.Status.{Status}
+use Rattle.sch_words.specs.declared.status.Status.{Status}
 use Rattle.sch_cli.specs.Runs.{Ends}
 use Rattle.sch_cli.specs.Steps.{CountsOver}
 

@@ -1,5 +1,7 @@
-pub mod Notices
-pub mod Commands
+pub use Rattle.sch_words.specs.Commands
+pub use Rattle.sch_words.specs.Notices
+pub use Rattle.sch_words.specs.Status
+pub use Rattle.sch_words.specs.declared.status
 pub mod Documents
 pub mod Refusals
 pub mod Output
@@ -8,7 +10,6 @@ pub mod Stages
 pub mod CommandOutput
 pub mod OneOutput
 pub mod Runs
-pub mod Status
 pub mod inner
 pub mod Steps
 pub mod Headline

@@ -9,10 +9,10 @@ use Rattle.sch_compiled.specs.declared.plan.Plan.{Plan}
 use Rattle.edit_session.specs.State.{shows, state_text}
 use Rattle.edit_session.specs.declared.state.Shown.{Shown}
 use Rattle.edit_session.specs.declared.state.Shown.TheVariants as shown
-use Rattle.sch_cli.specs.declared.notice.Notice.{Notice}
-use Rattle.sch_cli.specs.declared.status.Status.{Status}
-use Rattle.sch_cli.specs.declared.status.Status.TheVariants.{Clean, Findings, Faulted}
-use Rattle.sch_cli.specs.Notices.{notice_text}
+use Rattle.sch_words.specs.declared.notice.Notice.{Notice}
+use Rattle.sch_words.specs.declared.status.Status.{Status}
+use Rattle.sch_words.specs.declared.status.Status.TheVariants.{Clean, Findings, Faulted}
+use Rattle.sch_words.specs.Notices.{notice_text}
 
 pub record Output : Type 0 where
   pub out : List ℕ

@@ -22,7 +22,7 @@ use Rattle.sch_plan.specs.Compiled.{compiled}
 use Rattle.svrl_out.specs.Locations.{location_of}
 use Rattle.edit_session.specs.Pairs.{has_too_many_pairs}
 use Rattle.edit_session.specs.State.{shows, state_text}
-use Rattle.sch_cli.specs.declared.status.Status.TheVariants.{SchemaRefused, DocumentRefused, ScriptRefused, Missing}
+use Rattle.sch_words.specs.declared.status.Status.TheVariants.{SchemaRefused, DocumentRefused, ScriptRefused, Missing}
 use Rattle.sch_cli.specs.declared.refusal.FileRefusal.{FileRefusal}
 use Rattle.sch_cli.specs.declared.refusal.FileRefusal.TheVariants as refusal
 use Rattle.sch_cli.specs.declared.refusal.DocumentRefusal.TheVariants.{File, TooManyPairs}

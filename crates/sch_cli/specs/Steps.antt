@@ -13,9 +13,9 @@ use Rattle.sch_compiled.specs.declared.plan.Plan.{Plan}
 use Rattle.edit_costs.specs.Costs.{cost_of}
 use Rattle.edit_costs.specs.Dirty.{dirty_units}
 use Rattle.edit_costs.specs.Units.{units_of}
-use Rattle.sch_cli.specs.declared.status.Status.{Status}
-use Rattle.sch_cli.specs.declared.status.Status.TheVariants.{Clean, Findings, ScriptRefused, Faulted}
-use Rattle.sch_cli.specs.Commands.{Command, tell, expand, validate, follow, command_of}
+use Rattle.sch_words.specs.declared.status.Status.{Status}
+use Rattle.sch_words.specs.declared.status.Status.TheVariants.{Clean, Findings, ScriptRefused, Faulted}
+use Rattle.sch_words.specs.Commands.{Command, tell, expand, validate, follow, command_of}
 use Rattle.sch_cli.specs.CommandOutput.{Treed}
 use Rattle.sch_cli.specs.Following.{under}
 use Rattle.sch_cli.specs.Stages.{Scripting}

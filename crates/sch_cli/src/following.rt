@@ -8,8 +8,8 @@ ghost use Rattle.edit_script.specs.declared.limits.TheConstants.{MAX_SCRIPT_BYTE
 ghost use Rattle.edit_session.specs.Pairs.{pair_cap_for};
 ghost use Rattle.edit_session.specs.Standing.{evaluated_over};
 ghost use Rattle.edit_session.specs.State.{shows, state_text};
-ghost use Rattle.sch_cli.specs.declared.status.Status.TheVariants as statuses;
-ghost use Rattle.sch_cli.specs.Commands.{follow};
+ghost use Rattle.sch_words.specs.declared.status.Status.TheVariants as statuses;
+ghost use Rattle.sch_words.specs.Commands.{follow};
 ghost use Rattle.sch_cli.specs.CommandOutput.{IsBegun, IsEnd, IsReadAlong};
 ghost use Rattle.sch_cli.specs.Following.{edit_line, refused_line, then_shown};
 ghost use Rattle.sch_cli.specs.Stages.{BeginsStates, Following, States};
@@ -20,7 +20,6 @@ ghost use Rattle.sch_cli.specs.inner.Followers.{Beginning, Ending, Goes, IsReady
 ghost use Rattle.sch_cli.specs.inner.Shelves.{ReadsAs};
 ghost use Rattle.sch_cli.specs.inner.Stops.{Concludes, IsOfWriting, WroteText, ends_with, may_have_written, status_of_end};
 
-use crate::command::ScriptedValidation;
 use crate::edit_lines::{write_edit_line, write_refused_line};
 use crate::loading::read_script;
 use crate::stop::Stop;
@@ -31,6 +30,7 @@ use edit_script::{Command, ScriptReader};
 use edit_session::{Session, Shown};
 use sch_base::Text;
 use sch_io::{Shelf, Sink};
+use sch_words::ScriptedValidation;
 use std::alloc::Global;
 use std::sync::ledger::Ledger;
 use xp_outcome::Steps;

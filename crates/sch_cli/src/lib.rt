@@ -1,7 +1,6 @@
 //! The program as a library: `run` carries out the words of a command line over a shelf and two sinks.
 #![tactic(auto)]
 
-mod command;
 mod edit_lines;
 mod expansion;
 mod following;
@@ -11,12 +10,9 @@ mod notice;
 mod program;
 mod refusal;
 mod schema;
-mod status;
 mod stop;
 mod validation;
-mod words;
 
 pub use laws::one_output;
 pub use program::run;
-pub use status::Status;
-pub use words::Words;
+pub use sch_words::{Status, Words};

@@ -1,66 +1,22 @@
-//! What the program says of itself.
+//! What the program says of itself, as a run.
 
 ghost use Rattle.std.specs.Prelude.{◌≡◌, IfOk};
-ghost use Rattle.sch_io.specs.Wrote.{Wrote};
 ghost use Rattle.edit_session.specs.declared.state.Shown.TheVariants as states;
-ghost use Rattle.sch_cli.specs.Notices.{notice_text};
+ghost use Rattle.sch_words.specs.Notices.{notice_text};
 ghost use Rattle.sch_cli.specs.inner.Stops.{WroteText};
 
 use crate::stop::Stop;
 use edit_session::Shown;
-use sch_io::{Failed, Sink, write_pieces};
-
-/// The version of the program.
-const VERSION: &str = "1.0.0";
-
-/// What the program says of itself.
-#[derive(Clone, Copy)]
-pub enum Notice {
-    /// The accepted words, and what each status says.
-    Help,
-    /// The program's name and version.
-    Version,
-}
+use sch_io::{Failed, Sink};
+use sch_words::Notice;
 
 /// Writes a notice, which shows nothing to be found.
 pub(crate) fn write_notice<O: Sink>(notice: Notice, out: &mut O) -> Result<Shown, Stop>
     ensures wrote { WroteText (O.log out.old) (O.log out.new) (notice_text notice) result }
     ensures shown { IfOk result (λ last. last ≡ states.Clean) }
 {
-    match write_text(notice, out) {
+    match notice.write(out) {
         Ok(()) => Ok(Shown::Clean),
         Err(Failed) => Err(Stop::WriteFault),
-    }
-}
-
-/// Writes the text of a notice.
-fn write_text<O: Sink>(notice: Notice, out: &mut O) -> Result<(), Failed>
-    ensures { Wrote (O.log out.old) (O.log out.new) (notice_text notice) result }
-{
-    match notice {
-        Notice::Help => write_pieces(
-            out,
-            &[
-                "sch validate SCHEMA DOCUMENT\n",
-                "sch validate --phase PHASE SCHEMA DOCUMENT\n",
-                "sch follow SCHEMA DOCUMENT SCRIPT\n",
-                "sch follow --phase PHASE SCHEMA DOCUMENT SCRIPT\n",
-                "sch expand SCHEMA\n",
-                "sch --help\n",
-                "sch --version\n",
-                "status 0: done; the report, of `follow` the last one, has no finding\n",
-                "status 1: the report, of `follow` the last one, has a finding\n",
-                "status 2: the words are not accepted\n",
-                "status 3: the schema is refused\n",
-                "status 4: the document is refused\n",
-                "status 5: the script is refused\n",
-                "status 6: an evaluation faults, of `follow` at any state\n",
-                "status 7: a named or included file is not there\n",
-                "status 8: a read failed\n",
-                "status 9: a write failed\n",
-                "status 10: memory ran out\n",
-            ],
-        ),
-        Notice::Version => write_pieces(out, &["sch ", VERSION, "\n"]),
     }
 }

@@ -2,23 +2,21 @@
 
 ghost use Rattle.std.specs.Prelude.{◌≡◌, ◌≤◌, ℕ, List, ◌↔◌, None, false};
 ghost use Rattle.sch_io.specs.Wrote.{Appends, Wrote};
-ghost use Rattle.sch_cli.specs.declared.status.Status.TheVariants as statuses;
-ghost use Rattle.sch_cli.specs.Commands.{command_of};
+ghost use Rattle.sch_words.specs.declared.status.Status.TheVariants as statuses;
+ghost use Rattle.sch_words.specs.Commands.{command_of};
 ghost use Rattle.sch_cli.specs.Headline.{Headline};
 ghost use Rattle.sch_cli.specs.Runs.{Tells, IsLineOf, IsLast, OpensFiles, OpensOver, counted_if, is_status, may_evaluate, may_write};
 ghost use Rattle.sch_cli.specs.Steps.{CountsOver};
 ghost use Rattle.sch_cli.specs.inner.Stops.{ConcludesOver, EndsAs, Names, ends_with, may_have_written, status_of_end, line_of_end};
 
-use crate::command::{Command, command_of};
 use crate::expansion::expand_schema;
 use crate::following::follow;
 use crate::notice::write_notice;
-use crate::status::Status;
 use crate::stop::Stop;
 use crate::validation::validate;
-use crate::words::Words;
 use edit_session::Shown;
 use sch_io::{Failed, Shelf, Sink, write_all};
+use sch_words::{Command, Status, Words, command_of};
 use std::alloc::Global;
 use std::sync::ledger::Ledger;
 use xp_outcome::Steps;

@@ -7,12 +7,12 @@ ghost use Rattle.sch_cli.specs.declared.stop.Stop.TheVariants as stops;
 ghost use Rattle.sch_cli.specs.inner.Stops.{line_of, of_report, of_script, status_of};
 
 use crate::refusal::{DocumentRefusal, SchemaRefusal, ScriptRefusal};
-use crate::status::Status;
 use edit_script::ScriptError;
 use edit_session::ReportError;
 use pyx_write::write_line_rest;
 use sch_base::Text;
 use sch_io::{Failed, Sink, write_all};
+use sch_words::Status;
 use std::alloc::AllocError;
 
 /// What stops a run before its output is whole.

@@ -34,7 +34,7 @@ use Rattle.sch_include.specs.declared.fault.IncludeFault.{IncludeFault}
 use Rattle.sch_compiled.specs.declared.plan.Plan.{Plan}
 use Rattle.sch_plan_laws.specs.Places.{PlansNeedNoPlaces}
 use Rattle.edit_session.specs.Pairs.{has_too_many_pairs}
-use Rattle.sch_cli.specs.declared.status.Status.TheVariants.{Clean}
+use Rattle.sch_cli.specs.status.Status.TheVariants.{Clean}
 use Rattle.sch_cli.specs.Output.{Output, expanded, state}
 use Rattle.sch_cli.specs.Stages.{Compiling, Expanding, Flattening, Inclusion, Is, Loading, Planning, Reading, Then, Treeing, Validating, loaded, not_read, not_there, refused_rule, stop_at, stop_if, too_many_pairs}
 use Rattle.sch_cli_laws.specs.WholeSchemas.{ExpansionsStay, ExpansionsValidateAlike}

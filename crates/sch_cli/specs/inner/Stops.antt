@@ -22,9 +22,9 @@ use Rattle.sch_cli.specs.declared.stop.Stop.TheVariants.{Usage, SchemaRefused, D
 use Rattle.sch_cli.specs.declared.refusal.FileRefusal.TheVariants as refusal
 use Rattle.sch_cli.specs.declared.refusal.SchemaRefusal.TheVariants as schema
 use Rattle.sch_cli.specs.declared.refusal.ScriptRefusal.TheVariants as refused
-use Rattle.sch_cli.specs.declared.status.Status.{Status}
-use Rattle.sch_cli.specs.declared.status.Status.TheVariants as status
-use Rattle.sch_cli.specs.Commands.{command_of}
+use Rattle.sch_words.specs.declared.status.Status.{Status}
+use Rattle.sch_words.specs.declared.status.Status.TheVariants as status
+use Rattle.sch_words.specs.Commands.{command_of}
 use Rattle.sch_cli.specs.Refusals.{document_refused_line, file_in, schema_refused_line, script_refused_line}
 use Rattle.sch_cli.specs.Output.{Output, stopped, line_shown, status_shown, usage_line, missing_line, read_fault_line, write_fault_line, memory_line}
 use Rattle.sch_cli.specs.CommandOutput.{AreWritten, ComesTo, IsOpenedFor, IsOutput}

@@ -1,7 +1,7 @@
 -- The parts end as the whole.
 use Rattle.std.proofs.Common.{◌∙◌, Err, Ok, ap}
 use Rattle.std.proofs.lemmas.Result.{err_from_is_err_and}
-use Rattle.sch_cli.specs.Commands.{expand}
+use Rattle.sch_words.specs.Commands.{expand}
 use Rattle.sch_cli.proofs.EndLemmas.{expanded_ends, flat_ends, not_untouched}
 use Rattle.sch_cli.proofs.FileLemmas.{schema_err}
 use Rattle.sch_cli.proofs.OpenLemmas.{reads_schema, reads_written}

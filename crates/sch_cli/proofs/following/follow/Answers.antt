@@ -2,7 +2,7 @@
 use Rattle.std.proofs.Common.{◌∙◌, ℕ, List, Err, Ok, ap, inl}
 use Rattle.std.proofs.lemmas.Result.{err_from_is_err_and}
 use Rattle.sch_io.specs.Wrote.{Appends}
-use Rattle.sch_cli.specs.Commands.{follow}
+use Rattle.sch_words.specs.Commands.{follow}
 use Rattle.sch_cli.specs.CommandOutput.{IsBegun, IsEnd, IsReadAlong}
 use Rattle.sch_cli.specs.Stages.{Following}
 use Rattle.sch_cli.specs.Steps.{FollowingCosts}

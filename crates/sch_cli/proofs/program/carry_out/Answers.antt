@@ -1,7 +1,7 @@
 -- What the words ask for ends the run.
 use Rattle.std.proofs.Common.{◌∙◌, Some, ap, refl}
-use Rattle.sch_cli.specs.declared.command.Command.TheVariants as borrowed
-use Rattle.sch_cli.specs.Commands.{command_of, expand, follow, tell, validate}
+use Rattle.sch_words.specs.declared.command.Command.TheVariants as borrowed
+use Rattle.sch_words.specs.Commands.{command_of, expand, follow, tell, validate}
 use Rattle.sch_cli.proofs.EndLemmas.{not_untouched, notice_ends}
 use Rattle.sch_cli.proofs.OpenLemmas.{asked_decides, asked_opens, reads_notice}
 use Rattle.sch_cli.proofs.RunLemmas.{accepted, asks, asks_nothing, carries, carries_nothing, evaluates_asked}

@@ -1,7 +1,7 @@
 -- The schema is planned, and the document opened under its plan.
 use Rattle.std.proofs.Common.{◌∙◌, Err, ap, inl}
 use Rattle.std.proofs.lemmas.Result.{err_from_is_err_and}
-use Rattle.sch_cli.specs.Commands.{validate}
+use Rattle.sch_words.specs.Commands.{validate}
 use Rattle.sch_cli.specs.CommandOutput.{IsReadBy, Treed}
 use Rattle.sch_cli.specs.inner.Shelves.{ReadBoth}
 use Rattle.sch_cli.specs.inner.Stops.{Opening}

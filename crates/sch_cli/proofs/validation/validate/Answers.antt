@@ -2,7 +2,7 @@
 use Rattle.std.proofs.Common.{◌∙◌, Err, ap}
 use Rattle.std.proofs.lemmas.Result.{err_from_is_err_and}
 use Rattle.edit_session.specs.State.{state_text}
-use Rattle.sch_cli.specs.Commands.{validate}
+use Rattle.sch_words.specs.Commands.{validate}
 use Rattle.sch_cli.specs.Steps.{ValidationCosts}
 use Rattle.sch_cli.proofs.EndLemmas.{not_untouched, opening_ends, state_ends}
 use Rattle.sch_cli.proofs.OpenLemmas.{reads_err, reads_written}

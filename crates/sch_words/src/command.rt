@@ -1,7 +1,7 @@
 //! Which words are accepted, and what they ask for.
 
 ghost use Rattle.std.specs.Prelude.{◌≡◌, MatchOption, Some, None};
-ghost use Rattle.sch_cli.specs.Commands.{command_of, expansion_of, following_of, is_file_name, is_of_phase, notice_of, shown, validation_of};
+ghost use Rattle.sch_words.specs.Commands.{command_of, expansion_of, following_of, is_file_name, is_of_phase, notice_of, shown, validation_of};
 
 use crate::notice::Notice;
 use sch_base::Text;

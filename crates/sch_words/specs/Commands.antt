@@ -1,10 +1,10 @@
 -- The table of accepted words.
 use Rattle.std.specs.Prelude.{ℕ, Bool, false, not, ◌&&◌, ◌==◌, if◌then◌else◌, List, [], ◌∷◌, Option, None, Some, codes, length}
 use Rattle.std.specs.Str.{bytes_eq}
-use Rattle.sch_cli.specs.declared.command.Command.{Command as Borrowed}
-use Rattle.sch_cli.specs.declared.command.Command.TheVariants as borrowed
-use Rattle.sch_cli.specs.declared.notice.Notice.{Notice}
-use Rattle.sch_cli.specs.declared.notice.Notice.TheVariants.{Help, Version}
+use Rattle.sch_words.specs.declared.command.Command.{Command as Borrowed}
+use Rattle.sch_words.specs.declared.command.Command.TheVariants as borrowed
+use Rattle.sch_words.specs.declared.notice.Notice.{Notice}
+use Rattle.sch_words.specs.declared.notice.Notice.TheVariants.{Help, Version}
 
 -- what accepted words ask for: to say something of the program, to expand a schema, to validate by a phase and a schema a document, or
 -- to do the same after each command of an edit script

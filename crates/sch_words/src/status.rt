@@ -1,7 +1,7 @@
 //! How a run ended.
 
 ghost use Rattle.std.specs.Prelude.{◌≡◌};
-ghost use Rattle.sch_cli.specs.Status.{code_of};
+ghost use Rattle.sch_words.specs.Status.{code_of};
 
 /// How a run ended; its code is the exit status of the program.
 #[derive(Clone, Copy, Debug, PartialEq, Eq)]

@@ -1,9 +1,9 @@
 -- What the program says of itself.
 use Rattle.std.specs.Prelude.{ℕ, List, [], ◌∷◌, ◌++◌, codes}
 use Rattle.std.specs.List.{flat_map}
-use Rattle.sch_cli.specs.declared.notice.Notice.{Notice}
-use Rattle.sch_cli.specs.declared.notice.Notice.TheVariants.{Help, Version}
-use Rattle.sch_cli.specs.declared.notice.TheConstants.{VERSION}
+use Rattle.sch_words.specs.declared.notice.Notice.{Notice}
+use Rattle.sch_words.specs.declared.notice.Notice.TheVariants.{Help, Version}
+use Rattle.sch_words.specs.declared.notice.TheConstants.{VERSION}
 
 -- the accepted words, one line each, and what each status says, one line each
 abbrev pub help_lines : List (List ℕ)
