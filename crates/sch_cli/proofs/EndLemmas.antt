@@ -18,8 +18,8 @@ use Rattle.edit_session.specs.declared.state.ReportError.TheVariants as report
 use Rattle.edit_session.specs.declared.state.Shown.{Shown}
 use Rattle.edit_session.specs.declared.state.Shown.TheVariants as shown
 use Rattle.sch_words.specs.declared.status.Status.TheVariants as status
-use Rattle.sch_cli.specs.declared.stop.Stop.{Stop}
-use Rattle.sch_cli.specs.declared.stop.Stop.TheVariants.{Usage, SchemaRefused, DocumentRefused, ScriptRefused, Missing, ReadFault, WriteFault, Memory}
+use Rattle.sch_stops.specs.declared.stop.Stop.{Stop}
+use Rattle.sch_stops.specs.declared.stop.Stop.TheVariants.{Usage, SchemaRefused, DocumentRefused, ScriptRefused, Missing, ReadFault, WriteFault, Memory}
 use Rattle.sch_words.specs.declared.notice.Notice.{Notice}
 use Rattle.sch_words.specs.Commands.{tell}
 use Rattle.sch_cli.specs.CommandOutput.{AreWritten, ComesTo, IsBegun, IsEnd, IsOutputOf, IsReadAlong, IsReadBy, IsReadFor, IsText, Treed}

@@ -25,10 +25,10 @@ use Rattle.sch_compiled.specs.declared.plan.Plan.{Plan}
 use Rattle.edit_session.specs.Pairs.{pair_cap_for}
 use Rattle.edit_session.specs.Standing.{Standing}
 use Rattle.sch_words.specs.declared.status.Status.TheVariants as status
-use Rattle.sch_cli.specs.declared.refusal.FileRefusal.TheVariants.{TooLarge, Faulted}
-use Rattle.sch_cli.specs.declared.refusal.ScriptRefusal.TheVariants as script
-use Rattle.sch_cli.specs.declared.stop.Stop.{Stop}
-use Rattle.sch_cli.specs.declared.stop.Stop.TheVariants.{Memory}
+use Rattle.sch_stops.specs.declared.refusal.FileRefusal.TheVariants.{TooLarge, Faulted}
+use Rattle.sch_stops.specs.declared.refusal.ScriptRefusal.TheVariants as script
+use Rattle.sch_stops.specs.declared.stop.Stop.{Stop}
+use Rattle.sch_stops.specs.declared.stop.Stop.TheVariants.{Memory}
 use Rattle.sch_cli.specs.CommandOutput.{IsReadBy, IsReadFor, Treed}
 use Rattle.sch_cli.specs.Output.{Output}
 use Rattle.sch_cli.specs.Runs.{counted_if, is_status}

@@ -26,10 +26,10 @@ use Rattle.edit_session.specs.Standing.{Standing, evaluated_over}
 use Rattle.edit_session.specs.State.{shows, state_text}
 use Rattle.edit_session.specs.declared.state.Shown.{Shown}
 use Rattle.sch_cli.specs.declared.following.Follower.{Follower}
-use Rattle.sch_cli.specs.declared.refusal.ScriptRefusal.TheVariants as refusal
+use Rattle.sch_stops.specs.declared.refusal.ScriptRefusal.TheVariants as refusal
 use Rattle.sch_words.specs.declared.status.Status.TheVariants as status
-use Rattle.sch_cli.specs.declared.stop.Stop.{Stop}
-use Rattle.sch_cli.specs.declared.stop.Stop.TheVariants.{ScriptRefused, Memory}
+use Rattle.sch_stops.specs.declared.stop.Stop.{Stop}
+use Rattle.sch_stops.specs.declared.stop.Stop.TheVariants.{ScriptRefused, Memory}
 use Rattle.sch_cli.specs.Following.{Begins, Follows, comes_to_end, edit_line, edited, edits, nothing_yet, refused, refused_line, refuses, stops_at, then_shown, under}
 use Rattle.sch_cli.specs.Output.{Output, ended, in_front}
 use Rattle.sch_cli.specs.Runs.{AppendsFront, Fronted, counted_if}

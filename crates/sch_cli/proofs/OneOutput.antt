@@ -29,11 +29,11 @@ use Rattle.sch_plan.specs.OnePlan.{OnePlan}
 use Rattle.edit_session.specs.Pairs.{has_too_many_pairs}
 use Rattle.edit_session.specs.State.{shows, state_text}
 use Rattle.edit_session.specs.declared.state.Shown.{Shown}
-use Rattle.sch_cli.specs.declared.refusal.FileRefusal.{FileRefusal}
-use Rattle.sch_cli.specs.declared.refusal.FileRefusal.TheVariants.{TooLarge, Faulted}
-use Rattle.sch_cli.specs.declared.refusal.ScriptRefusal.TheVariants as script
+use Rattle.sch_stops.specs.declared.refusal.FileRefusal.{FileRefusal}
+use Rattle.sch_stops.specs.declared.refusal.FileRefusal.TheVariants.{TooLarge, Faulted}
+use Rattle.sch_stops.specs.declared.refusal.ScriptRefusal.TheVariants as script
 use Rattle.sch_words.specs.declared.status.Status.TheVariants.{ScriptRefused}
-use Rattle.sch_cli.specs.Refusals.{script_refused_line}
+use Rattle.sch_stops.specs.Refusals.{script_refused_line}
 use Rattle.sch_words.specs.Commands.{Command, tell, expand, validate, follow, command_of}
 use Rattle.sch_cli.specs.CommandOutput.{IsEnd, IsOutput, IsOutputOf}
 use Rattle.sch_cli.specs.Documents.{IsDocument, IsRefused}

@@ -16,15 +16,15 @@ use Rattle.sch_abstract.specs.FirstFault.{first_fault}
 use Rattle.sch_abstract.specs.FirstFault as abstract
 use Rattle.sch_read.specs.Refused.{Refused}
 use Rattle.sch_abstract.specs.Flat.{flat_schema}
-use Rattle.svrl_out.specs.Locations.{location_of, steps_of, step_by}
+use Rattle.doc_locations.specs.Locations.{location_of, steps_of, step_by}
 use Rattle.sch_cli.specs.Output.{Output}
 use Rattle.sch_cli.specs.Output.{stopped}
-use Rattle.sch_cli.specs.Refusals.{schema_rule_line}
+use Rattle.sch_stops.specs.Refusals.{schema_rule_line}
 use Rattle.sch_cli.specs.Stages.{Flattening, Reading, refused_rule, stop_at, stop_if}
-use Rattle.sch_cli.specs.declared.refusal.SchemaRefusal.TheVariants.{Rule}
+use Rattle.sch_stops.specs.declared.refusal.SchemaRefusal.TheVariants.{Rule}
 use Rattle.sch_words.specs.declared.status.Status.TheVariants as status
-use Rattle.sch_cli.specs.declared.stop.Stop.{Stop}
-use Rattle.sch_cli.specs.declared.stop.Stop.TheVariants.{SchemaRefused}
+use Rattle.sch_stops.specs.declared.stop.Stop.{Stop}
+use Rattle.sch_stops.specs.declared.stop.Stop.TheVariants.{SchemaRefused}
 use Rattle.sch_cli.specs.inner.Stops.{ByCause, Gives, IsRefusal, stopped_by}
 use Rattle.sch_cli.proofs.EndLemmas.{by_cause, refusal_stops}
 

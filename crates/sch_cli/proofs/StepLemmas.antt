@@ -22,8 +22,8 @@ use Rattle.edit_session.specs.declared.state.Shown.TheVariants.{Clean, Findings,
 use Rattle.sch_cli.specs.declared.following.Follower.{Follower}
 use Rattle.sch_words.specs.declared.status.Status.{Status}
 use Rattle.sch_words.specs.declared.status.Status.TheVariants as status
-use Rattle.sch_cli.specs.declared.stop.Stop.{Stop}
-use Rattle.sch_cli.specs.declared.stop.Stop.TheVariants.{Usage, SchemaRefused, DocumentRefused, ScriptRefused, Missing, ReadFault, WriteFault, Memory}
+use Rattle.sch_stops.specs.declared.stop.Stop.{Stop}
+use Rattle.sch_stops.specs.declared.stop.Stop.TheVariants.{Usage, SchemaRefused, DocumentRefused, ScriptRefused, Missing, ReadFault, WriteFault, Memory}
 use Rattle.sch_words.specs.Commands.{Command, command_of}
 use Rattle.sch_cli.specs.CommandOutput.{Treed}
 use Rattle.sch_cli.specs.Following.{then_shown}

@@ -7,8 +7,8 @@ use Rattle.pyx_core.specs.Reading.{events_of}
 use Rattle.pyx_core.specs.Nesting.{bare}
 use Rattle.name_scopes.specs.ScopedTree.{Scoped}
 use Rattle.name_scopes.specs.DocFaults.{doc_fault}
-use Rattle.sch_cli.specs.declared.refusal.FileRefusal.{FileRefusal}
-use Rattle.sch_cli.specs.declared.refusal.FileRefusal.TheVariants.{TooLarge, Faulted}
+use Rattle.sch_stops.specs.declared.refusal.FileRefusal.{FileRefusal}
+use Rattle.sch_stops.specs.declared.refusal.FileRefusal.TheVariants.{TooLarge, Faulted}
 
 -- the bytes are a document with this tree
 pub record IsDocument (bytes : List ℕ) (T : Table) : Type 0 where

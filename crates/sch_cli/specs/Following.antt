@@ -1,9 +1,7 @@
 -- What is written for the commands of an edit script, one after another.
-use Rattle.std.specs.Prelude.{◌≡◌, ℕ, ◌+◌, List, [], ◌++◌, None, Some, codes}
-use Rattle.std.specs.Fmt.{decimal}
+use Rattle.std.specs.Prelude.{◌≡◌, ℕ, ◌+◌, List, [], ◌++◌, None, Some}
 use Rattle.doc_tree.specs.Table.{Contents, Table}
 use Rattle.doc_tree.specs.declared.refusal.EditRefusal.{EditRefusal}
-use Rattle.doc_tree.specs.declared.refusal.EditRefusal.TheVariants.{NoNode, WrongKind, NotInRange, RootElement, TextBeside, EmptyText, NoPrefix, XmlnsName, NoAttribute, TooManyNodes, TooDeep, TooMuchText, IdsSpent, TooManyPairs, SameAttribute}
 use Rattle.edit_script.specs.Script.{Script, nothing, onto, stops}
 use Rattle.edit_script.specs.declared.command.Command.{Command}
 use Rattle.edit_script.specs.declared.fault.ScriptFault.{ScriptFault}
@@ -14,35 +12,10 @@ use Rattle.edit_session.specs.State.{shows, state_text}
 use Rattle.edit_session.specs.declared.state.Shown.{Shown}
 use Rattle.edit_session.specs.declared.state.Shown.TheVariants.{Clean, Findings, Fault}
 use Rattle.sch_words.specs.declared.status.Status.TheVariants.{ScriptRefused}
-use Rattle.sch_cli.specs.declared.refusal.ScriptRefusal.TheVariants.{Faulted}
+use Rattle.sch_stops.specs.declared.refusal.ScriptRefusal.TheVariants.{Faulted}
 use Rattle.sch_cli.specs.Output.{Output, ended, in_front, stopped}
-use Rattle.sch_cli.specs.Refusals.{script_refused_line}
-
--- the line in front of the state behind an accepted command, which tells its number
-unfoldable pub edit_line : ℕ → List ℕ
-edit_line number = codes "?edit " ++ (decimal number ++ codes "\n")
-
--- the names of the reasons against a command
-abbrev pub refusal_words : EditRefusal → List ℕ
-refusal_words NoNode = codes "NoNode"
-refusal_words WrongKind = codes "WrongKind"
-refusal_words NotInRange = codes "NotInRange"
-refusal_words RootElement = codes "RootElement"
-refusal_words TextBeside = codes "TextBeside"
-refusal_words EmptyText = codes "EmptyText"
-refusal_words NoPrefix = codes "NoPrefix"
-refusal_words XmlnsName = codes "XmlnsName"
-refusal_words NoAttribute = codes "NoAttribute"
-refusal_words TooManyNodes = codes "TooManyNodes"
-refusal_words TooDeep = codes "TooDeep"
-refusal_words TooMuchText = codes "TooMuchText"
-refusal_words IdsSpent = codes "IdsSpent"
-refusal_words TooManyPairs = codes "TooManyPairs"
-refusal_words SameAttribute = codes "SameAttribute"
-
--- the line of a refused command: its number, and the first reason against it
-unfoldable pub refused_line : ℕ → EditRefusal → List ℕ
-refused_line number reason = codes "?refused " ++ (decimal number ++ (codes " " ++ (refusal_words reason ++ codes "\n")))
+use Rattle.sch_stops.specs.Refusals.{script_refused_line}
+pub use Rattle.sch_stops.specs.EditLines.{edit_line, refused_line}
 
 -- a document under a plan, which says how many nodes may live in it; no reason depends on names
 abbrev pub under : Plan → Table → Contents

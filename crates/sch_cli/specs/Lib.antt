@@ -2,8 +2,9 @@ pub use Rattle.sch_words.specs.Commands
 pub use Rattle.sch_words.specs.Notices
 pub use Rattle.sch_words.specs.Status
 pub use Rattle.sch_words.specs.declared.status
+pub use Rattle.sch_stops.specs.Refusals
+pub use Rattle.sch_stops.specs.EditLines
 pub mod Documents
-pub mod Refusals
 pub mod Output
 pub mod Following
 pub mod Stages

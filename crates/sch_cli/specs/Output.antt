@@ -1,6 +1,5 @@
--- What a run gives: the bytes for the output, the line for the error output, and the status.
+-- What a run gives that is not stopped, by what its states show.
 use Rattle.std.specs.Prelude.{ℕ, List, [], ◌++◌, codes}
-use Rattle.pyx_core.specs.Escapes.{escaped}
 use Rattle.pyx_core.specs.Written.{text_of}
 use Rattle.doc_tree.specs.Table.{Table}
 use Rattle.sch_model.specs.declared.flat.FlatSchema.{FlatSchema}
@@ -13,34 +12,11 @@ use Rattle.sch_words.specs.declared.notice.Notice.{Notice}
 use Rattle.sch_words.specs.declared.status.Status.{Status}
 use Rattle.sch_words.specs.declared.status.Status.TheVariants.{Clean, Findings, Faulted}
 use Rattle.sch_words.specs.Notices.{notice_text}
+pub use Rattle.sch_stops.specs.Output.{Output, stopped, usage_line, missing_line, read_fault_line, write_fault_line, memory_line}
 
-pub record Output : Type 0 where
-  pub out : List ℕ
-  pub err : List ℕ
-  pub ends : Status
-
--- a run that is stopped, and of which no more is written
-abbrev pub stopped : Status → List ℕ → Output
-stopped status line = record { out = []; err = line; ends = status }
-
--- the lines of the error output; a file's name has the escapes of PYX
-abbrev pub usage_line : List ℕ
-usage_line = codes "sch: usage\n"
-
+-- the line of the error output where a state is a fault
 abbrev pub faulted_line : List ℕ
 faulted_line = codes "sch: faulted\n"
-
-abbrev pub missing_line : List ℕ → List ℕ
-missing_line name = codes "sch: missing: " ++ (escaped name ++ codes "\n")
-
-abbrev pub read_fault_line : List ℕ → List ℕ
-read_fault_line name = codes "sch: read fault: " ++ (escaped name ++ codes "\n")
-
-abbrev pub write_fault_line : List ℕ
-write_fault_line = codes "sch: write fault\n"
-
-abbrev pub memory_line : List ℕ
-memory_line = codes "sch: out of memory\n"
 
 -- the status of a run that comes to its end, by what its states show
 abbrev pub status_shown : Shown → Status

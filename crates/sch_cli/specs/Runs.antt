@@ -8,10 +8,10 @@ use Rattle.sch_io.specs.declared.error.Failed.{Failed}
 use Rattle.sch_words.specs.Status.{code_of}
 use Rattle.sch_words.specs.declared.status.Status.{Status}
 use Rattle.sch_words.specs.declared.status.Status.TheVariants.{Clean, Findings, Usage, SchemaRefused, DocumentRefused, ScriptRefused, Faulted, Missing, ReadFault, WriteFault, Memory}
-use Rattle.sch_cli.specs.declared.refusal.DocumentRefusal.{DocumentRefusal}
-use Rattle.sch_cli.specs.declared.refusal.SchemaRefusal.{SchemaRefusal}
-use Rattle.sch_cli.specs.declared.refusal.ScriptRefusal.{ScriptRefusal}
-use Rattle.sch_cli.specs.Refusals.{document_refused_line, file_in, schema_refused_line, script_refused_line}
+use Rattle.sch_stops.specs.declared.refusal.DocumentRefusal.{DocumentRefusal}
+use Rattle.sch_stops.specs.declared.refusal.SchemaRefusal.{SchemaRefusal}
+use Rattle.sch_stops.specs.declared.refusal.ScriptRefusal.{ScriptRefusal}
+use Rattle.sch_stops.specs.Refusals.{document_refused_line, file_in, schema_refused_line, script_refused_line}
 use Rattle.sch_words.specs.Commands.{Command, tell, expand, validate, follow, command_of}
 use Rattle.sch_cli.specs.Output.{Output, usage_line, faulted_line, missing_line, read_fault_line, write_fault_line, memory_line}
 use Rattle.sch_cli.specs.CommandOutput.{AreWritten, ComesTo, IsOpenedBy, IsOutput, Opens}

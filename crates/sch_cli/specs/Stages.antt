@@ -19,19 +19,19 @@ use Rattle.sch_abstract.specs.FirstFault.{first_fault}
 use Rattle.sch_abstract.specs.Flat.{flat_schema}
 use Rattle.sch_compiled.specs.declared.plan.Plan.{Plan}
 use Rattle.sch_plan.specs.Compiled.{compiled}
-use Rattle.svrl_out.specs.Locations.{location_of}
+use Rattle.doc_locations.specs.Locations.{location_of}
 use Rattle.edit_session.specs.Pairs.{has_too_many_pairs}
 use Rattle.edit_session.specs.State.{shows, state_text}
 use Rattle.sch_words.specs.declared.status.Status.TheVariants.{SchemaRefused, DocumentRefused, ScriptRefused, Missing}
-use Rattle.sch_cli.specs.declared.refusal.FileRefusal.{FileRefusal}
-use Rattle.sch_cli.specs.declared.refusal.FileRefusal.TheVariants as refusal
-use Rattle.sch_cli.specs.declared.refusal.DocumentRefusal.TheVariants.{File, TooManyPairs}
-use Rattle.sch_cli.specs.declared.refusal.ScriptRefusal.{ScriptRefusal}
-use Rattle.sch_cli.specs.declared.refusal.ScriptRefusal.TheVariants.{TooLarge}
+use Rattle.sch_stops.specs.declared.refusal.FileRefusal.{FileRefusal}
+use Rattle.sch_stops.specs.declared.refusal.FileRefusal.TheVariants as refusal
+use Rattle.sch_stops.specs.declared.refusal.DocumentRefusal.TheVariants.{File, TooManyPairs}
+use Rattle.sch_stops.specs.declared.refusal.ScriptRefusal.{ScriptRefusal}
+use Rattle.sch_stops.specs.declared.refusal.ScriptRefusal.TheVariants.{TooLarge}
 use Rattle.sch_cli.specs.Documents.{IsDocument, IsRefused}
 use Rattle.sch_cli.specs.Following.{Begins, Follows}
 use Rattle.sch_cli.specs.Output.{Output, expanded, in_front, missing_line, state, stopped}
-use Rattle.sch_cli.specs.Refusals.{document_refused_line, include_line, schema_file_line, schema_rule_line, script_refused_line}
+use Rattle.sch_stops.specs.Refusals.{document_refused_line, include_line, schema_file_line, schema_rule_line, script_refused_line}
 
 -- two stages one after the other: the second starts from the value with which the first goes on
 abbrev pub Then : {A B : Type 0} → (Result A Output → Type 0) → (A → Result B Output → Type 0) → Result B Output → Type 0

@@ -16,7 +16,6 @@ ghost use Rattle.sch_cli.specs.inner.Stops.{Concludes, Gives, ReadsSchema, Wrote
 
 use crate::loading::load_schema;
 use crate::schema::read_flat;
-use crate::stop::Stop;
 use edit_session::Shown;
 use pyx_core::Event;
 use pyx_write::write_event;
@@ -24,6 +23,7 @@ use sch_base::Text;
 use sch_flat::flat_events;
 use sch_io::{Failed, Shelf, Sink};
 use sch_model::FlatSchema;
+use sch_stops::Stop;
 use std::alloc::Global;
 
 /// Expands the named schema, and writes it.

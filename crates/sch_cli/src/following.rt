@@ -20,9 +20,7 @@ ghost use Rattle.sch_cli.specs.inner.Followers.{Beginning, Ending, Goes, IsReady
 ghost use Rattle.sch_cli.specs.inner.Shelves.{ReadsAs};
 ghost use Rattle.sch_cli.specs.inner.Stops.{Concludes, IsOfWriting, WroteText, ends_with, may_have_written, status_of_end};
 
-use crate::edit_lines::{write_edit_line, write_refused_line};
 use crate::loading::read_script;
-use crate::stop::Stop;
 use crate::validation::{load_asked, write_state};
 use doc_tree::EditRefusal;
 use edit_commands::ApplyError;
@@ -30,6 +28,7 @@ use edit_script::{Command, ScriptReader};
 use edit_session::{Session, Shown};
 use sch_base::Text;
 use sch_io::{Shelf, Sink};
+use sch_stops::{Stop, write_edit_line, write_refused_line};
 use sch_words::ScriptedValidation;
 use std::alloc::Global;
 use std::sync::ledger::Ledger;

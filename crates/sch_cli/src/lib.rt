@@ -1,16 +1,13 @@
 //! The program as a library: `run` carries out the words of a command line over a shelf and two sinks.
 #![tactic(auto)]
 
-mod edit_lines;
 mod expansion;
 mod following;
 mod laws;
 mod loading;
 mod notice;
 mod program;
-mod refusal;
 mod schema;
-mod stop;
 mod validation;
 
 pub use laws::one_output;

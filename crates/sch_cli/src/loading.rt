@@ -9,13 +9,12 @@ ghost use Rattle.sch_cli.specs.CommandOutput.{IsReadFor};
 ghost use Rattle.sch_cli.specs.Stages.{Inclusion, Loading, Scripting};
 ghost use Rattle.sch_cli.specs.inner.Stops.{Gives, Reads, ReadsSchema, IsRead, IsMissing, stop_of};
 
-use crate::refusal::{DocumentRefusal, FileRefusal, SchemaRefusal, ScriptRefusal};
-use crate::stop::Stop;
 use doc_tree::Tree;
 use name_scopes::{LoadError, load_tree};
 use sch_base::Text;
 use sch_include::{IncludeError, IncludeFault, IncludeKind, include_all};
 use sch_io::{Bytes, ReadError, Shelf, read_all};
+use sch_stops::{DocumentRefusal, FileRefusal, SchemaRefusal, ScriptRefusal, Stop};
 use std::alloc::Global;
 
 /// The tree of the named schema with its includes replaced.

@@ -5,9 +5,9 @@ ghost use Rattle.edit_session.specs.declared.state.Shown.TheVariants as states;
 ghost use Rattle.sch_words.specs.Notices.{notice_text};
 ghost use Rattle.sch_cli.specs.inner.Stops.{WroteText};
 
-use crate::stop::Stop;
 use edit_session::Shown;
 use sch_io::{Failed, Sink};
+use sch_stops::Stop;
 use sch_words::Notice;
 
 /// Writes a notice, which shows nothing to be found.

@@ -12,10 +12,10 @@ ghost use Rattle.sch_cli.specs.inner.Stops.{ConcludesOver, EndsAs, Names, ends_w
 use crate::expansion::expand_schema;
 use crate::following::follow;
 use crate::notice::write_notice;
-use crate::stop::Stop;
 use crate::validation::validate;
 use edit_session::Shown;
 use sch_io::{Failed, Shelf, Sink, write_all};
+use sch_stops::Stop;
 use sch_words::{Command, Status, Words, command_of};
 use std::alloc::Global;
 use std::sync::ledger::Ledger;

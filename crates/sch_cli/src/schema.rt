@@ -3,12 +3,11 @@
 ghost use Rattle.std.specs.Prelude.{◌≡◌, true, Ok, Err, IfErr, IfOk};
 ghost use Rattle.doc_tree.specs.Kinds.{is_document};
 ghost use Rattle.sch_compiled.specs.Soundness.{IsSound};
-ghost use Rattle.svrl_out.specs.Locations.{location_of};
+ghost use Rattle.doc_locations.specs.Locations.{location_of};
 ghost use Rattle.sch_cli.specs.Stages.{Compiling, Flattening, Reading, Then};
 ghost use Rattle.sch_cli.specs.inner.Stops.{Gives, IsInner, IsRefusal};
 
-use crate::refusal::SchemaRefusal;
-use crate::stop::Stop;
+use doc_locations::location;
 use doc_tree::{NodeId, Tree};
 use sch_abstract::expand;
 use sch_base::Text;
@@ -16,8 +15,8 @@ use sch_compiled::Plan;
 use sch_model::{FlatSchema, RawSchema, SchemaError};
 use sch_plan::compile;
 use sch_read::read_schema;
+use sch_stops::{SchemaRefusal, Stop};
 use std::alloc::{AllocError, Global};
-use svrl_out::location;
 
 /// The plan of a phase of the schema that the tree of a document is.
 pub(crate) fn plan_of(alloc: Global, tree: &Tree, phase: &str) -> Result<Plan, Stop>

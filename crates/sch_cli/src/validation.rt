@@ -15,16 +15,15 @@ ghost use Rattle.sch_cli.specs.Runs.{counted_if};
 ghost use Rattle.sch_cli.specs.Steps.{CountsBy, ValidationCosts};
 ghost use Rattle.sch_cli.specs.inner.Counts.{RoseFor, next_cost};
 ghost use Rattle.sch_cli.specs.inner.Shelves.{ReadBoth, ReadsAs};
-ghost use Rattle.sch_cli.specs.inner.Stops.{Concludes, Gives, Opening, Reads, ReadsSchema, WroteText, ends_with, may_have_written, status_of_end};
+ghost use Rattle.sch_cli.specs.inner.Stops.{Concludes, Gives, Opening, Reads, ReadsSchema, WroteText, ends_with, may_have_written, of_report, status_of_end};
 
 use crate::loading::{load_document, load_schema};
-use crate::refusal::DocumentRefusal;
 use crate::schema::plan_of;
-use crate::stop::Stop;
-use edit_session::{OpenRefusal, Session, Shown};
+use edit_session::{OpenRefusal, ReportError, Session, Shown};
 use sch_base::Text;
 use sch_compiled::Plan;
 use sch_io::{Shelf, Sink};
+use sch_stops::{DocumentRefusal, Stop};
 use sch_words::Validation;
 use std::alloc::Global;
 use std::sync::ledger::Ledger;
@@ -101,8 +100,20 @@ pub(crate) fn write_state<O: Sink, L: Ledger>(
     ensures rose { IfOk result (RoseFor (next_cost session.old) steps.old steps.new) }
     ensures steps { steps.old ≤ steps.new }
 {
-    let last = session.report(out, steps)?;
-    Ok(last)
+    match session.report(out, steps) {
+        Ok(last) => Ok(last),
+        Err(error) => Err(stop_of(error)),
+    }
+}
+
+/// What stops a run whose state is not written whole.
+fn stop_of(error: ReportError) -> Stop
+    ensures { result ≡ of_report error }
+{
+    match error {
+        ReportError::Failed => Stop::WriteFault,
+        ReportError::Memory => Stop::Memory,
+    }
 }
 
 /// Validates the document that is asked for, and writes its state; answers what the state shows.

@@ -9,8 +9,8 @@ use Rattle.edit_session.specs.Standing.{Standing, since_of}
 use Rattle.edit_session.specs.declared.state.Shown.{Shown}
 use Rattle.edit_session.specs.declared.state.Shown.TheVariants.{Fault}
 use Rattle.sch_cli.specs.declared.following.Follower.{Follower}
-use Rattle.sch_cli.specs.declared.stop.Stop.{Stop}
-use Rattle.sch_cli.specs.declared.stop.Stop.TheVariants.{ScriptRefused}
+use Rattle.sch_stops.specs.declared.stop.Stop.{Stop}
+use Rattle.sch_stops.specs.declared.stop.Stop.TheVariants.{ScriptRefused}
 use Rattle.sch_cli.specs.Steps.{CountsAtMost, EditsCost, first_cost}
 
 -- the visits of a session's next report

@@ -9,7 +9,7 @@ use Rattle.std.specs.Prelude.{Result, MatchResult, IfErr}
 use Rattle.sch_io.specs.Wrote.{Appends}
 use Rattle.sch_cli.specs.declared.following.Follower.{Follower}
 use Rattle.sch_words.specs.declared.status.Status.TheVariants as status
-use Rattle.sch_cli.specs.declared.stop.Stop.{Stop}
+use Rattle.sch_stops.specs.declared.stop.Stop.{Stop}
 use Rattle.sch_cli.specs.Following.{Begins, Follows}
 use Rattle.sch_cli.specs.Output.{Output, in_front}
 use Rattle.sch_cli.specs.Runs.{Fronted, counted_if}

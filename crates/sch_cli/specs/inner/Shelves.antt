@@ -3,7 +3,7 @@ use Rattle.std.specs.Prelude.{◌≡◌, List, ℕ, ◌++◌, false, Result, Som
 use Rattle.sch_io.specs.Files.{Files}
 use Rattle.sch_io.specs.ShelfState.{ShelfState}
 use Rattle.sch_words.specs.declared.status.Status.TheVariants as status
-use Rattle.sch_cli.specs.declared.stop.Stop.{Stop}
+use Rattle.sch_stops.specs.declared.stop.Stop.{Stop}
 use Rattle.sch_cli.specs.CommandOutput.{IsOpenedAfter, OpensBoth}
 use Rattle.sch_words.specs.Commands.{Command}
 use Rattle.sch_cli.specs.Runs.{IsLast, OpensDecided, OpensFiles, counted_if}

@@ -12,73 +12,21 @@ use Rattle.sch_include.specs.declared.fault.IncludeKind.TheVariants as kind
 use Rattle.sch_include.specs.Ends.{IsFirst}
 use Rattle.sch_model.specs.declared.fault.SchemaError.{SchemaError}
 use Rattle.sch_model.specs.declared.fault.SchemaError.TheVariants as error
-use Rattle.edit_script.specs.declared.fault.ScriptError.{ScriptError}
-use Rattle.edit_script.specs.declared.fault.ScriptError.TheVariants as script
 use Rattle.edit_session.specs.declared.state.ReportError.{ReportError}
 use Rattle.edit_session.specs.declared.state.ReportError.TheVariants as report
 use Rattle.edit_session.specs.declared.state.Shown.{Shown}
-use Rattle.sch_cli.specs.declared.stop.Stop.{Stop}
-use Rattle.sch_cli.specs.declared.stop.Stop.TheVariants.{Usage, SchemaRefused, DocumentRefused, ScriptRefused, Missing, ReadFault, WriteFault, Memory}
-use Rattle.sch_cli.specs.declared.refusal.FileRefusal.TheVariants as refusal
-use Rattle.sch_cli.specs.declared.refusal.SchemaRefusal.TheVariants as schema
-use Rattle.sch_cli.specs.declared.refusal.ScriptRefusal.TheVariants as refused
+use Rattle.sch_stops.specs.declared.stop.Stop.{Stop}
+use Rattle.sch_stops.specs.declared.stop.Stop.TheVariants.{Usage, SchemaRefused, DocumentRefused, ScriptRefused, Missing, ReadFault, WriteFault, Memory}
+use Rattle.sch_stops.specs.declared.refusal.FileRefusal.TheVariants as refusal
+use Rattle.sch_stops.specs.declared.refusal.SchemaRefusal.TheVariants as schema
 use Rattle.sch_words.specs.declared.status.Status.{Status}
 use Rattle.sch_words.specs.declared.status.Status.TheVariants as status
 use Rattle.sch_words.specs.Commands.{command_of}
-use Rattle.sch_cli.specs.Refusals.{document_refused_line, file_in, schema_refused_line, script_refused_line}
-use Rattle.sch_cli.specs.Output.{Output, stopped, line_shown, status_shown, usage_line, missing_line, read_fault_line, write_fault_line, memory_line}
+pub use Rattle.sch_stops.specs.Stops.{ByCause, line_of, name_in, of_script, status_of, stopped_by}
+use Rattle.sch_cli.specs.Output.{Output, stopped, line_shown, status_shown, missing_line}
 use Rattle.sch_cli.specs.CommandOutput.{AreWritten, ComesTo, IsOpenedFor, IsOutput}
 use Rattle.sch_cli.specs.Stages.{Planning, Then, Treeing, refused_rule}
 use Rattle.sch_cli.specs.Runs.{AppendsFront, Fronted, counted_if, is_status, may_write}
-
--- the status of a stop
-abbrev pub status_of : Stop → Status
-status_of Usage = status.Usage
-status_of (SchemaRefused refusal) = status.SchemaRefused
-status_of (DocumentRefused refusal) = status.DocumentRefused
-status_of (ScriptRefused refusal) = status.ScriptRefused
-status_of (Missing name) = status.Missing
-status_of (ReadFault name) = status.ReadFault
-status_of WriteFault = status.WriteFault
-status_of Memory = status.Memory
-
--- the line of a stop
-abbrev pub line_of : Stop → List ℕ
-line_of Usage = usage_line
-line_of (SchemaRefused refusal) = schema_refused_line refusal
-line_of (DocumentRefused refusal) = document_refused_line refusal
-line_of (ScriptRefused refusal) = script_refused_line refusal
-line_of (Missing name) = missing_line name
-line_of (ReadFault name) = read_fault_line name
-line_of WriteFault = write_fault_line
-line_of Memory = memory_line
-
--- the name of a file that a stop tells
-abbrev pub name_in : Stop → Option (List ℕ)
-name_in Usage = None
-name_in (SchemaRefused refusal) = file_in refusal
-name_in (DocumentRefused refusal) = None
-name_in (ScriptRefused refusal) = None
-name_in (Missing name) = Some name
-name_in (ReadFault name) = Some name
-name_in WriteFault = None
-name_in Memory = None
-
--- the output of a run that was stopped
-abbrev pub stopped_by : Stop → Output
-stopped_by stop = stopped (status_of stop) (line_of stop)
-
--- what holds of a stop: one thing of the output where files and words decide it, another of the name of a file that was
--- not read, another of a failed write, another of want of memory
-abbrev pub ByCause : (Output → Type 0) → (List ℕ → Type 0) → Type 0 → Type 0 → Stop → Type 0
-ByCause decided unread unwritten memory Usage = decided (stopped_by Usage)
-ByCause decided unread unwritten memory (SchemaRefused refusal) = decided (stopped_by (SchemaRefused refusal))
-ByCause decided unread unwritten memory (DocumentRefused refusal) = decided (stopped_by (DocumentRefused refusal))
-ByCause decided unread unwritten memory (ScriptRefused refusal) = decided (stopped_by (ScriptRefused refusal))
-ByCause decided unread unwritten memory (Missing name) = decided (stopped_by (Missing name))
-ByCause decided unread unwritten memory (ReadFault name) = unread name
-ByCause decided unread unwritten memory WriteFault = unwritten
-ByCause decided unread unwritten memory Memory = memory
 
 -- whether the result is a stop of the wanted status
 abbrev pub ends_with : {A : Type 0} → Status → Result A Stop → Bool
@@ -167,11 +115,6 @@ pub record IsMissing (files : Files) (name : List ℕ) (output : Output) : Type 
 abbrev pub IsRefusal : Table → SchemaError → Stop → Type 0
 IsRefusal T (error.Fault fault) stop = ByCause (λ output. output ≡ refused_rule T fault) (λ _. ⊥) ⊥ (Unit {0}) stop
 IsRefusal T error.Memory stop = ByCause (λ _. ⊥) (λ _. ⊥) ⊥ (Unit {0}) stop
-
--- the stop of a run whose script gives no command more
-abbrev pub of_script : ScriptError → Stop
-of_script (script.Fault fault) = ScriptRefused (refused.Faulted fault)
-of_script script.Memory = Memory
 
 -- the stop of a run whose state is not written whole
 abbrev pub of_report : ReportError → Stop

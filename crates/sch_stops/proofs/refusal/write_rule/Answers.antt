@@ -1,6 +1,6 @@
 -- The pieces are the text.
-use Rattle.sch_cli.specs.Refusals.{rule_text}
-use Rattle.sch_cli.proofs.refusal.write_rule.Goals as goal
+use Rattle.sch_stops.specs.Refusals.{rule_text}
+use Rattle.sch_stops.proofs.refusal.write_rule.Goals as goal
 
 pub returns : goal.returns
 unfolding rule_text

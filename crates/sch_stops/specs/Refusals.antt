@@ -13,14 +13,14 @@ use Rattle.edit_script.specs.declared.fault.ScriptKind.TheVariants as script
 use Rattle.sch_include.specs.declared.fault.IncludeKind.{IncludeKind}
 use Rattle.sch_include.specs.declared.fault.IncludeKind.TheVariants as include
 use Rattle.sch_model.specs.declared.fault.SchemaFault.{SchemaFault}
-use Rattle.sch_cli.specs.declared.refusal.FileRefusal.{FileRefusal}
-use Rattle.sch_cli.specs.declared.refusal.FileRefusal.TheVariants.{TooLarge, Faulted}
-use Rattle.sch_cli.specs.declared.refusal.DocumentRefusal.{DocumentRefusal}
-use Rattle.sch_cli.specs.declared.refusal.DocumentRefusal.TheVariants as document
-use Rattle.sch_cli.specs.declared.refusal.ScriptRefusal.{ScriptRefusal}
-use Rattle.sch_cli.specs.declared.refusal.ScriptRefusal.TheVariants as refused
-use Rattle.sch_cli.specs.declared.refusal.SchemaRefusal.{SchemaRefusal}
-use Rattle.sch_cli.specs.declared.refusal.SchemaRefusal.TheVariants as schema
+use Rattle.sch_stops.specs.declared.refusal.FileRefusal.{FileRefusal}
+use Rattle.sch_stops.specs.declared.refusal.FileRefusal.TheVariants.{TooLarge, Faulted}
+use Rattle.sch_stops.specs.declared.refusal.DocumentRefusal.{DocumentRefusal}
+use Rattle.sch_stops.specs.declared.refusal.DocumentRefusal.TheVariants as document
+use Rattle.sch_stops.specs.declared.refusal.ScriptRefusal.{ScriptRefusal}
+use Rattle.sch_stops.specs.declared.refusal.ScriptRefusal.TheVariants as refused
+use Rattle.sch_stops.specs.declared.refusal.SchemaRefusal.{SchemaRefusal}
+use Rattle.sch_stops.specs.declared.refusal.SchemaRefusal.TheVariants as schema
 
 -- the names of the kinds of faults of a line
 abbrev pub pyx_words : PyxKind → List ℕ

@@ -3,12 +3,11 @@
 ghost use Rattle.std.specs.Prelude.{◌≡◌, ◌++◌, codes};
 ghost use Rattle.pyx_core.specs.Escapes.{escaped};
 ghost use Rattle.sch_io.specs.Wrote.{Wrote};
-ghost use Rattle.sch_cli.specs.declared.stop.Stop.TheVariants as stops;
-ghost use Rattle.sch_cli.specs.inner.Stops.{line_of, of_report, of_script, status_of};
+ghost use Rattle.sch_stops.specs.declared.stop.Stop.TheVariants as stops;
+ghost use Rattle.sch_stops.specs.Stops.{line_of, of_script, status_of};
 
 use crate::refusal::{DocumentRefusal, SchemaRefusal, ScriptRefusal};
 use edit_script::ScriptError;
-use edit_session::ReportError;
 use pyx_write::write_line_rest;
 use sch_base::Text;
 use sch_io::{Failed, Sink, write_all};
@@ -17,7 +16,7 @@ use std::alloc::AllocError;
 
 /// What stops a run before its output is whole.
 #[derive(Drop)]
-pub(crate) enum Stop {
+pub enum Stop {
     /// The words are not accepted.
     Usage,
     /// The schema is refused.
@@ -52,17 +51,6 @@ impl From<Failed> for Stop {
     }
 }
 
-impl From<ReportError> for Stop {
-    ghost from_gives = { λ error stop. stop ≡ of_report error };
-
-    fn from(error: ReportError) -> Self {
-        match error {
-            ReportError::Failed => Stop::WriteFault,
-            ReportError::Memory => Stop::Memory,
-        }
-    }
-}
-
 impl From<ScriptError> for Stop {
     ghost from_gives = { λ error stop. stop ≡ of_script error };
 
@@ -76,7 +64,7 @@ impl From<ScriptError> for Stop {
 
 impl Stop {
     /// The status of a run that ends so.
-    pub(crate) fn status(&self) -> Status
+    pub fn status(&self) -> Status
         ensures { result ≡ status_of self.now }
     {
         match self {
@@ -92,7 +80,7 @@ impl Stop {
     }
 
     /// Writes its line.
-    pub(crate) fn tell<E: Sink>(&self, err: &mut E) -> Result<(), Failed>
+    pub fn tell<E: Sink>(&self, err: &mut E) -> Result<(), Failed>
         ensures { Wrote (E.log err.old) (E.log err.new) (line_of self.now) result }
     {
         match self {

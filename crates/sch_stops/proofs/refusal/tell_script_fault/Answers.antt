@@ -1,6 +1,6 @@
 -- The pieces are the line.
-use Rattle.sch_cli.specs.Refusals.{script_fault_line}
-use Rattle.sch_cli.proofs.refusal.tell_script_fault.Goals as goal
+use Rattle.sch_stops.specs.Refusals.{script_fault_line}
+use Rattle.sch_stops.proofs.refusal.tell_script_fault.Goals as goal
 
 pub returns : goal.returns
 unfolding script_fault_line

@@ -3,7 +3,7 @@
 ghost use Rattle.std.specs.Prelude.{◌≡◌, ◌++◌, codes};
 ghost use Rattle.pyx_core.specs.Escapes.{escaped};
 ghost use Rattle.sch_io.specs.Wrote.{Wrote};
-ghost use Rattle.sch_cli.specs.Refusals.{kind_words, pyx_words, reason_text, fault_text, rule_text, document_refused_line, include_line, include_text, include_words, schema_refused_line, schema_rule_line, script_fault_line, script_refused_line, script_words};
+ghost use Rattle.sch_stops.specs.Refusals.{kind_words, pyx_words, reason_text, fault_text, rule_text, document_refused_line, include_line, include_text, include_words, schema_refused_line, schema_rule_line, script_fault_line, script_refused_line, script_words};
 
 use edit_script::{ScriptFault, ScriptKind};
 use itoa::Buffer;
@@ -17,7 +17,7 @@ use sch_model::SchemaFault;
 
 /// Why a file is not read as a tree.
 #[derive(Clone, Copy)]
-pub(crate) enum FileRefusal {
+pub enum FileRefusal {
     /// It has more bytes than a file may have.
     TooLarge,
     /// It has this fault first.
@@ -26,7 +26,7 @@ pub(crate) enum FileRefusal {
 
 /// Why a document is refused.
 #[derive(Clone, Copy)]
-pub(crate) enum DocumentRefusal {
+pub enum DocumentRefusal {
     /// It is not read as a tree.
     File(FileRefusal),
     /// It has too many nodes for the active patterns.
@@ -35,7 +35,7 @@ pub(crate) enum DocumentRefusal {
 
 /// Why an edit script is refused.
 #[derive(Clone, Copy)]
-pub(crate) enum ScriptRefusal {
+pub enum ScriptRefusal {
     /// It has more bytes than a script may have.
     TooLarge,
     /// It has this fault first.
@@ -44,7 +44,7 @@ pub(crate) enum ScriptRefusal {
 
 /// Why a schema is refused.
 #[derive(Drop)]
-pub(crate) enum SchemaRefusal {
+pub enum SchemaRefusal {
     /// The file of that name is not read as a tree.
     File { name: Text, refusal: FileRefusal },
     /// An include is refused; with the name of the file, or the `href` where that names none.

@@ -2,15 +2,15 @@
 
 ghost use Rattle.std.specs.Prelude.{◌≡◌};
 ghost use Rattle.sch_io.specs.Wrote.{Wrote};
-ghost use Rattle.sch_cli.specs.Following.{edit_line, refusal_words, refused_line};
+ghost use Rattle.sch_stops.specs.EditLines.{edit_line, refusal_words, refused_line};
 
 use doc_tree::EditRefusal;
 use itoa::Buffer;
 use sch_io::{Failed, Sink, write_pieces};
 
 /// Writes the line in front of the state behind the command with the number.
-#[tactic(auto, unfolding(crate::specs::Following::edit_line))]
-pub(crate) fn write_edit_line<O: Sink>(number: u64, out: &mut O) -> Result<(), Failed>
+#[tactic(auto, unfolding(crate::specs::EditLines::edit_line))]
+pub fn write_edit_line<O: Sink>(number: u64, out: &mut O) -> Result<(), Failed>
     ensures { Wrote (O.log out.old) (O.log out.new) (edit_line number) result }
 {
     let mut buffer = Buffer::new();
@@ -19,8 +19,8 @@ pub(crate) fn write_edit_line<O: Sink>(number: u64, out: &mut O) -> Result<(), F
 }
 
 /// Writes the line of the command with the number, which is refused for the reason.
-#[tactic(auto, unfolding(crate::specs::Following::refused_line))]
-pub(crate) fn write_refused_line<O: Sink>(
+#[tactic(auto, unfolding(crate::specs::EditLines::refused_line))]
+pub fn write_refused_line<O: Sink>(
     number: u64,
     reason: EditRefusal,
     out: &mut O,

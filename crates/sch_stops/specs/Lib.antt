@@ -1,0 +1,5 @@
+pub use Rattle.sch_words.specs.declared.status
+pub mod Output
+pub mod Refusals
+pub mod Stops
+pub mod EditLines

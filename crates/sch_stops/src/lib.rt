@@ -1,0 +1,10 @@
+//! What stops a run before its output is whole, and the lines that tell of it and of the edits of a script.
+#![tactic(auto)]
+
+mod edit_lines;
+mod refusal;
+mod stop;
+
+pub use edit_lines::{write_edit_line, write_refused_line};
+pub use refusal::{DocumentRefusal, FileRefusal, SchemaRefusal, ScriptRefusal};
+pub use stop::Stop;
