@@ -2,12 +2,9 @@
 #![tactic(auto)]
 
 ghost use Rattle.std.specs.Prelude.{◌≡◌, ◌<◌};
-ghost use Rattle.sch_cli.specs.status.Status.TheVariants as statuses;
-ghost use Rattle.sch_cli.specs.Output.{memory_line};
-ghost use Rattle.sch_cli.specs.Runs.{Tells};
 
-use sch_cli::{Status, Words, run};
-use sch_io::{HostShelf, HostSink, Shelf, Sink, write_all};
+use sch_cli::{Status, Words, end_without_words, run};
+use sch_io::{HostShelf, HostSink, Shelf, Sink};
 use std::alloc::{AllocError, Global};
 use std::env::{Env, FillError};
 use std::marker::Brand;
@@ -34,7 +31,7 @@ fn main(rt: HostRuntime) -> ExitCode {
                 Blank::new(1),
             )
         }
-        Err(AllocError) => without_words(&mut err),
+        Err(AllocError) => end_without_words(&mut err),
     };
     ExitCode::from(status.code())
 }
@@ -54,15 +51,6 @@ fn run_counted<S: Shelf, O: Sink, E: Sink, L: Ledger>(
 {
     let mut steps: Steps<L> = Steps::start(blank);
     run(alloc, words, shelf, out, err, &mut steps)
-}
-
-/// Ends a run that has no memory for its words.
-fn without_words<E: Sink>(err: &mut E) -> Status
-    ensures status { result ≡ statuses.Memory }
-    ensures line { Tells (E.log err.old) (E.log err.new) memory_line }
-{
-    let _ = write_all(err, b"sch: out of memory\n");
-    Status::Memory
 }
 
 /// The words behind the program's name; one that is not UTF-8 becomes the empty word.

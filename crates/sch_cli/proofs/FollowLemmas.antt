@@ -21,7 +21,7 @@ use Rattle.edit_script.specs.declared.fault.ScriptKind.{ScriptKind}
 use Rattle.edit_script.specs.declared.limits.TheConstants.{MAX_SCRIPT_BYTES}
 use Rattle.edit_commands.specs.Commands.{IsEdited, command_refusal}
 use Rattle.sch_compiled.specs.declared.plan.Plan.{Plan}
-use Rattle.edit_session.specs.Pairs.{pair_cap_for}
+use Rattle.edit_session.specs.Pairs.{has_too_many_pairs, pair_cap_for}
 use Rattle.edit_session.specs.Standing.{Standing, evaluated_over}
 use Rattle.edit_session.specs.State.{shows, state_text}
 use Rattle.edit_session.specs.declared.state.Shown.{Shown}
@@ -30,13 +30,21 @@ use Rattle.sch_stops.specs.declared.refusal.ScriptRefusal.TheVariants as refusal
 use Rattle.sch_words.specs.declared.status.Status.TheVariants as status
 use Rattle.sch_stops.specs.declared.stop.Stop.{Stop}
 use Rattle.sch_stops.specs.declared.stop.Stop.TheVariants.{ScriptRefused, Memory}
-use Rattle.sch_cli.specs.Following.{Begins, Follows, comes_to_end, edit_line, edited, edits, nothing_yet, refused, refused_line, refuses, stops_at, then_shown, under}
-use Rattle.sch_cli.specs.Output.{Output, ended, in_front}
-use Rattle.sch_cli.specs.Runs.{AppendsFront, Fronted, counted_if}
-use Rattle.sch_cli.specs.Stages.{BeginsStates, States}
-use Rattle.sch_cli.specs.inner.Followers.{Beginning, Ending, Goes, IsLed, IsReady, in_front_of}
-use Rattle.sch_cli.specs.inner.Stops.{Concludes, IsOfWriting, Shows, WroteText, ends_with, of_script, stopped_by}
-use Rattle.sch_cli.proofs.EndLemmas.{by_cause, concludes_behind}
+use Rattle.sch_cli.specs.Following.{Begins, Follows, comes_to_end, edited, edits, nothing_yet, refused, refuses, stops_at, then_shown, under}
+use Rattle.sch_stops.specs.EditLines.{edit_line, refused_line}
+use Rattle.sch_stops.specs.Output.{Output}
+use Rattle.sch_cli.specs.Output.{ended, in_front}
+use Rattle.sch_cli.specs.Runs.{AppendsFront, Fronted}
+use Rattle.sch_stops.specs.Stops.{counted_if, ends_with, of_script, stopped_by}
+use Rattle.sch_cli.specs.Behaviours.{BeginsStates, States, too_many_pairs, tree_under}
+use Rattle.sch_loading.specs.Stages.{Is, goes, halt_if}
+use Rattle.sch_cli.specs.inner.Followers.{Beginning, Ending, Goes, IsLed, IsReady, in_front_of, treed_by}
+use Rattle.sch_loading.specs.Reads.{EndsAs}
+use Rattle.sch_cli.specs.inner.Carried.{Concludes, Shows}
+use Rattle.sch_cli.specs.inner.Writing.{IsOfWriting, WroteText}
+use Rattle.sch_cli.proofs.EndLemmas.{concludes_behind}
+use Rattle.sch_loading.proofs.PartLemmas.{by_cause}
+use Rattle.sch_loading.proofs.SchemaLemmas.{passed}
 
 -- How many commands a script has
 
@@ -263,10 +271,10 @@ come_before earlier later rest command old new place seen come = record { text =
 
 -- one command more was done
 pub come_on : {A : Type 0} (earlier before later : Follower) (old mid new : SinkLog) (value : A) → HasCome earlier before old mid → Goes {A = A} before later mid new (Ok value) → HasCome earlier later old new
-come_on earlier before later old mid new value come goes = record {
-  text = come.text ++ goes.told.0;
-  led = led_on earlier before later come.text goes.told.0 come.led goes.told.1;
-  out = Appends-trans old.written mid.written new.written come.text goes.told.0 come.out goes.told.2;
+come_on earlier before later old mid new value come next = record {
+  text = come.text ++ next.told.0;
+  led = led_on earlier before later come.text next.told.0 come.led next.told.1;
+  out = Appends-trans old.written mid.written new.written come.text next.told.0 come.out next.told.2;
 }
 
 -- the next command, where there is one
@@ -335,20 +343,20 @@ script_faults count error stop result is says = subst (λ (r : Result Shown Stop
 -- what comes of a command is not written whole
 pub command_stops : {A : Type 0} (earlier before later : Follower) (old mid new : SinkLog) → HasCome earlier before old mid → (stop : Stop) (result : Result Shown Stop) → result ≡ Err stop →
     Goes {A = A} before later mid new (Err stop) → Concludes (Ending earlier) (λ _. ⊥) (Beginning earlier) (Appends old.written new.written) result
-command_stops earlier before later old mid new come stop result is goes = subst (Concludes (Ending earlier) (λ _. ⊥) (Beginning earlier) (Appends old.written new.written)) (sym is)
+command_stops earlier before later old mid new come stop result is next = subst (Concludes (Ending earlier) (λ _. ⊥) (Beginning earlier) (Appends old.written new.written)) (sym is)
     (comes_to_conclude earlier before old mid new come (Err stop)
     (by_cause (λ _. ⊥) (λ says. Shows (Ending before) (Appends mid.written new.written) says.ends says.err) (λ _. ⊥) (λ name. ⊥ × Appends mid.written new.written [])
     (Fronted (Beginning before) (Appends mid.written new.written)) (Fronted (Beginning before) (Appends mid.written new.written))
     (Fronted (Beginning before) (Appends mid.written new.written)) (Appends mid.written new.written [] ⊎ Fronted (Beginning before) (Appends mid.written new.written))
-    (λ stop no. absurd no) (λ name no. absurd no) (λ front. front) (λ front. inr front) stop goes.told))
+    (λ stop no. absurd no) (λ name no. absurd no) (λ front. front) (λ front. inr front) stop next.told))
 
 pub goes_writing : {A : Type 0} (before later : Follower) (mid new : SinkLog) (stop : Stop) (result : Result Shown Stop) → result ≡ Err stop → Goes {A = A} before later mid new (Err stop) → IfErr result IsOfWriting
-goes_writing before later mid new stop result is goes = subst (λ (r : Result Shown Stop). IfErr r IsOfWriting) (sym is) goes.writing
+goes_writing before later mid new stop result is next = subst (λ (r : Result Shown Stop). IfErr r IsOfWriting) (sym is) next.writing
 
 pub goes_faults : {A : Type 0} (before later : Follower) (mid new : SinkLog) (count : ℕ) (stop : Stop) (result : Result Shown Stop) → result ≡ Err stop → mid.faults ≡ count → Goes {A = A} before later mid new (Err stop) →
     new.faults ≡ counted_if (ends_with status.WriteFault result) count
-goes_faults before later mid new count stop result is same goes = subst (λ (r : Result Shown Stop). new.faults ≡ counted_if (ends_with status.WriteFault r) count) (sym is)
-    (goes.faults ∙ ap (λ (faults : ℕ). counted_if (ends_with {A = Shown} status.WriteFault (Err stop)) faults) same)
+goes_faults before later mid new count stop result is same next = subst (λ (r : Result Shown Stop). new.faults ≡ counted_if (ends_with status.WriteFault r) count) (sym is)
+    (next.faults ∙ ap (λ (faults : ℕ). counted_if (ends_with {A = Shown} status.WriteFault (Err stop)) faults) same)
 
 -- The first state
 
@@ -388,3 +396,9 @@ first_then plan T bytes old mid new first place seen out = concludes_behind (End
       refl,
     ))
     ([], nothing_yet T 1 (script_of bytes), refl)
+
+-- a document that was opened under a plan
+pub opened_under : (plan : Plan) (tree : Contents) (session : Standing) → session ≡ record { plan = plan; tree = record tree { pair_cap = pair_cap_for plan }; past = None } →
+    has_too_many_pairs plan tree.nodes ≡ false → EndsAs (Is (halt_if (has_too_many_pairs plan tree.nodes) too_many_pairs (tree_under plan tree.nodes)) []) treed_by (Ok session)
+opened_under plan tree session is within =
+    (refl, ap (λ (s : Standing). goes (treed_by s)) is ∙ passed (has_too_many_pairs plan tree.nodes) too_many_pairs (tree_under plan tree.nodes) within)

@@ -1,8 +1,6 @@
-pub mod SchemaLemmas
+pub mod CarryLemmas
 pub mod EndLemmas
 pub mod EventLemmas
-pub mod FileLemmas
-pub mod OpenLemmas
 pub mod FollowLemmas
 pub mod RunLemmas
 pub mod OneOutput

@@ -1,22 +1,35 @@
 -- How what was carried out ends the run.
-use Rattle.std.proofs.Common.{◌≡◌, ◌↔◌, ℕ, true, false, List, [], Option, None, Some, MatchOption, Result, Ok, Err, refl, ap, sym, subst, ◌∙◌}
+use Rattle.std.proofs.Common.{◌≡◌, ◌↔◌, ℕ, inr, true, false, List, [], ◌∷◌, ◌++◌, append_assoc, append-nil, IfOk, Option, None, Some, MatchOption, Result, Ok, Err, refl, ap, sym, subst, ◌∙◌, arith}
 use Rattle.std.proofs.KnownBytes.{Appends-nil}
 use Rattle.sch_io.specs.Files.{Files}
+use Rattle.sch_io.specs.ShelfState.{ShelfState}
 use Rattle.sch_io.specs.SinkLog.{SinkLog}
 use Rattle.sch_io.specs.Wrote.{Appends}
 use Rattle.edit_session.specs.declared.state.Shown.{Shown}
 use Rattle.edit_session.specs.declared.state.Shown.TheVariants as shown
 use Rattle.sch_words.specs.declared.command.Command.{Command as Borrowed}
+use Rattle.sch_words.specs.declared.notice.Notice.{Notice}
 use Rattle.sch_words.specs.declared.status.Status.{Status}
 use Rattle.sch_words.specs.declared.status.Status.TheVariants as status
 use Rattle.sch_stops.specs.declared.stop.Stop.{Stop}
 use Rattle.sch_stops.specs.declared.stop.Stop.TheVariants.{Usage, SchemaRefused, DocumentRefused, ScriptRefused, Missing, ReadFault, WriteFault, Memory}
-use Rattle.sch_words.specs.Commands.{Command, command_of}
+use Rattle.sch_words.specs.Commands.{Command, command_of, tell}
 use Rattle.sch_words.specs.Commands as commands
-use Rattle.sch_cli.specs.Output.{Output, faulted_line}
-use Rattle.sch_cli.specs.CommandOutput.{AreWritten, ComesTo, IsOutput, IsOutputOf}
-use Rattle.sch_cli.specs.Runs.{Decided, Ends, EndsBy, IsLast, IsLineOf, Tells, is_status, may_evaluate, may_write}
-use Rattle.sch_cli.specs.inner.Stops.{Concludes, ConcludesOver, EndsAs, Names, Shows, ends_with, line_of, line_of_end, may_have_written, status_of, status_of_end, stopped_by}
+use Rattle.sch_words.specs.Notices.{notice_text}
+use Rattle.sch_stops.specs.Output.{Output}
+use Rattle.sch_cli.specs.Output.{faulted_line, notice_output}
+use Rattle.sch_cli.specs.Behaviours.{Any, IsEnd, asked_by, behaviour}
+use Rattle.sch_cli.specs.Runs.{Decided, Ends, EndsBy, IsLast, IsLineOf, Tells}
+use Rattle.sch_stops.specs.Stops.{Names, ends_with, is_status, line_of, status_of, stopped_by}
+use Rattle.sch_loading.specs.Stages.{Is, goes, halts, unread}
+use Rattle.sch_cli.specs.inner.Carried.{Carried, Concluded, Concludes, HasStatus, Shows, line_of_end, status_of_end}
+use Rattle.sch_loading.specs.Reads.{IsLastOf}
+use Rattle.sch_cli.specs.inner.Writing.{WroteText}
+use Rattle.sch_cli.proofs.CarryLemmas.{carried}
+use Rattle.sch_cli.proofs.EndLemmas.{text_behind}
+use Rattle.sch_loading.proofs.PartLemmas.{names_in, reads_none}
+use Rattle.sch_loading.proofs.StageLemmas.{halts-first}
+use Rattle.sch_cli.proofs.StepLemmas.{none_counted}
 
 -- the words ask for what the program's own command says
 pub asks : (words : List (List ℕ)) (asked : Option Borrowed) (command : Borrowed) → MatchOption asked (command_of words ≡ None) (λ c. command_of words ≡ Some (commands.shown c)) → asked ≡ Some command →
@@ -27,31 +40,54 @@ pub asks_nothing : (words : List (List ℕ)) (asked : Option Borrowed) → Match
 asks_nothing words asked says is = subst (λ (a : Option Borrowed). MatchOption a (command_of words ≡ None) (λ c. command_of words ≡ Some (commands.shown c))) is says
 
 -- words that are not accepted end the run
-pub carries_nothing : (words : List (List ℕ)) (files : Option Files) (a : Option (List ℕ)) → command_of words ≡ None → ConcludesOver files words (Appends a a) (Err Usage)
-carries_nothing words None a is = tt
-carries_nothing words (Some files) a is =
-    subst (λ (asked : Option Command). Concludes (IsOutputOf asked files) (ComesTo asked files) (AreWritten asked files) (Appends a a) (Err Usage)) (sym is)
-    (record { output = stopped_by Usage; may_be = refl; ends_so = refl; err_is = refl; out = Appends-nil a })
+pub carries_nothing : (words : List (List ℕ)) (state : ShelfState) (log : SinkLog) (count : ℕ) → command_of words ≡ None → Carried (asked_by words) state state log log count count (Err Usage)
+carries_nothing words state log count is = subst (λ (asked : Option Command). Carried (behaviour asked) state state log log count count (Err Usage)) (sym is) (record {
+  held = refl;
+  opened = [];
+  noted = sym (append-nil state.opened);
+  which = ([], [], refl, refl);
+  whole = λ files told. record {
+    output = stopped_by Usage;
+    may_be = inr (halts-first (Is (halts (stopped_by Usage))) (λ written. Any (λ output. output ≡ written)) [] (stopped_by Usage) (refl, refl));
+    ends_so = refl;
+    err_is = refl;
+    out = Appends-nil log.written;
+  };
+  counted = λ files told. tt;
+  faults = refl;
+  misses = refl;
+  write_faults = refl;
+  told = tt;
+  untouched = λ none. refl;
+  unevaluated = λ none. refl;
+  rises = omega arith;
+})
 
 -- how the command ends is how the run ends
-pub carries : (words : List (List ℕ)) (files : Option Files) (command : Command) (written : List ℕ → Type 0) (result : Result Shown Stop) → command_of words ≡ Some command →
-    ((held : Files) → files ≡ Some held → Concludes (IsOutputOf (Some command) held) (ComesTo (Some command) held) (AreWritten (Some command) held) written result) → ConcludesOver files words written result
-carries words None command written result is ends = tt
-carries words (Some files) command written result is ends =
-    subst (λ (asked : Option Command). Concludes (IsOutputOf asked files) (ComesTo asked files) (AreWritten asked files) written result) (sym is) (ends files refl)
+pub carries : (words : List (List ℕ)) (command : Command) (old new : ShelfState) (log later : SinkLog) (before after : ℕ) (result : Result Shown Stop) → command_of words ≡ Some command →
+    Carried (behaviour (Some command)) old new log later before after result → Carried (asked_by words) old new log later before after result
+carries words command old new log later before after result is = subst (λ (asked : Option Command). Carried (behaviour asked) old new log later before after result) (sym is)
+
+-- what a notice says is written
+pub carries_notice : (notice : Notice) (state : ShelfState) (old new : SinkLog) (count : ℕ) (result : Result Shown Stop) → WroteText old new (notice_text notice) result → IfOk result (λ last. last ≡ shown.Clean) →
+    Carried (behaviour (Some (tell notice))) state state old new count count result
+carries_notice notice state old new count result wrote shows =
+    carried [] (λ files. Is (goes (notice_output notice))) (λ (none : Unit {0}). notice_output notice) (λ written output. output ≡ written) (λ written text. text ≡ written.out) (λ written cost. cost ≡ 0) false
+    state state old new count count tt result (reads_none state (λ files. Is (goes (notice_output notice))) (λ (none : Unit {0}). notice_output notice) tt (λ files. (refl, refl)))
+    (text_behind (λ written output. output ≡ written) (λ written text. text ≡ written.out) (notice_output notice) old new (notice_text notice) shown.Clean refl refl result wrote shows
+    (λ written cost. cost ≡ 0) false count count (none_counted count result) (λ idle. refl) (omega arith))
 
 -- the status of a run is that of its end
-pub ends_same : (result : Result Shown Stop) → EndsAs (status_of_end result) result
+pub ends_same : (result : Result Shown Stop) → HasStatus (status_of_end result) result
 ends_same (Ok shown.Clean) = record { is = refl; missing = refl; read_fault = refl; write_fault = refl; writes = refl }
 ends_same (Ok shown.Findings) = record { is = refl; missing = refl; read_fault = refl; write_fault = refl; writes = refl }
 ends_same (Ok shown.Fault) = record { is = refl; missing = refl; read_fault = refl; write_fault = refl; writes = refl }
 ends_same (Err stop) = record { is = refl; missing = refl; read_fault = refl; write_fault = refl; writes = refl }
 
--- what may not have written did not evaluate
-pub evaluates_asked : (asked : Option Command) (command : Command) (result : Result Shown Stop) → ((ends : Status) → may_evaluate (Some command) ends ≡ may_write ends) → asked ≡ Some command →
-    may_evaluate asked (status_of_end result) ≡ false → may_have_written result ≡ false
-evaluates_asked asked command result evaluates is ends =
-    sym (ends_same result).writes ∙ sym (evaluates (status_of_end result)) ∙ sym (ap (λ (c : Option Command). may_evaluate c (status_of_end result)) is) ∙ ends
+-- the file that was opened last is the last one of the shelf
+pub last_named : {A : Type 0} (old new opened : List (List ℕ)) (result : Result A Stop) → new ≡ old ++ opened → Names (IsLastOf opened) result → Names (λ name. IsLast name old new) result
+last_named old new opened result noted = names_in (IsLastOf opened) (λ name. IsLast name old new)
+    (λ name last. (last.0, noted ∙ ap (λ (names : List (List ℕ)). old ++ names) last.1 ∙ sym (append_assoc old last.0 (name ∷ [])))) result
 
 -- the line of an end is that of its status
 line_of_stop : (old new : List (List ℕ)) (result : Result Shown Stop) → Names (λ name. IsLast name old new) result → IsLineOf old new (status_of_end result) (line_of_end result)
@@ -83,8 +119,8 @@ pub accepted : (asked : Option Command) (command : Command) (result : Result Sho
     (status_of_end result ≡ status.Usage) ↔ (asked ≡ None)
 accepted asked command result is differs = (λ ends. absurd (not_usage result differs ends), λ none. absurd (let clash : Some command ≡ None = sym is ∙ none in cc))
 
-pub ends_by : (ends : Status) (result : Result Shown Stop) → ends ≡ status_of_end result → EndsAs ends result
-ends_by ends result is = subst (λ (status : Status). EndsAs status result) (sym is) (ends_same result)
+pub ends_by : (ends : Status) (result : Result Shown Stop) → ends ≡ status_of_end result → HasStatus ends result
+ends_by ends result is = subst (λ (status : Status). HasStatus status result) (sym is) (ends_same result)
 
 -- an output that was shown is one that is decided
 decided : (is_output : Output → Type 0) (written told : List ℕ → Type 0) (ends : Status) (line : List ℕ) → Shows is_output written ends line → told line → Decided is_output written told ends
@@ -107,9 +143,13 @@ ends_as is_output comes_to comes_to_write written told (Err WriteFault) ends tel
 ends_as is_output comes_to comes_to_write written told (Err Memory) ends tells = (ends, tells)
 
 -- the same over a shelf that tells its files
-pub run_ends : (words : List (List ℕ)) (files : Option Files) (a b : Option (List ℕ)) (c d : SinkLog) (status : Status) (result : Result Shown Stop) →
-    status ≡ status_of_end result → Tells c d (line_of_end result) → ConcludesOver files words (Appends a b) result → Ends files words (Appends a b) (Tells c d) status
-run_ends words None a b c d status result is tells ends = tt
-run_ends words (Some files) a b c d status result is tells ends =
-    subst (EndsBy (IsOutput words files) (ComesTo (command_of words) files) (AreWritten (command_of words) files) (Appends a b) (Tells c d)) (sym is)
-    (ends_as (IsOutput words files) (ComesTo (command_of words) files) (AreWritten (command_of words) files) (Appends a b) (Tells c d) result ends tells)
+pub run_ends : (words : List (List ℕ)) (files : Option Files) (opens : List (List ℕ) → Type 0) (opened : List (List ℕ)) (a b : Option (List ℕ)) (c d : SinkLog) (status : Status) (result : Result Shown Stop) →
+    status ≡ status_of_end result → Tells c d (line_of_end result) → opens opened →
+    ((held : Files) → files ≡ Some held → Concluded (asked_by words) held opened (Appends a b) result) → Ends files words opens (Appends a b) (Tells c d) status
+run_ends words None opens opened a b c d status result is tells these ends = tt
+run_ends words (Some files) opens opened a b c d status result is tells these ends = record {
+  opened = opened;
+  opens_these = these;
+  ends = subst (EndsBy (IsEnd ((asked_by words).ends files) opened) (λ name. (asked_by words).ends files opened (unread name)) (λ text. (asked_by words).begins files opened (goes text)) (Appends a b) (Tells c d)) (sym is)
+      (ends_as (IsEnd ((asked_by words).ends files) opened) (λ name. (asked_by words).ends files opened (unread name)) (λ text. (asked_by words).begins files opened (goes text)) (Appends a b) (Tells c d) result (ends files refl) tells);
+}

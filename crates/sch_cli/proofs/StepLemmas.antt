@@ -24,15 +24,16 @@ use Rattle.sch_words.specs.declared.status.Status.{Status}
 use Rattle.sch_words.specs.declared.status.Status.TheVariants as status
 use Rattle.sch_stops.specs.declared.stop.Stop.{Stop}
 use Rattle.sch_stops.specs.declared.stop.Stop.TheVariants.{Usage, SchemaRefused, DocumentRefused, ScriptRefused, Missing, ReadFault, WriteFault, Memory}
-use Rattle.sch_words.specs.Commands.{Command, command_of}
-use Rattle.sch_cli.specs.CommandOutput.{Treed}
+use Rattle.sch_cli.specs.Behaviours.{StatesCost, asked_by}
 use Rattle.sch_cli.specs.Following.{then_shown}
-use Rattle.sch_cli.specs.Runs.{AppendsFront, Fronted}
-use Rattle.sch_cli.specs.Stages.{Scripting}
-use Rattle.sch_cli.specs.Steps.{Costs, CountsBy, CountsOver, EditsCost, FollowingCosts, ValidationCosts, at_a_fault, at_the_end, edit_cost, first_cost, of_edited, of_refused}
-use Rattle.sch_cli.specs.inner.Counts.{CostOn, CountsAlong, CountsOn, IsCosted, RoseFor, StatesCost, next_cost}
+use Rattle.sch_cli.specs.Runs.{AppendsFront, Costs, CountsOver, Fronted}
+use Rattle.sch_cli.specs.Steps.{CountsBy, EditsCost, at_a_fault, at_the_end, edit_cost, first_cost, of_edited, of_refused}
+use Rattle.sch_cli.specs.inner.Carried.{Visits, status_of_end}
+use Rattle.sch_cli.specs.inner.Counts.{CostOn, CountsAlong, CountsOn, IsCosted, RoseFor, next_cost}
 use Rattle.sch_cli.specs.inner.Followers.{Beginning, Goes, in_front_of}
-use Rattle.sch_cli.specs.inner.Stops.{ByCause, WroteText, of_script, status_of_end}
+use Rattle.sch_stops.specs.Stops.{ByCause, of_script}
+use Rattle.sch_cli.specs.inner.Writing.{WroteText}
+use Rattle.sch_cli.proofs.CarryLemmas.{counts_in}
 use Rattle.sch_cli.proofs.FollowLemmas.{next_command, refusal_under}
 
 -- Faults among what is shown
@@ -222,7 +223,7 @@ along_as A B before after (Err WriteFault) gives counts = tt
 along_as A B before after (Err Memory) gives counts = tt
 
 -- by the status of the run
-along_by : (costs : ℕ → Type 0) (before after : ℕ) (result : Result Shown Stop) → CountsAlong costs before after result → CountsBy costs (status_of_end result) before after
+pub along_by : (costs : ℕ → Type 0) (before after : ℕ) (result : Result Shown Stop) → CountsAlong costs before after result → CountsBy costs (status_of_end result) before after
 along_by costs before after (Ok Clean) counts = (counts.0, counts.1, counts.2.exactly (no_fault Clean refl))
 along_by costs before after (Ok Findings) counts = (counts.0, counts.1, counts.2.exactly (no_fault Findings refl))
 along_by costs before after (Ok Fault) counts = (counts.0, counts.1, counts.2.at_most)
@@ -246,21 +247,19 @@ still costs count (ReadFault name) = tt
 still costs count WriteFault = tt
 still costs count Memory = tt
 
-pub still_counts : (costs : ℕ → Type 0) (count : ℕ) (result : Result Shown Stop) (stop : Stop) → result ≡ Err stop → CountsBy costs (status_of_end result) count count
-still_counts costs count result stop is = subst (λ (r : Result Shown Stop). CountsBy costs (status_of_end r) count count) (sym is) (still costs count stop)
-
 -- nothing was evaluated before the first report
 first_is : (session : Standing) → session.past ≡ None → next_cost session ≡ first_cost session.plan session.tree.nodes
 first_is session none = ap (λ (p : Option Past). cost_of session.plan session.tree.nodes (units_to_run session.plan (since_of p) session.tree.nodes)) none
 
-pub validation_counts : (files : Files) (phase schema document : List ℕ) (session : Standing) (text : List ℕ) (old new : SinkLog) (before after : ℕ) (result : Result Shown Stop) →
-    Treed files phase schema document session.plan session.tree.nodes → session.past ≡ None → IfOk result (RoseFor (next_cost session) before after) → WroteText old new text result →
-    CountsBy (ValidationCosts files phase schema document) (status_of_end result) before after
-validation_counts files phase schema document session text old new before after result treed none rose wrote = along_by (ValidationCosts files phase schema document) before after result (by result rose wrote)
+-- the first state costs the visits of all units
+pub state_counts : (session : Standing) (text : List ℕ) (old new : SinkLog) (before after : ℕ) (result : Result Shown Stop) → session.past ≡ None →
+    IfOk result (RoseFor (next_cost session) before after) → WroteText old new text result → CountsBy (λ cost. cost ≡ first_cost session.plan session.tree.nodes) (status_of_end result) before after
+state_counts session text old new before after result none rose wrote = along_by (λ cost. cost ≡ first_cost session.plan session.tree.nodes) before after result (by result rose wrote)
   where
-    by : (result : Result Shown Stop) → IfOk result (RoseFor (next_cost session) before after) → WroteText old new text result → CountsAlong (ValidationCosts files phase schema document) before after result
-    by (Ok seen) rose wrote = (next_cost session, record { plan = session.plan; tree = session.tree.nodes; treed = treed; costs = first_is session none }, rose)
-    by (Err stop) rose wrote = unsaid (λ _. ⊥) (AppendsFront old.written new.written text) (AppendsFront old.written new.written text) (ValidationCosts files phase schema document) before after stop wrote.told
+    by : (result : Result Shown Stop) → IfOk result (RoseFor (next_cost session) before after) → WroteText old new text result → CountsAlong (λ cost. cost ≡ first_cost session.plan session.tree.nodes) before after result
+    by (Ok seen) rose wrote = (next_cost session, first_is session none, rose)
+    by (Err stop) rose wrote =
+        unsaid (λ _. ⊥) (AppendsFront old.written new.written text) (AppendsFront old.written new.written text) (λ cost. cost ≡ first_cost session.plan session.tree.nodes) before after stop wrote.told
 
 -- the first state of a script that is not written whole
 pub first_unsaid : (plan : Plan) (T : Table) (bytes text : List ℕ) (old new : SinkLog) (before after : ℕ) (stop : Stop) (result : Result Shown Stop) → result ≡ Err stop →
@@ -280,41 +279,18 @@ states_count session bytes first before mid after result none plans trees script
     ))
     (counts (next_cost session) before rose)
 
-pub following_counts : (files : Files) (phase schema document script : List ℕ) (plan : Plan) (T : Table) (bytes : List ℕ) (before after : ℕ) (result : Result Shown Stop) →
-    Treed files phase schema document plan T → Scripting files script (Ok bytes) → CountsAlong (StatesCost plan T bytes) before after result →
-    CountsBy (FollowingCosts files phase schema document script) (status_of_end result) before after
-following_counts files phase schema document script plan T bytes before after result treed read counts =
-    along_by (FollowingCosts files phase schema document script) before after result
-    (along_as (StatesCost plan T bytes) (FollowingCosts files phase schema document script) before after result
-    (λ cost costs. record { plan = plan; tree = T; treed = treed; bytes = bytes; read = read; later = costs.0; edits = costs.1; costs = costs.2 }) counts)
-
 -- The words
 
 -- what makes no visits counts none
-none_counted : (costs : ℕ → Type 0) (count : ℕ) (result : Result Shown Stop) → costs 0 → CountsBy costs (status_of_end result) count count
-none_counted costs count (Ok Clean) none = (0, none, omega arith)
-none_counted costs count (Ok Findings) none = (0, none, omega arith)
-none_counted costs count (Ok Fault) none = (0, none, omega arith)
-none_counted costs count (Err stop) none = still costs count stop
+pub none_counted : (count : ℕ) (result : Result Shown Stop) → CountsBy (λ cost. cost ≡ 0) (status_of_end result) count count
+none_counted count (Ok Clean) = (0, refl, omega arith)
+none_counted count (Ok Findings) = (0, refl, omega arith)
+none_counted count (Ok Fault) = (0, refl, omega arith)
+none_counted count (Err stop) = still (λ cost. cost ≡ 0) count stop
 
--- words that are not accepted count nothing
-pub no_counts : (words : List (List ℕ)) (files : Option Files) (before after : ℕ) → CountsOver files words status.Usage before after
-no_counts words None before after = tt
-no_counts words (Some files) before after = tt
-
--- what the command counts is what the run counts
-pub carries_counts : (words : List (List ℕ)) (files : Option Files) (command : Command) (ends : Status) (before after : ℕ) → command_of words ≡ Some command →
-    ((held : Files) → files ≡ Some held → CountsBy (Costs (Some command) held) ends before after) → CountsOver files words ends before after
-carries_counts words None command ends before after is counts = tt
-carries_counts words (Some files) command ends before after is counts =
-    subst (λ (asked : Option Command). CountsBy (Costs asked files) ends before after) (sym is) (counts files refl)
-
-pub carries_none : (words : List (List ℕ)) (files : Option Files) (command : Command) (count : ℕ) (result : Result Shown Stop) → command_of words ≡ Some command →
-    ((held : Files) → Costs (Some command) held 0) → CountsOver files words (status_of_end result) count count
-carries_none words files command count result is none =
-    carries_counts words files command (status_of_end result) count count is (λ held same. none_counted (Costs (Some command) held) count result (none held))
-
--- the status of the run
-pub run_counts : (words : List (List ℕ)) (files : Option Files) (ends : Status) (result : Result Shown Stop) (before after : ℕ) → ends ≡ status_of_end result →
-    CountsOver files words (status_of_end result) before after → CountsOver files words ends before after
-run_counts words files ends result before after is = subst (λ (s : Status). CountsOver files words s before after) (sym is)
+-- what a run counts by the files that it opened is what it counts
+pub run_counts : (words : List (List ℕ)) (files : Option Files) (opened : List (List ℕ)) (ends : Status) (result : Result Shown Stop) (before after : ℕ) → ends ≡ status_of_end result →
+    ((held : Files) → files ≡ Some held → CountsBy (Visits (asked_by words) held opened) (status_of_end result) before after) → CountsOver files words ends before after
+run_counts words None opened ends result before after is counts = tt
+run_counts words (Some files) opened ends result before after is counts = subst (λ (s : Status). CountsBy (Costs words files) s before after) (sym is)
+    (counts_in (Visits (asked_by words) files opened) (Costs words files) (λ cost so. (opened, so)) (status_of_end result) before after (counts files refl))

@@ -1,8 +1,8 @@
 -- There is one output of a run.
 use Rattle.std.specs.Prelude.{◌≡◌, ℕ, List}
 use Rattle.sch_io.specs.Files.{Files}
-use Rattle.sch_cli.specs.Output.{Output}
-use Rattle.sch_cli.specs.CommandOutput.{IsOutput}
+use Rattle.sch_stops.specs.Output.{Output}
+use Rattle.sch_cli.specs.Behaviours.{IsOutput}
 
 -- the words and the files decide the output
 abbrev pub OneOutput : Type 0

@@ -1,5 +1,5 @@
 -- What `run` promises of its outside, for each status.
-use Rattle.std.specs.Prelude.{◌≡◌, ℕ, ◌⊎◌, ◌==◌, Bool, true, false, List, [], ◌∷◌, ◌++◌, Option, None, Some, IfSome, Result, if◌then◌else◌}
+use Rattle.std.specs.Prelude.{◌≡◌, ℕ, ◌⊎◌, ◌==◌, ◌&&◌, Bool, true, false, List, [], ◌∷◌, ◌++◌, Option, None, Some, IfSome, Result, if◌then◌else◌}
 use Rattle.sch_io.specs.Counts.{one_more}
 use Rattle.sch_io.specs.Files.{Files}
 use Rattle.sch_io.specs.SinkLog.{SinkLog}
@@ -12,9 +12,12 @@ use Rattle.sch_stops.specs.declared.refusal.DocumentRefusal.{DocumentRefusal}
 use Rattle.sch_stops.specs.declared.refusal.SchemaRefusal.{SchemaRefusal}
 use Rattle.sch_stops.specs.declared.refusal.ScriptRefusal.{ScriptRefusal}
 use Rattle.sch_stops.specs.Refusals.{document_refused_line, file_in, schema_refused_line, script_refused_line}
-use Rattle.sch_words.specs.Commands.{Command, tell, expand, validate, follow, command_of}
-use Rattle.sch_cli.specs.Output.{Output, usage_line, faulted_line, missing_line, read_fault_line, write_fault_line, memory_line}
-use Rattle.sch_cli.specs.CommandOutput.{AreWritten, ComesTo, IsOpenedBy, IsOutput, Opens}
+use Rattle.sch_stops.specs.Output.{Output, usage_line, missing_line, read_fault_line, write_fault_line, memory_line}
+use Rattle.sch_cli.specs.Output.{faulted_line}
+use Rattle.sch_loading.specs.Stages.{goes, unread}
+use Rattle.sch_cli.specs.Steps.{CountsBy}
+use Rattle.sch_cli.specs.Behaviours.{Behaviour, IsEnd, asked_by}
+use Rattle.sch_loading.specs.Reads.{Named, Opens}
 
 -- a front of the text was appended
 abbrev pub AppendsFront : Option (List ℕ) → Option (List ℕ) → List ℕ → Type 0
@@ -25,22 +28,10 @@ abbrev pub Tells : SinkLog → SinkLog → List ℕ → Type 0
 Tells old new line = (result : Result (Unit {0}) Failed) × Wrote old new line result
 
 -- files were opened, those that the command opens
-pub record OpensFiles (command : Option Command) (old new : List (List ℕ)) : Type 0 where
+pub record OpensFiles (named : List Named) (old new : List (List ℕ)) : Type 0 where
   pub opened : List (List ℕ)
   pub noted : new ≡ old ++ opened
-  pub which : Opens command opened
-
--- over a shelf that tells its files these decide which are opened for a schema, and whether the document and the script may be;
--- memory may run out before
-pub record OpensDecided (command : Option Command) (files : Files) (old new : List (List ℕ)) : Type 0 where
-  pub opened : List (List ℕ)
-  pub noted : new ≡ old ++ opened
-  pub which : IsOpenedBy command files opened
-
-abbrev pub OpensOver : Option Files → Option Command → List (List ℕ) → List (List ℕ) → Status → Type 0
-OpensOver files command old new Memory = Unit {0}
-OpensOver None command old new status = Unit {0}
-OpensOver (Some files) command old new status = OpensDecided command files old new
+  pub which : Opens named opened
 
 -- the file of that name was opened last, and in this run
 abbrev pub IsLast : List ℕ → List (List ℕ) → List (List ℕ) → Type 0
@@ -73,23 +64,31 @@ pub record Unread (comes_to : List ℕ → Type 0) (written told : List ℕ → 
 -- what a status says of the bytes on the output and the line on the error output, by the outputs that may be, the files to
 -- which the run comes, and the texts that it comes to write
 abbrev pub EndsBy : (Output → Type 0) → (List ℕ → Type 0) → (List ℕ → Type 0) → (List ℕ → Type 0) → (List ℕ → Type 0) → Status → Type 0
-EndsBy is_output comes_to comes_to_write written told Clean = Decided is_output written told Clean
-EndsBy is_output comes_to comes_to_write written told Findings = Decided is_output written told Findings
-EndsBy is_output comes_to comes_to_write written told Usage = Decided is_output written told Usage
-EndsBy is_output comes_to comes_to_write written told SchemaRefused = Decided is_output written told SchemaRefused
-EndsBy is_output comes_to comes_to_write written told DocumentRefused = Decided is_output written told DocumentRefused
-EndsBy is_output comes_to comes_to_write written told ScriptRefused = Decided is_output written told ScriptRefused
-EndsBy is_output comes_to comes_to_write written told Faulted = Decided is_output written told Faulted
-EndsBy is_output comes_to comes_to_write written told Missing = Decided is_output written told Missing
 EndsBy is_output comes_to comes_to_write written told ReadFault = Unread comes_to written told
 EndsBy is_output comes_to comes_to_write written told WriteFault = Fronted comes_to_write written × told write_fault_line
 EndsBy is_output comes_to comes_to_write written told Memory = (written [] ⊎ Fronted comes_to_write written) × told memory_line
+EndsBy is_output comes_to comes_to_write written told status = Decided is_output written told status
+
+-- what was asked for ends so, and the files that were opened are those of its stages, up to the one where it ends
+pub record EndsAsked (asked : Behaviour) (files : Files) (opens : List (List ℕ) → Type 0) (written told : List ℕ → Type 0) (status : Status) : Type 0 where
+  pub opened : List (List ℕ)
+  pub opens_these : opens opened
+  pub ends : EndsBy (IsEnd (asked.ends files) opened) (λ name. asked.ends files opened (unread name)) (λ text. asked.begins files opened (goes text))
+      written told status
 
 -- the same over a shelf that tells its files; one that tells none decides nothing
-abbrev pub Ends : Option Files → List (List ℕ) → (List ℕ → Type 0) → (List ℕ → Type 0) → Status → Type 0
-Ends None words written told status = Unit {0}
-Ends (Some files) words written told status =
-    EndsBy (IsOutput words files) (ComesTo (command_of words) files) (AreWritten (command_of words) files) written told status
+abbrev pub Ends : Option Files → List (List ℕ) → (List (List ℕ) → Type 0) → (List ℕ → Type 0) → (List ℕ → Type 0) → Status → Type 0
+Ends None words opens written told status = Unit {0}
+Ends (Some files) words opens written told status = EndsAsked (asked_by words) files opens written told status
+
+-- the visits of what the words ask for
+abbrev pub Costs : List (List ℕ) → Files → ℕ → Type 0
+Costs words files cost = (opened : List (List ℕ)) × (asked_by words).costs files opened (goes cost)
+
+-- what a status says of the count of steps, over a shelf that tells its files; one that tells none decides no visits
+abbrev pub CountsOver : Option Files → List (List ℕ) → Status → ℕ → ℕ → Type 0
+CountsOver None words status before after = Unit {0}
+CountsOver (Some files) words status before after = CountsBy (Costs words files) status before after
 
 -- the line of a status; the file that it names is the one that was opened last
 abbrev pub IsLineOf : List (List ℕ) → List (List ℕ) → Status → List ℕ → Type 0
@@ -106,32 +105,15 @@ IsLineOf old new ReadFault line = (name : List ℕ) × IsLast name old new × (l
 IsLineOf old new WriteFault line = line ≡ write_fault_line
 IsLineOf old new Memory line = line ≡ memory_line
 
--- whether a run ends with the wanted status
-abbrev pub is_status : Status → Status → Bool
-is_status wanted status = code_of status == code_of wanted
-
--- a count that rises by one where a run ends so, and else stays
-abbrev pub counted_if : Bool → ℕ → ℕ
-counted_if so before = if so then one_more before else before
-
 -- a run that ends so may have written to the output
 abbrev pub may_write : Status → Bool
-may_write Clean = true
-may_write Findings = true
 may_write Usage = false
 may_write SchemaRefused = false
 may_write DocumentRefused = false
-may_write ScriptRefused = true
-may_write Faulted = true
 may_write Missing = false
 may_write ReadFault = false
-may_write WriteFault = true
-may_write Memory = true
+may_write status = true
 
--- whether a run of a command that ends so may have evaluated: notices and expansions never do
-abbrev pub may_evaluate : Option Command → Status → Bool
-may_evaluate None status = false
-may_evaluate (Some (tell notice)) status = false
-may_evaluate (Some (expand schema)) status = false
-may_evaluate (Some (validate phase schema document)) status = may_write status
-may_evaluate (Some (follow phase schema document script)) status = may_write status
+-- and may have evaluated, where it was asked for evaluations
+abbrev pub may_evaluate : List (List ℕ) → Status → Bool
+may_evaluate words status = (asked_by words).evaluates && may_write status

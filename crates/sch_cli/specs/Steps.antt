@@ -1,10 +1,9 @@
 -- What a run counts: the visits of the evaluation of all units for its first state, and for each accepted edit those of the units that
 -- are new, or whose reads the edit touched.
-use Rattle.std.specs.Prelude.{◌≡◌, ◌⊎◌, ℕ, ◌+◌, ◌≤◌, List, Option, None, Some, Ok}
-use Rattle.sch_io.specs.Files.{Files}
+use Rattle.std.specs.Prelude.{◌≡◌, ◌⊎◌, ℕ, ◌+◌, ◌≤◌, Option, None, Some}
 use Rattle.doc_tree.specs.Table.{Table}
 use Rattle.doc_tree.specs.declared.refusal.EditRefusal.{EditRefusal}
-use Rattle.edit_script.specs.Script.{Script, nothing, onto, script_of, stops}
+use Rattle.edit_script.specs.Script.{Script, nothing, onto, stops}
 use Rattle.edit_script.specs.declared.command.Command.{Command as Edit}
 use Rattle.edit_script.specs.declared.fault.ScriptFault.{ScriptFault}
 use Rattle.edit_commands.specs.Commands.{IsEdited, command_refusal}
@@ -15,10 +14,7 @@ use Rattle.edit_costs.specs.Dirty.{dirty_units}
 use Rattle.edit_costs.specs.Units.{units_of}
 use Rattle.sch_words.specs.declared.status.Status.{Status}
 use Rattle.sch_words.specs.declared.status.Status.TheVariants.{Clean, Findings, ScriptRefused, Faulted}
-use Rattle.sch_words.specs.Commands.{Command, tell, expand, validate, follow, command_of}
-use Rattle.sch_cli.specs.CommandOutput.{Treed}
 use Rattle.sch_cli.specs.Following.{under}
-use Rattle.sch_cli.specs.Stages.{Scripting}
 
 -- the visits for the first state of a document: of all units
 abbrev pub first_cost : Plan → Table → ℕ
@@ -38,32 +34,6 @@ pub data EditsCost (plan : Plan) : Table → Script → ℕ → Type 0 where
       command_refusal (under plan T) command ≡ None → IsEdited T command U → EditsCost plan U rest cost →
       EditsCost plan T (onto command rest) (edit_cost plan T command U + cost)
 
--- the visits of a validation, whose document is a tree under the plan of the schema's phase
-pub record ValidationCosts (files : Files) (phase schema document : List ℕ) (cost : ℕ) : Type 0 where
-  pub plan : Plan
-  pub tree : Table
-  pub treed : Treed files phase schema document plan tree
-  pub costs : cost ≡ first_cost plan tree
-
--- and of the following of a script
-pub record FollowingCosts (files : Files) (phase schema document script : List ℕ) (cost : ℕ) : Type 0 where
-  pub plan : Plan
-  pub tree : Table
-  pub treed : Treed files phase schema document plan tree
-  pub bytes : List ℕ
-  pub read : Scripting files script (Ok bytes)
-  pub later : ℕ
-  pub edits : EditsCost plan tree (script_of bytes) later
-  pub costs : cost ≡ first_cost plan tree + later
-
--- the visits of a command that comes to its states; a notice and an expansion make none
-abbrev pub Costs : Option Command → Files → ℕ → Type 0
-Costs None files cost = cost ≡ 0
-Costs (Some (tell notice)) files cost = cost ≡ 0
-Costs (Some (expand schema)) files cost = cost ≡ 0
-Costs (Some (validate phase schema document)) files cost = ValidationCosts files phase schema document cost
-Costs (Some (follow phase schema document script)) files cost = FollowingCosts files phase schema document script cost
-
 -- the count rose by exactly the visits
 abbrev pub CountsAll : (ℕ → Type 0) → ℕ → ℕ → Type 0
 CountsAll costs before after = (cost : ℕ) × costs cost × (after ≡ before + cost)
@@ -80,8 +50,3 @@ CountsBy costs Findings before after = CountsAll costs before after
 CountsBy costs Faulted before after = CountsAtMost costs before after
 CountsBy costs ScriptRefused before after = (after ≡ before) ⊎ CountsAtMost costs before after
 CountsBy costs status before after = Unit {0}
-
--- the same over a shelf that tells its files; one that tells none decides no visits
-abbrev pub CountsOver : Option Files → List (List ℕ) → Status → ℕ → ℕ → Type 0
-CountsOver None words status before after = Unit {0}
-CountsOver (Some files) words status before after = CountsBy (Costs (command_of words) files) status before after

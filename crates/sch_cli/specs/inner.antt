@@ -1,4 +1,4 @@
+pub mod Writing
+pub mod Carried
 pub mod Followers
-pub mod Shelves
-pub mod Stops
 pub mod Counts

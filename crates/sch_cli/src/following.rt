@@ -1,7 +1,6 @@
 //! A script that is followed: the schema, the document and the script read, then the first state, and what comes of each command.
 
-ghost use Rattle.std.specs.Prelude.{◌≡◌, ◌≤◌, ◌+◌, ◌<◌, ◌^◌, ◌++◌, false, None, Some, Ok, IfErr, IfOk, OnOk, length};
-ghost use Rattle.sch_io.specs.Files.{Files};
+ghost use Rattle.std.specs.Prelude.{◌≡◌, ◌≤◌, ◌+◌, ◌<◌, ◌^◌, ◌++◌, false, [], ◌∷◌, None, Some, IfErr, IfOk, OnOk, length};
 ghost use Rattle.sch_io.specs.Wrote.{Appends};
 ghost use Rattle.edit_script.specs.WellFormed.{WellFormedCommand};
 ghost use Rattle.edit_script.specs.declared.limits.TheConstants.{MAX_SCRIPT_BYTES};
@@ -9,25 +8,25 @@ ghost use Rattle.edit_session.specs.Pairs.{pair_cap_for};
 ghost use Rattle.edit_session.specs.Standing.{evaluated_over};
 ghost use Rattle.edit_session.specs.State.{shows, state_text};
 ghost use Rattle.sch_words.specs.declared.status.Status.TheVariants as statuses;
+ghost use Rattle.sch_cli.specs.Behaviours.{BeginsStates, OpeningAll, States, StatesCost, behaviour};
+ghost use Rattle.sch_loading.specs.Reads.{Reads, file, schema_file};
 ghost use Rattle.sch_words.specs.Commands.{follow};
-ghost use Rattle.sch_cli.specs.CommandOutput.{IsBegun, IsEnd, IsReadAlong};
-ghost use Rattle.sch_cli.specs.Following.{edit_line, refused_line, then_shown};
-ghost use Rattle.sch_cli.specs.Stages.{BeginsStates, Following, States};
-ghost use Rattle.sch_cli.specs.Runs.{counted_if};
-ghost use Rattle.sch_cli.specs.Steps.{CountsBy, FollowingCosts};
-ghost use Rattle.sch_cli.specs.inner.Counts.{CountsAlong, CountsOn, IsCosted, RoseFor, StatesCost, next_cost};
-ghost use Rattle.sch_cli.specs.inner.Followers.{Beginning, Ending, Goes, IsReady, in_front_of};
-ghost use Rattle.sch_cli.specs.inner.Shelves.{ReadsAs};
-ghost use Rattle.sch_cli.specs.inner.Stops.{Concludes, IsOfWriting, WroteText, ends_with, may_have_written, status_of_end};
+ghost use Rattle.sch_stops.specs.EditLines.{edit_line, refused_line};
+ghost use Rattle.sch_cli.specs.Following.{then_shown};
+ghost use Rattle.sch_stops.specs.Stops.{counted_if, ends_with};
+ghost use Rattle.sch_cli.specs.inner.Carried.{Carried, Concludes};
+ghost use Rattle.sch_cli.specs.inner.Counts.{CountsAlong, CountsOn, IsCosted, RoseFor, next_cost};
+ghost use Rattle.sch_cli.specs.inner.Followers.{Beginning, Ending, Goes, IsReady, in_front_of, scripted_by};
+ghost use Rattle.sch_cli.specs.inner.Writing.{IsOfWriting, WroteText};
 
-use crate::loading::read_script;
 use crate::validation::{load_asked, write_state};
 use doc_tree::EditRefusal;
 use edit_commands::ApplyError;
 use edit_script::{Command, ScriptReader};
 use edit_session::{Session, Shown};
 use sch_base::Text;
-use sch_io::{Shelf, Sink};
+use sch_io::{Bytes, Shelf, Sink};
+use sch_loading::read_script;
 use sch_stops::{Stop, write_edit_line, write_refused_line};
 use sch_words::ScriptedValidation;
 use std::alloc::Global;
@@ -43,25 +42,44 @@ pub(crate) fn follow<S: Shelf, O: Sink, L: Ledger>(
     out: &mut O,
     steps: &mut Steps<L>,
 ) -> Result<Shown, Stop>
-    ensures whole { (files : Files) → (S.state shelf.old).files ≡ Some files →
-        Concludes (IsEnd (Following files asked.entry.validation.phase.now asked.entry.validation.schema.now asked.entry.validation.document.now asked.entry.script.now))
-        (IsReadAlong files asked.entry.validation.phase.now asked.entry.validation.schema.now asked.entry.validation.document.now asked.entry.script.now)
-        (IsBegun files asked.entry.validation.phase.now asked.entry.validation.schema.now asked.entry.validation.document.now asked.entry.script.now)
-        (Appends (O.log out.old).written (O.log out.new).written) result }
-    ensures reads { ReadsAs (follow asked.entry.validation.phase.now asked.entry.validation.schema.now asked.entry.validation.document.now asked.entry.script.now)
-        (S.state shelf.old) (S.state shelf.new) result }
-    ensures write_faults { (O.log out.new).faults ≡ counted_if (ends_with statuses.WriteFault result) (O.log out.old).faults }
-    ensures untouched { may_have_written result ≡ false → O.log out.new ≡ O.log out.old }
-    ensures unevaluated { may_have_written result ≡ false → steps.new ≡ steps.old }
-    ensures counted { (files : Files) → (S.state shelf.old).files ≡ Some files →
-        CountsBy (FollowingCosts files asked.entry.validation.phase.now asked.entry.validation.schema.now asked.entry.validation.document.now asked.entry.script.now)
-        (status_of_end result) steps.old steps.new }
-    ensures steps { steps.old ≤ steps.new }
+    ensures carried { Carried (behaviour (Some (follow asked.entry.validation.phase.now asked.entry.validation.schema.now asked.entry.validation.document.now asked.entry.script.now)))
+        (S.state shelf.old) (S.state shelf.new) (O.log out.old) (O.log out.new) steps.old steps.new result }
+    ensures accepted { ends_with statuses.Usage result ≡ false }
+{
+    let Scripted { session, script } = load_scripted(alloc, asked, shelf)?;
+    write_states(alloc, session, script.as_slice(), out, steps)
+}
+
+/// A document under a plan, and the bytes of a script for it.
+#[derive(Drop)]
+struct Scripted {
+    session: Session,
+    script: Bytes,
+}
+
+/// The document and the script that are asked for.
+fn load_scripted<S: Shelf>(
+    alloc: Global,
+    asked: ScriptedValidation<'_>,
+    shelf: &mut S,
+) -> Result<Scripted, Stop>
+    ensures reads { Reads (S.state shelf.old) (S.state shelf.new)
+        (schema_file asked.entry.validation.schema.now ∷ file asked.entry.validation.document.now ∷ file asked.entry.script.now ∷ [])
+        (λ files. OpeningAll files asked.entry.validation.phase.now asked.entry.validation.schema.now asked.entry.validation.document.now asked.entry.script.now)
+        scripted_by result }
+    ensures cap { IfOk result (λ scripted. scripted.session.tree.pair_cap ≡ pair_cap_for scripted.session.plan) }
+    ensures unevaluated { IfOk result (λ scripted. scripted.session.past ≡ None) }
+    ensures short { IfOk result (λ scripted. length scripted.script ≤ MAX_SCRIPT_BYTES) }
 {
     let name = Text::copy(alloc, asked.script.as_str())?;
     let session = load_asked(alloc, asked.validation, shelf)?;
-    let script = read_script(alloc, name, shelf)?;
-    write_states(alloc, session, script.as_slice(), out, steps)
+    match read_script(alloc, name, shelf) {
+        Ok(script) => Ok(Scripted { session, script }),
+        Err(stop) => {
+            drop(session);
+            Err(stop)
+        }
+    }
 }
 
 /// Writes the state of a document, and what comes of each command of a script; answers what the states show.

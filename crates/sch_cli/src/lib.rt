@@ -4,12 +4,10 @@
 mod expansion;
 mod following;
 mod laws;
-mod loading;
 mod notice;
 mod program;
-mod schema;
 mod validation;
 
 pub use laws::one_output;
-pub use program::run;
+pub use program::{end_without_words, run};
 pub use sch_words::{Status, Words};

@@ -3,7 +3,7 @@
 ghost use Rattle.std.specs.Prelude.{◌≡◌, IfOk};
 ghost use Rattle.edit_session.specs.declared.state.Shown.TheVariants as states;
 ghost use Rattle.sch_words.specs.Notices.{notice_text};
-ghost use Rattle.sch_cli.specs.inner.Stops.{WroteText};
+ghost use Rattle.sch_cli.specs.inner.Writing.{WroteText};
 
 use edit_session::Shown;
 use sch_io::{Failed, Sink};

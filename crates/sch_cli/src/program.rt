@@ -1,13 +1,15 @@
 //! The program's one call.
 
-ghost use Rattle.std.specs.Prelude.{◌≡◌, ◌≤◌, ℕ, List, ◌↔◌, None, false};
+ghost use Rattle.std.specs.Prelude.{◌≡◌, ◌≤◌, ◌++◌, ℕ, List, ◌↔◌, None, false};
 ghost use Rattle.sch_io.specs.Wrote.{Appends, Wrote};
 ghost use Rattle.sch_words.specs.declared.status.Status.TheVariants as statuses;
+ghost use Rattle.sch_cli.specs.Behaviours.{asked_by};
 ghost use Rattle.sch_words.specs.Commands.{command_of};
 ghost use Rattle.sch_cli.specs.Headline.{Headline};
-ghost use Rattle.sch_cli.specs.Runs.{Tells, IsLineOf, IsLast, OpensFiles, OpensOver, counted_if, is_status, may_evaluate, may_write};
-ghost use Rattle.sch_cli.specs.Steps.{CountsOver};
-ghost use Rattle.sch_cli.specs.inner.Stops.{ConcludesOver, EndsAs, Names, ends_with, may_have_written, status_of_end, line_of_end};
+ghost use Rattle.sch_stops.specs.Output.{memory_line};
+ghost use Rattle.sch_cli.specs.Runs.{Tells, IsLineOf, OpensFiles, may_evaluate, may_write};
+ghost use Rattle.sch_stops.specs.Stops.{counted_if, is_status};
+ghost use Rattle.sch_cli.specs.inner.Carried.{Carried, HasStatus, line_of_end, status_of_end};
 
 use crate::expansion::expand_schema;
 use crate::following::follow;
@@ -32,15 +34,13 @@ pub fn run<S: Shelf, O: Sink, E: Sink, L: Ledger>(
     err: &mut E,
     steps: &mut Steps<L>,
 ) -> Status
-    ensures headline { Headline (S.state shelf.old).files words.now (Appends (O.log out.old).written (O.log out.new).written)
-        (Tells (E.log err.old) (E.log err.new)) result steps.old steps.new }
+    ensures headline { Headline (S.state shelf.old).files words.now (λ opened. (S.state shelf.new).opened ≡ (S.state shelf.old).opened ++ opened)
+        (Appends (O.log out.old).written (O.log out.new).written) (Tells (E.log err.old) (E.log err.new)) result steps.old steps.new }
     ensures line { (line : List ℕ) × IsLineOf (S.state shelf.old).opened (S.state shelf.new).opened result line
         × Tells (E.log err.old) (E.log err.new) line }
     ensures usage { (result ≡ statuses.Usage) ↔ (command_of words.now ≡ None) }
-    ensures opened { OpensFiles (command_of words.now) (S.state shelf.old).opened (S.state shelf.new).opened }
-    // over a shelf that tells its files these decide which are opened for the schema, that the document is only where its phase has
-    // a plan, and the script only where the document is a tree under it; want of memory may come before
-    ensures decided { OpensOver (S.state shelf.old).files (command_of words.now) (S.state shelf.old).opened (S.state shelf.new).opened result }
+    // whatever the shelf tells, the files that the words name are opened in their order, up to some one
+    ensures opened { OpensFiles (asked_by words.now).named (S.state shelf.old).opened (S.state shelf.new).opened }
     // what the shelf holds stays
     ensures held { (S.state shelf.new).files ≡ (S.state shelf.old).files }
     // a fault of the outside is counted exactly where it is told
@@ -49,10 +49,19 @@ pub fn run<S: Shelf, O: Sink, E: Sink, L: Ledger>(
     ensures write_faults { (O.log out.new).faults ≡ counted_if (is_status statuses.WriteFault result) (O.log out.old).faults }
     // a run that stops before it writes leaves the output as it was, and one that does not evaluate the count of steps
     ensures untouched { may_write result ≡ false → O.log out.new ≡ O.log out.old }
-    ensures unevaluated { may_evaluate (command_of words.now) result ≡ false → steps.new ≡ steps.old }
+    ensures unevaluated { may_evaluate words.now result ≡ false → steps.new ≡ steps.old }
     ensures steps { steps.old ≤ steps.new }
 {
     conclude(carry_out(alloc, words, shelf, out, steps), err)
+}
+
+/// Ends a run that has no memory for its words.
+pub fn end_without_words<E: Sink>(err: &mut E) -> Status
+    ensures status { result ≡ statuses.Memory }
+    ensures line { Tells (E.log err.old) (E.log err.new) memory_line }
+{
+    let _ = write_all(err, b"sch: out of memory\n");
+    Status::Memory
 }
 
 /// Does what the words ask for; answers what was written.
@@ -64,19 +73,8 @@ fn carry_out<S: Shelf, O: Sink, L: Ledger>(
     out: &mut O,
     steps: &mut Steps<L>,
 ) -> Result<Shown, Stop>
-    ensures whole { ConcludesOver (S.state shelf.old).files words.now (Appends (O.log out.old).written (O.log out.new).written) result }
-    ensures named { Names (λ told. IsLast told (S.state shelf.old).opened (S.state shelf.new).opened) result }
+    ensures carried { Carried (asked_by words.now) (S.state shelf.old) (S.state shelf.new) (O.log out.old) (O.log out.new) steps.old steps.new result }
     ensures usage { (status_of_end result ≡ statuses.Usage) ↔ (command_of words.now ≡ None) }
-    ensures opened { OpensFiles (command_of words.now) (S.state shelf.old).opened (S.state shelf.new).opened }
-    ensures decided { OpensOver (S.state shelf.old).files (command_of words.now) (S.state shelf.old).opened (S.state shelf.new).opened (status_of_end result) }
-    ensures held { (S.state shelf.new).files ≡ (S.state shelf.old).files }
-    ensures misses { (S.state shelf.new).misses ≡ counted_if (ends_with statuses.Missing result) (S.state shelf.old).misses }
-    ensures read_faults { (S.state shelf.new).faults ≡ counted_if (ends_with statuses.ReadFault result) (S.state shelf.old).faults }
-    ensures write_faults { (O.log out.new).faults ≡ counted_if (ends_with statuses.WriteFault result) (O.log out.old).faults }
-    ensures untouched { may_have_written result ≡ false → O.log out.new ≡ O.log out.old }
-    ensures unevaluated { may_evaluate (command_of words.now) (status_of_end result) ≡ false → steps.new ≡ steps.old }
-    ensures counted { CountsOver (S.state shelf.old).files words.now (status_of_end result) steps.old steps.new }
-    ensures steps { steps.old ≤ steps.new }
 {
     match command_of(words.as_slice()) {
         None => Err(Stop::Usage),
@@ -90,7 +88,7 @@ fn carry_out<S: Shelf, O: Sink, L: Ledger>(
 /// Tells the line of how a run ended, and says the status.
 #[tactic(auto, using(crate::proofs::RunLemmas::ends_by))]
 fn conclude<E: Sink>(ended: Result<Shown, Stop>, err: &mut E) -> Status
-    ensures ends { EndsAs result ended }
+    ensures ends { HasStatus result ended }
     ensures told { Tells (E.log err.old) (E.log err.new) (line_of_end ended) }
 {
     let status = status_of(&ended);

@@ -1,44 +1,31 @@
 //! A validation: the schema and the document read, then the state of the document by the schema.
 
-ghost use Rattle.std.specs.Prelude.{◌≡◌, ◌≤◌, false, None, Some, Ok, Err, IfOk, OnOk};
-ghost use Rattle.sch_io.specs.Files.{Files};
-ghost use Rattle.sch_io.specs.Wrote.{Appends};
+ghost use Rattle.std.specs.Prelude.{◌≡◌, ◌≤◌, false, [], ◌∷◌, None, Some, IfOk, OnOk};
 ghost use Rattle.sch_compiled.specs.Soundness.{IsSound};
 ghost use Rattle.edit_session.specs.Pairs.{pair_cap_for};
 ghost use Rattle.edit_session.specs.Standing.{evaluated_over};
 ghost use Rattle.edit_session.specs.State.{shows, state_text};
 ghost use Rattle.sch_words.specs.declared.status.Status.TheVariants as statuses;
+ghost use Rattle.sch_cli.specs.Behaviours.{Opening, Treeing, behaviour};
+ghost use Rattle.sch_loading.specs.Reads.{Reads, file, schema_file};
 ghost use Rattle.sch_words.specs.Commands.{validate};
-ghost use Rattle.sch_cli.specs.CommandOutput.{IsEnd, IsReadBy, IsReadFor, IsText, Treed};
-ghost use Rattle.sch_cli.specs.Stages.{Planning, Treeing, Validating};
-ghost use Rattle.sch_cli.specs.Runs.{counted_if};
-ghost use Rattle.sch_cli.specs.Steps.{CountsBy, ValidationCosts};
+ghost use Rattle.sch_loading.specs.Loading.{Planning};
+ghost use Rattle.sch_cli.specs.inner.Carried.{Carried};
 ghost use Rattle.sch_cli.specs.inner.Counts.{RoseFor, next_cost};
-ghost use Rattle.sch_cli.specs.inner.Shelves.{ReadBoth, ReadsAs};
-ghost use Rattle.sch_cli.specs.inner.Stops.{Concludes, Gives, Opening, Reads, ReadsSchema, WroteText, ends_with, may_have_written, of_report, status_of_end};
+ghost use Rattle.sch_cli.specs.inner.Followers.{treed_by};
+ghost use Rattle.sch_cli.specs.inner.Writing.{WroteText, of_report};
+ghost use Rattle.sch_stops.specs.Stops.{ends_with};
 
-use crate::loading::{load_document, load_schema};
-use crate::schema::plan_of;
 use edit_session::{OpenRefusal, ReportError, Session, Shown};
 use sch_base::Text;
 use sch_compiled::Plan;
 use sch_io::{Shelf, Sink};
+use sch_loading::{load_document, load_plan};
 use sch_stops::{DocumentRefusal, Stop};
 use sch_words::Validation;
 use std::alloc::Global;
 use std::sync::ledger::Ledger;
 use xp_outcome::Steps;
-
-/// The plan of a phase of the named schema.
-fn load_plan<S: Shelf>(alloc: Global, name: &Text, phase: &str, shelf: &mut S) -> Result<Plan, Stop>
-    ensures told { (files : Files) → (S.state shelf.old).files ≡ Some files → Gives (λ plan. Planning files phase.now name.now (Ok plan))
-        (λ output. Planning files phase.now name.now (Err output)) (IsReadFor files name.now) result }
-    ensures reads { ReadsSchema (S.state shelf.old) (S.state shelf.new) name.now result }
-    ensures sound { IfOk result IsSound }
-{
-    let tree = load_schema(alloc, name, shelf)?;
-    plan_of(alloc, &tree, phase)
-}
 
 /// The named document, opened under the plan.
 fn load_under<S: Shelf>(
@@ -48,11 +35,8 @@ fn load_under<S: Shelf>(
     shelf: &mut S,
 ) -> Result<Session, Stop>
     requires { IsSound plan }
-    ensures told { (files : Files) → (S.state shelf.old).files ≡ Some files → Gives (λ session. Treeing files plan name (Ok session.tree.nodes))
-        (λ output. Treeing files plan name (Err output)) (λ unread. unread ≡ name) result }
-    ensures reads { Reads (S.state shelf.old) (S.state shelf.new) name result }
-    ensures plan { IfOk result (λ session. session.plan ≡ plan) }
-    ensures cap { IfOk result (λ session. session.tree.pair_cap ≡ pair_cap_for plan) }
+    ensures reads { Reads (S.state shelf.old) (S.state shelf.new) (file name ∷ []) (λ files. Treeing files plan name) treed_by result }
+    ensures cap { IfOk result (λ session. session.tree.pair_cap ≡ pair_cap_for session.plan) }
     ensures unevaluated { IfOk result (λ session. session.past ≡ None) }
 {
     let tree = load_document(alloc, name, shelf)?;
@@ -71,15 +55,10 @@ pub(crate) fn load_asked<S: Shelf>(
     asked: Validation<'_>,
     shelf: &mut S,
 ) -> Result<Session, Stop>
-    ensures told { (files : Files) → (S.state shelf.old).files ≡ Some files →
-        Gives (λ session. Treed files asked.entry.phase.now asked.entry.schema.now asked.entry.document.now session.plan session.tree.nodes)
-        (λ output. Opening files asked.entry.phase.now asked.entry.schema.now asked.entry.document.now (Err output))
-        (IsReadBy files asked.entry.phase.now asked.entry.schema.now asked.entry.document.now) result }
-    ensures reads { ReadsAs (validate asked.entry.phase.now asked.entry.schema.now asked.entry.document.now) (S.state shelf.old) (S.state shelf.new) result }
-    ensures both { OnOk result (ReadBoth asked.entry.phase.now asked.entry.schema.now asked.entry.document.now (S.state shelf.old) (S.state shelf.new)) }
+    ensures reads { Reads (S.state shelf.old) (S.state shelf.new) (schema_file asked.entry.schema.now ∷ file asked.entry.document.now ∷ [])
+        (λ files. Opening files asked.entry.phase.now asked.entry.schema.now asked.entry.document.now) treed_by result }
     ensures cap { IfOk result (λ session. session.tree.pair_cap ≡ pair_cap_for session.plan) }
     ensures unevaluated { IfOk result (λ session. session.past ≡ None) }
-    ensures unwritten { ends_with statuses.WriteFault result ≡ false }
 {
     let document = Text::copy(alloc, asked.document.as_str())?;
     let plan = load_plan(alloc, asked.schema, asked.phase, shelf)?;
@@ -124,18 +103,9 @@ pub(crate) fn validate<S: Shelf, O: Sink, L: Ledger>(
     out: &mut O,
     steps: &mut Steps<L>,
 ) -> Result<Shown, Stop>
-    ensures whole { (files : Files) → (S.state shelf.old).files ≡ Some files →
-        Concludes (IsEnd (Validating files asked.entry.phase.now asked.entry.schema.now asked.entry.document.now))
-        (IsReadBy files asked.entry.phase.now asked.entry.schema.now asked.entry.document.now)
-        (IsText (Validating files asked.entry.phase.now asked.entry.schema.now asked.entry.document.now))
-        (Appends (O.log out.old).written (O.log out.new).written) result }
-    ensures reads { ReadsAs (validate asked.entry.phase.now asked.entry.schema.now asked.entry.document.now) (S.state shelf.old) (S.state shelf.new) result }
-    ensures write_faults { (O.log out.new).faults ≡ counted_if (ends_with statuses.WriteFault result) (O.log out.old).faults }
-    ensures untouched { may_have_written result ≡ false → O.log out.new ≡ O.log out.old }
-    ensures unevaluated { may_have_written result ≡ false → steps.new ≡ steps.old }
-    ensures counted { (files : Files) → (S.state shelf.old).files ≡ Some files →
-        CountsBy (ValidationCosts files asked.entry.phase.now asked.entry.schema.now asked.entry.document.now) (status_of_end result) steps.old steps.new }
-    ensures steps { steps.old ≤ steps.new }
+    ensures carried { Carried (behaviour (Some (validate asked.entry.phase.now asked.entry.schema.now asked.entry.document.now)))
+        (S.state shelf.old) (S.state shelf.new) (O.log out.old) (O.log out.new) steps.old steps.new result }
+    ensures accepted { ends_with statuses.Usage result ≡ false }
 {
     let mut session = load_asked(alloc, asked, shelf)?;
     write_state(&mut session, out, steps)

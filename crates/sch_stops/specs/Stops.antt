@@ -1,7 +1,9 @@
 -- What stops a run: the status and the line that it ends with, and the file that it names.
-use Rattle.std.specs.Prelude.{ℕ, List, Option, None, Some}
+use Rattle.std.specs.Prelude.{ℕ, ◌==◌, Bool, false, if◌then◌else◌, List, Option, None, Some, IfSome, MatchResult, Result, Ok, Err}
+use Rattle.sch_io.specs.Counts.{one_more}
 use Rattle.edit_script.specs.declared.fault.ScriptError.{ScriptError}
 use Rattle.edit_script.specs.declared.fault.ScriptError.TheVariants as script
+use Rattle.sch_words.specs.Status.{code_of}
 use Rattle.sch_words.specs.declared.status.Status.{Status}
 use Rattle.sch_words.specs.declared.status.Status.TheVariants as status
 use Rattle.sch_stops.specs.declared.stop.Stop.{Stop}
@@ -47,17 +49,30 @@ name_in Memory = None
 abbrev pub stopped_by : Stop → Output
 stopped_by stop = stopped (status_of stop) (line_of stop)
 
--- what holds of a stop: one thing of the output where files and words decide it, another of the name of a file that was
--- not read, another of a failed write, another of want of memory
+-- what holds of a stop: one thing of the name of a file that was not read, another of a failed write, another of want of memory, and
+-- else one of the output, which files and words decide
 abbrev pub ByCause : (Output → Type 0) → (List ℕ → Type 0) → Type 0 → Type 0 → Stop → Type 0
-ByCause decided unread unwritten memory Usage = decided (stopped_by Usage)
-ByCause decided unread unwritten memory (SchemaRefused refusal) = decided (stopped_by (SchemaRefused refusal))
-ByCause decided unread unwritten memory (DocumentRefused refusal) = decided (stopped_by (DocumentRefused refusal))
-ByCause decided unread unwritten memory (ScriptRefused refusal) = decided (stopped_by (ScriptRefused refusal))
-ByCause decided unread unwritten memory (Missing name) = decided (stopped_by (Missing name))
-ByCause decided unread unwritten memory (ReadFault name) = unread name
-ByCause decided unread unwritten memory WriteFault = unwritten
-ByCause decided unread unwritten memory Memory = memory
+ByCause decided failed unwritten memory (ReadFault name) = failed name
+ByCause decided failed unwritten memory WriteFault = unwritten
+ByCause decided failed unwritten memory Memory = memory
+ByCause decided failed unwritten memory stop = decided (stopped_by stop)
+
+-- whether a run ends with the wanted status
+abbrev pub is_status : Status → Status → Bool
+is_status wanted status = code_of status == code_of wanted
+
+-- whether the result is a stop of the wanted status
+abbrev pub ends_with : {A : Type 0} → Status → Result A Stop → Bool
+ends_with wanted (Ok value) = false
+ends_with wanted (Err stop) = is_status wanted (status_of stop)
+
+-- a name that the result tells is such a one
+abbrev pub Names : {A : Type 0} → (List ℕ → Type 0) → Result A Stop → Type 0
+Names is_such result = MatchResult result (λ _. Unit {0}) (λ stop. IfSome (name_in stop) is_such)
+
+-- a count that rises by one where a run ends so, and else stays
+abbrev pub counted_if : Bool → ℕ → ℕ
+counted_if so before = if so then one_more before else before
 
 -- the stop of a run whose script gives no command more
 abbrev pub of_script : ScriptError → Stop

@@ -1,7 +1,6 @@
 -- What parts of a run count.
 use Rattle.std.specs.Prelude.{◌≡◌, ℕ, ◌+◌, ◌≤◌, List, Result, Ok, Err}
 use Rattle.doc_tree.specs.Table.{Table}
-use Rattle.edit_script.specs.Script.{script_of}
 use Rattle.sch_compiled.specs.declared.plan.Plan.{Plan}
 use Rattle.edit_costs.specs.Costs.{cost_of}
 use Rattle.edit_costs.specs.Dirty.{units_to_run}
@@ -11,7 +10,7 @@ use Rattle.edit_session.specs.declared.state.Shown.TheVariants.{Fault}
 use Rattle.sch_cli.specs.declared.following.Follower.{Follower}
 use Rattle.sch_stops.specs.declared.stop.Stop.{Stop}
 use Rattle.sch_stops.specs.declared.stop.Stop.TheVariants.{ScriptRefused}
-use Rattle.sch_cli.specs.Steps.{CountsAtMost, EditsCost, first_cost}
+use Rattle.sch_cli.specs.Steps.{CountsAtMost, EditsCost}
 
 -- the visits of a session's next report
 abbrev pub next_cost : Standing → ℕ
@@ -27,10 +26,6 @@ abbrev pub CountsAlong : (ℕ → Type 0) → ℕ → ℕ → Result Shown Stop 
 CountsAlong costs before after (Ok shown) = (cost : ℕ) × costs cost × RoseFor cost before after shown
 CountsAlong costs before after (Err (ScriptRefused refusal)) = CountsAtMost costs before after
 CountsAlong costs before after (Err stop) = Unit {0}
-
--- the visits of the states of a script that is followed
-abbrev pub StatesCost : Plan → Table → List ℕ → ℕ → Type 0
-StatesCost plan T script cost = (later : ℕ) × EditsCost plan T (script_of script) later × (cost ≡ first_cost plan T + later)
 
 -- the way from one place to another costs visits, and what was counted before rose by these
 pub record IsCosted (earlier later : Follower) (before after : ℕ) : Type 0 where

@@ -11,9 +11,21 @@ use Rattle.sch_cli.specs.declared.following.Follower.{Follower}
 use Rattle.sch_words.specs.declared.status.Status.TheVariants as status
 use Rattle.sch_stops.specs.declared.stop.Stop.{Stop}
 use Rattle.sch_cli.specs.Following.{Begins, Follows}
-use Rattle.sch_cli.specs.Output.{Output, in_front}
-use Rattle.sch_cli.specs.Runs.{Fronted, counted_if}
-use Rattle.sch_cli.specs.inner.Stops.{ByCause, IsOfWriting, ends_with}
+use Rattle.sch_stops.specs.Output.{Output}
+use Rattle.sch_cli.specs.Output.{in_front}
+use Rattle.sch_cli.specs.Runs.{Fronted}
+use Rattle.sch_stops.specs.Stops.{ByCause, counted_if, ends_with}
+use Rattle.edit_session.specs.Standing.{Standing}
+use Rattle.sch_cli.specs.declared.following.Scripted.{Scripted as Borrowed}
+use Rattle.sch_cli.specs.Behaviours.{Scripted, Treed, tree_under}
+use Rattle.sch_cli.specs.inner.Writing.{IsOfWriting}
+
+-- what a session is of a document, and with a script
+abbrev pub treed_by : Standing → Treed
+treed_by session = tree_under session.plan session.tree.nodes
+
+abbrev pub scripted_by : Borrowed → Scripted
+scripted_by opened = record { treed = treed_by opened.session; script = opened.script }
 
 -- the outputs of what is to come, and the texts that it comes to write
 abbrev pub Ending : Follower → Output → Type 0

@@ -1,29 +1,40 @@
 -- The file is a tree that is not too large for the plan, or the document is refused.
-use Rattle.std.proofs.Common.{◌≡◌, ◌∙◌, Result, Err, Ok, ap, inr}
+use Rattle.std.proofs.Common.{◌∙◌, ◌≡◌, [], ◌∷◌, Err, Ok, ap, refl}
 use Rattle.std.proofs.lemmas.Result.{err_from_is_err_and}
-use Rattle.doc_tree.specs.Table.{Table}
+use Rattle.doc_tree.specs.Table.{Contents}
 use Rattle.edit_session.specs.Pairs.{has_too_many_pairs}
-use Rattle.edit_session.specs.Standing.{Standing}
-use Rattle.sch_cli.specs.Output.{Output}
-use Rattle.sch_cli.specs.Stages.{Is, Loading, Treeing, stop_if, too_many_pairs}
-use Rattle.sch_cli.proofs.FileLemmas.{stops_first}
-use Rattle.sch_cli.proofs.SchemaLemmas.{passed, stopped_there}
+use Rattle.sch_stops.specs.declared.refusal.DocumentRefusal.TheVariants.{TooManyPairs}
+use Rattle.sch_stops.specs.declared.stop.Stop.TheVariants.{DocumentRefused, Memory}
+use Rattle.sch_loading.specs.Reads.{file}
+use Rattle.sch_cli.specs.Behaviours.{too_many_pairs, tree_under}
+use Rattle.sch_loading.specs.Loading.{Loading}
+use Rattle.sch_loading.specs.Stages.{Is, halt_if}
+use Rattle.sch_cli.specs.inner.Followers.{treed_by}
+use Rattle.sch_loading.proofs.FileLemmas.{document_inner, memory_inner}
+use Rattle.sch_cli.proofs.FollowLemmas.{opened_under}
+use Rattle.sch_loading.proofs.PartLemmas.{reads_on, reads_stopped}
+use Rattle.sch_loading.proofs.SchemaLemmas.{halted_there}
 use Rattle.sch_cli.proofs.validation.load_under.Goals as goal
 
-pub returns-in_err-tree-clause-told : goal.returns-in_err-tree-clause-told
-returns-in_err-tree-clause-told g c = λ files held.
+pub returns-in_err-tree-clause-reads : goal.returns-in_err-tree-clause-reads
+returns-in_err-tree-clause-reads g c =
     let error = err_from_is_err_and c.from_residual.result c.from_residual.ensures.1 in
-    stops_first (Loading files c.args.name) (λ T. Is (stop_if (has_too_many_pairs c.args.plan T) too_many_pairs T)) (λ unread. unread ≡ c.args.name)
-    (λ session. Treeing files c.args.plan c.args.name (Ok session.tree.nodes)) c.from_residual.result
-    c.in_err-tree.field-0.0 (error.1 ∙ ap Err error.2) (c.in_err-tree.ensures.told files held)
+    reads_stopped _ _ (file c.args.name ∷ []) [] (λ files. Loading files c.args.name) (λ files T. Is (halt_if (has_too_many_pairs c.args.plan T) too_many_pairs (tree_under c.args.plan T)))
+    (λ (tree : Contents). tree.nodes) treed_by c.in_err-tree.field-0.0 c.from_residual.result (error.1 ∙ ap Err error.2) c.in_err-tree.ensures.reads
 
-pub returns-in-Ok-clause-told : goal.returns-in-Ok-clause-told
-returns-in-Ok-clause-told g c = λ files held.
-    let T : Table = c.in_ok-tree.tree.nodes in
-    let is : c.in-Ok.session.tree.nodes ≡ T = ap (λ (session : Standing). session.tree.nodes) c.in-Ok.ensures.opened in
-    inr (T, c.in_ok-tree.ensures.told files held, ap (λ (U : Table). let goes : Result Table Output = Ok U in goes) is ∙ passed (has_too_many_pairs c.args.plan T) too_many_pairs T c.in-Ok.ensures.within)
+pub returns-in-Ok-clause-reads : goal.returns-in-Ok-clause-reads
+returns-in-Ok-clause-reads g c =
+    reads_on _ _ (file c.args.name ∷ []) (λ files. Loading files c.args.name) (λ T. Is (halt_if (has_too_many_pairs c.args.plan T) too_many_pairs (tree_under c.args.plan T))) (λ (tree : Contents). tree.nodes) treed_by c.in_ok-tree.tree (Ok c.in-Ok.session) c.in_ok-tree.ensures.reads
+    (opened_under c.args.plan c.in_ok-tree.tree c.in-Ok.session c.in-Ok.ensures.opened c.in-Ok.ensures.within) tt
 
-pub returns-in-Err-TooManyPairs-clause-told : goal.returns-in-Err-TooManyPairs-clause-told
-returns-in-Err-TooManyPairs-clause-told g c = λ files held.
-    let T : Table = c.in_ok-tree.tree.nodes in
-    inr (T, c.in_ok-tree.ensures.told files held, stopped_there (has_too_many_pairs c.args.plan T) too_many_pairs T (rw c.in-Err-TooManyPairs.field-0-is at c.in-Err-TooManyPairs.ensures.refused))
+pub returns-in-Err-TooManyPairs-clause-reads : goal.returns-in-Err-TooManyPairs-clause-reads
+returns-in-Err-TooManyPairs-clause-reads g c =
+    let T = c.in_ok-tree.tree.nodes in
+    reads_on _ _ (file c.args.name ∷ []) (λ files. Loading files c.args.name) (λ T. Is (halt_if (has_too_many_pairs c.args.plan T) too_many_pairs (tree_under c.args.plan T))) (λ (tree : Contents). tree.nodes) treed_by c.in_ok-tree.tree (Err (DocumentRefused TooManyPairs)) c.in_ok-tree.ensures.reads
+    (refl, halted_there (has_too_many_pairs c.args.plan T) too_many_pairs (tree_under c.args.plan T) (rw c.in-Err-TooManyPairs.field-0-is at c.in-Err-TooManyPairs.ensures.refused))
+    (document_inner (DocumentRefused TooManyPairs) TooManyPairs refl)
+
+pub returns-in-Err-Memory-clause-reads : goal.returns-in-Err-Memory-clause-reads
+returns-in-Err-Memory-clause-reads g c =
+    reads_on _ _ (file c.args.name ∷ []) (λ files. Loading files c.args.name) (λ T. Is (halt_if (has_too_many_pairs c.args.plan T) too_many_pairs (tree_under c.args.plan T))) (λ (tree : Contents). tree.nodes) treed_by c.in_ok-tree.tree (Err Memory) c.in_ok-tree.ensures.reads
+    tt (memory_inner Memory refl)

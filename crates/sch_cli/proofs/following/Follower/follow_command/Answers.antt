@@ -3,7 +3,7 @@ use Rattle.std.proofs.Common.{◌∙◌, ap, refl, sym}
 use Rattle.doc_tree.specs.Table.{Contents}
 use Rattle.edit_session.specs.Standing.{evaluated_over}
 use Rattle.sch_cli.specs.inner.Followers.{in_front_of}
-use Rattle.sch_cli.proofs.FileLemmas.{on_ok}
+use Rattle.sch_cli.proofs.EndLemmas.{on_ok}
 use Rattle.sch_cli.proofs.FollowLemmas.{command_edited, command_refused, goes_nowhere, ready_after, ready_written}
 use Rattle.sch_cli.proofs.StepLemmas.{costed_refused, costed_whole}
 use Rattle.sch_cli.proofs.following.Follower.follow_command.Goals as goal

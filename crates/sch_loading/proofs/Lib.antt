@@ -1,0 +1,4 @@
+pub mod StageLemmas
+pub mod PartLemmas
+pub mod FileLemmas
+pub mod SchemaLemmas

@@ -1,0 +1,7 @@
+//! The files that a command names, read: a schema as the plan of a phase or without abstract parts, a document, a script.
+#![tactic(auto)]
+
+mod loading;
+mod schema;
+
+pub use loading::{load_document, load_flat, load_plan, read_script};
