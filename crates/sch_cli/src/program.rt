@@ -60,8 +60,7 @@ pub fn end_without_words<E: Sink>(err: &mut E) -> Status
     ensures status { result ≡ statuses.Memory }
     ensures line { Tells (E.log err.old) (E.log err.new) memory_line }
 {
-    let _ = write_all(err, b"sch: out of memory\n");
-    Status::Memory
+    conclude(Err(Stop::Memory), err)
 }
 
 /// Does what the words ask for; answers what was written.
