@@ -11,7 +11,7 @@ mod pattern;
 mod terms;
 
 pub use expr::{Chain, Expr, Operand, Start, Step};
-pub use numbers::MAX_WHOLE;
+pub use numbers::{MAX_WHOLE, numbers_of_limits};
 pub use operators::{ArithOp, Comparison};
 pub use pattern::{Join, PathPattern, Pattern, PatternStart, PatternStep};
 pub use terms::{AxisName, Level, Operator, StepTest};
