@@ -1,6 +1,5 @@
 -- What is answered of the rest of an open file, where the shelf tells it.
-use Rattle.std.proofs.Common.{◌≡◌, ℕ, ◌+◌, ◌<◌, ◌≤◌, Bool, ◌==◌, ◌||◌, false, List, ◌++◌, length, take, Option, None, Some, Ok, Err, ap, ◌∙◌, arith, append-nil, length-append}
-use Rattle.std.proofs.lemmas.Bool.Decides.{nat_tests}
+use Rattle.std.proofs.Common.{◌≡◌, ℕ, ◌+◌, ◌<◌, ◌≤◌, List, ◌++◌, length, take, Option, None, Some, Ok, Err, ap, ◌∙◌, arith, append-nil, length-append}
 use Rattle.std.specs.Io.KnownBytes.{Consumes, IsAtEnd}
 use Rattle.sch_io.specs.declared.error.ReadError.TheVariants.{Failed, TooLarge, Memory}
 use Rattle.sch_io.specs.declared.reading.TheConstants.{MAX_FILE_BYTES}
@@ -32,7 +31,3 @@ told_large (Some xs) None new bytes piece given more large = absurd given
 told_large (Some xs) (Some ys) None bytes piece given more large = absurd more
 told_large (Some xs) (Some ys) (Some zs) bytes piece given more large =
     omega (arith, ap length given, ap length more, length-append bytes ys, length-append piece zs)
-
--- a read that gave bytes did not tell the end
-pub unended : (n : ℕ) (ended : Bool) → 0 < n → ended ≡ false → (n == 0 || ended) ≡ false
-unended n ended some before = rw before (grind (arith, nat_tests))

@@ -1,5 +1,5 @@
 -- Counts of failures and of bytes, as a u64 carries them.
-use Rattle.std.specs.Prelude.{◌≡◌, ℕ, ◌+◌, ◌-◌, ◌^◌, ◌≤◌, ◌==◌, Bool, ◌||◌, max, min, Result, Ok, Err, MatchResult}
+use Rattle.std.specs.Prelude.{◌≡◌, ℕ, ◌+◌, ◌-◌, ◌^◌, ◌≤◌, max, min, Result, Ok, Err, MatchResult}
 use Rattle.sch_io.specs.declared.error.OpenError.{OpenError}
 use Rattle.sch_io.specs.declared.error.OpenError.TheVariants.{Missing as NotHeld, Failed as NotOpened}
 use Rattle.sch_io.specs.declared.error.ReadError.{ReadError}
@@ -45,11 +45,6 @@ misses_of_reading (Err Missing) before = one_more before
 misses_of_reading (Err Failed) before = before
 misses_of_reading (Err TooLarge) before = before
 misses_of_reading (Err Memory) before = before
-
--- whether the end was told, after a read: an answer of 0 tells it
-abbrev pub ended_after : {E : Type 0} → Result ℕ E → Bool → Bool
-ended_after (Ok n) before = n == 0 || before
-ended_after (Err failed) before = before
 
 -- a read that gave n bytes adds n to the bytes taken, and one that failed adds none
 abbrev pub CountsTaken : {E : Type 0} → ℕ → ℕ → Result ℕ E → Type 0

@@ -1,11 +1,14 @@
 pub mod Calls
 pub mod Counts
+pub mod Ends
 pub mod Files
 pub mod HostShelf
 pub mod MemoryShelf
 pub mod MemorySink
+pub mod Pieces
 pub mod Reading
 pub mod ShelfState
+pub mod ReadThrough
 pub mod SinkLog
 pub mod Wrote
 pub mod inner

@@ -1,6 +1,6 @@
 //! A shelf over the files and the standard input of the host.
 
-ghost use Rattle.std.specs.Prelude.{◌≡◌, false, [], None, Some};
+ghost use Rattle.std.specs.Prelude.{◌≡◌, [], None, Some};
 ghost use Rattle.std.specs.Io.{ReadsAtMost};
 ghost use Rattle.std.specs.Io.KnownBytes.{ReadConsumes};
 ghost use Rattle.sch_io.specs.inner.Sources.{rest_of_source};
@@ -56,13 +56,13 @@ impl<'a, R: Files + Input> Model for HostShelf<'a, R> {
 
     ghost use Rattle.sch_io.specs.inner.Sources.{rest_of_source};
 
-    ghost view = { λ s. record { rest = rest_of_source R.File.remaining R.Reader.remaining s.source; taken = s.taken; ended = s.history.ended; opened = s.history.opened; faults = s.faults; misses = s.misses } };
+    ghost view = { λ s. record { rest = rest_of_source R.File.remaining R.Reader.remaining s.source; taken = s.taken; opened = s.history.opened; ends = s.history.ends; faults = s.faults; misses = s.misses } };
 }
 
 impl<'a, R: Files + Input> HostShelf<'a, R> {
     /// A shelf over the host, with nothing open, no name opened, no fault and no miss so far.
     pub fn new(rt: &'a R) -> HostShelf<'a, R>
-        ensures { result ≡ record { rest = Some []; taken = 0; ended = false; opened = []; faults = 0; misses = 0 } }
+        ensures { result ≡ record { rest = Some []; taken = 0; opened = []; ends = []; faults = 0; misses = 0 } }
     {
         HostShelf {
             rt,
@@ -76,7 +76,7 @@ impl<'a, R: Files + Input> HostShelf<'a, R> {
 }
 
 impl<'a, R: Files + Input> Shelf for HostShelf<'a, R> {
-    ghost state = { λ s. record { files = None; rest = s.rest; taken = s.taken; ended = s.ended; opened = s.opened; faults = s.faults; misses = s.misses } };
+    ghost state = { λ s. record { files = None; rest = s.rest; taken = s.taken; opened = s.opened; ends = s.ends; faults = s.faults; misses = s.misses } };
 
     fn open(&mut self, name: &str) -> Result<(), OpenError> {
         self.history.open(name.as_bytes());

@@ -1,23 +1,26 @@
 //! A sink that keeps its bytes in memory.
 
-ghost use Rattle.std.specs.Prelude.{◌≡◌, ◌-◌, ◌<◌, [], ◌∷◌, ◌++◌, length, min, Some, OnOk, OnErr, IfOk, is_err};
+ghost use Rattle.std.specs.Prelude.{◌≡◌, ◌-◌, ◌<◌, ◌≤◌, [], ◌∷◌, ◌++◌, length, min, None, Some, OnOk, OnErr, IfOk, is_err};
 ghost use Rattle.std.specs.Io.{WritesAtMost};
 ghost use Rattle.std.specs.Io.KnownBytes.{WriteAppends};
 ghost use Rattle.sch_io.specs.Counts.{one_more};
 ghost use Rattle.sch_io.specs.Calls.{fails_next, made_next};
+ghost use Rattle.sch_io.specs.Pieces.{at_most};
 
 use crate::calls::Calls;
 use crate::counts::one_more;
 use crate::error::Failed;
+use crate::pieces::at_most;
 use crate::sink::Sink;
 use std::alloc::{AllocError, Global};
 use std::marker::Model;
 
-/// A sink in memory with room for a number of bytes, of whose calls chosen ones fail.
+/// A sink in memory with room for a number of bytes, of whose calls chosen ones fail, and whose writes may be held short.
 #[derive(Drop)]
 pub struct MemorySink {
     written: Vec<u8>,
     room: usize,
+    most: Option<usize>,
     calls: Calls,
     faults: u64,
 }
@@ -28,7 +31,7 @@ impl Model for MemorySink {
 
     ghost Value = { Filled };
 
-    ghost view = { λ s. record { written = s.written.items; room = s.room; calls = s.calls; faults = s.faults } };
+    ghost view = { λ s. record { written = s.written.items; room = s.room; most = s.most; calls = s.calls; faults = s.faults } };
 
     ghost invariant = { λ s. (vec_len s.written ≤ s.room) × (s.room ≤ vec_capacity s.written) };
 }
@@ -36,12 +39,13 @@ impl Model for MemorySink {
 impl MemorySink {
     /// An empty sink with room for that many bytes.
     pub fn with_room(alloc: Global, room: usize) -> Result<MemorySink, AllocError>
-        ensures { IfOk result (λ sink. sink ≡ record { written = []; room = room; calls = record { made = 0; failing = [] }; faults = 0 }) }
+        ensures { IfOk result (λ sink. sink ≡ record { written = []; room = room; most = None; calls = record { made = 0; failing = [] }; faults = 0 }) }
     {
         let written = Vec::with_capacity(alloc, room)?;
         Ok(MemorySink {
             written,
             room,
+            most: None,
             calls: Calls::new(alloc),
             faults: 0,
         })
@@ -55,6 +59,14 @@ impl MemorySink {
         self.calls.fail_at(call)
     }
 
+    /// Lets each write from now on take at most that many bytes, which are 1 or more.
+    pub fn take_at_most(&mut self, n: usize)
+        requires { 1 ≤ n }
+        ensures { self.new ≡ record self.old { most = Some n } }
+    {
+        self.most = Some(n);
+    }
+
     /// All bytes written so far, lent.
     pub fn written(&self) -> &[u8]
         ensures { result.now ≡ self.now.written }
@@ -66,7 +78,8 @@ impl MemorySink {
 impl Sink for MemorySink {
     ghost log = { λ s. record { written = Some s.written; faults = s.faults } };
 
-    /// Fails exactly at the calls given to `fail_at`; otherwise takes what still fits in the room.
+    /// Fails exactly at the calls given to `fail_at`; otherwise takes the longest front of the piece that the room left and
+    /// the set number allow.
     fn write(&mut self, piece: &[u8]) -> Result<usize, Failed>
         ensures bound { WritesAtMost result piece.now }
         ensures appended { WriteAppends (Some self.old.written) (Some self.new.written) result piece.now }
@@ -75,15 +88,16 @@ impl Sink for MemorySink {
         ensures moved { IfOk result (λ n. 0 < n → self.new.faults ≡ self.old.faults) }
         ensures nothing { OnOk result (length piece.now ≡ 0 → self.new.faults ≡ self.old.faults) }
         ensures chosen { is_err result ≡ fails_next self.old.calls }
-        ensures fits { IfOk result (λ n. n ≡ min (length piece.now) (self.old.room - length self.old.written)) }
+        ensures fits { IfOk result (λ n. n ≡ at_most self.old.most (min (length piece.now) (self.old.room - length self.old.written))) }
         ensures same_room { self.new.room ≡ self.old.room }
+        ensures same_most { self.new.most ≡ self.old.most }
         ensures counted { self.new.calls ≡ made_next self.old.calls }
     {
         if self.calls.next() {
             self.faults = one_more(self.faults);
             return Err(Failed);
         }
-        let n = piece.len().min(self.room - self.written.len());
+        let n = at_most(self.most, piece.len().min(self.room - self.written.len()));
         if n == 0 && !piece.is_empty() {
             self.faults = one_more(self.faults);
         }

@@ -1,8 +1,9 @@
 //! Reading a file whole.
 
-ghost use Rattle.std.specs.Prelude.{◌≡◌, ◌<◌, ◌∷◌, [], ◌++◌, ◌↔◌, false, is_ok, length, IfOk, IsErrOf, OnOk};
+ghost use Rattle.std.specs.Prelude.{◌≡◌, ◌<◌, ◌∷◌, [], ◌++◌, ◌↔◌, length, IfOk, IsErrOf, OnOk};
 ghost use Rattle.std.specs.Io.KnownBytes.{IsAtEnd};
 ghost use Rattle.sch_io.specs.Counts.{faults_of_reading, misses_of_reading};
+ghost use Rattle.sch_io.specs.Ends.{ends_of_reading, ends_of_rest};
 ghost use Rattle.sch_io.specs.Files.{Files};
 ghost use Rattle.sch_io.specs.Reading.{ReadsWhole, ReadsRest};
 
@@ -18,14 +19,14 @@ pub const MAX_FILE_BYTES: usize = 16_777_216;
 const PIECE_BYTES: usize = 65_536;
 
 /// The whole content of the named file, which is opened for it; no other file is opened, and nothing is read after its
-/// end or once it is too large.
+/// end, which one read tells, or once it is too large.
 ///
 /// Each byte is read once and copied once, so the time grows with the file's length.
 pub fn read_all<S: Shelf>(alloc: Global, shelf: &mut S, name: &str) -> Result<Bytes, ReadError>
     ensures told { (files : Files) → (S.state shelf.old).files ≡ Some files → ReadsWhole files name.now result }
     ensures counted { IfOk result (λ bytes. (S.state shelf.new).taken ≡ length bytes) }
     ensures at_end { OnOk result (IsAtEnd (S.state shelf.new).rest) }
-    ensures ended { (S.state shelf.new).ended ≡ is_ok result }
+    ensures ends { (S.state shelf.new).ends ≡ ends_of_reading result name.now (S.state shelf.old).ends }
     ensures too_large { IsErrOf result ReadError.TooLarge ↔ (MAX_FILE_BYTES < (S.state shelf.new).taken) }
     ensures held { (S.state shelf.new).files ≡ (S.state shelf.old).files }
     ensures noted { (S.state shelf.new).opened ≡ (S.state shelf.old).opened ++ name.now ∷ [] }
@@ -41,12 +42,11 @@ pub fn read_all<S: Shelf>(alloc: Global, shelf: &mut S, name: &str) -> Result<By
 
 /// The rest of the open file, of which nothing was read yet.
 fn read_rest<S: Shelf>(alloc: Global, shelf: &mut S) -> Result<Bytes, ReadError>
-    requires fresh { (S.state shelf.old).taken ≡ 0 }
-    requires begun { (S.state shelf.old).ended ≡ false }
+    requires { (S.state shelf.old).taken ≡ 0 }
     ensures told { ReadsRest (S.state shelf.old).rest result }
     ensures counted { IfOk result (λ bytes. (S.state shelf.new).taken ≡ length bytes) }
     ensures at_end { OnOk result (IsAtEnd (S.state shelf.new).rest) }
-    ensures ended { (S.state shelf.new).ended ≡ is_ok result }
+    ensures ends { (S.state shelf.new).ends ≡ ends_of_rest result (S.state shelf.old).opened (S.state shelf.old).ends }
     ensures too_large { IsErrOf result ReadError.TooLarge ↔ (MAX_FILE_BYTES < (S.state shelf.new).taken) }
     ensures held { (S.state shelf.new).files ≡ (S.state shelf.old).files }
     ensures noted { (S.state shelf.new).opened ≡ (S.state shelf.old).opened }

@@ -1,9 +1,10 @@
 //! Shelves: where files are read from.
 
-ghost use Rattle.std.specs.Prelude.{◌≡◌, ◌<◌, ◌∷◌, [], ◌++◌, false, length};
+ghost use Rattle.std.specs.Prelude.{◌≡◌, ◌<◌, ◌∷◌, [], ◌++◌, length};
 ghost use Rattle.std.specs.Io.{ReadsAtMost};
 ghost use Rattle.std.specs.Io.KnownBytes.{ReadConsumes};
-ghost use Rattle.sch_io.specs.Counts.{CountsTaken, ended_after, faults_after, faults_of_open, misses_of_open};
+ghost use Rattle.sch_io.specs.Counts.{CountsTaken, faults_after, faults_of_open, misses_of_open};
+ghost use Rattle.sch_io.specs.Ends.{ends_after};
 ghost use Rattle.sch_io.specs.Files.{Opens};
 ghost use Rattle.sch_io.specs.ShelfState.{ShelfState};
 
@@ -13,16 +14,16 @@ use crate::error::{Failed, OpenError};
 ///
 /// Before the first `open`, and after an `open` that answered an error, there is nothing to read.
 pub trait Shelf {
-    // the files, the open one, the names opened, and the counts of faults and misses
+    // the files, the open one, the names opened and the ends told, and the counts of faults and misses
     ghost state: { Self → ShelfState };
 
     /// Makes the named file the open one, to be read from its start.
     fn open(&mut self, name: &str) -> Result<(), OpenError>
         ensures opened { Opens (state self.new).files (state self.new).rest name.now result }
         ensures fresh { (state self.new).taken ≡ 0 }
-        ensures begun { (state self.new).ended ≡ false }
         ensures held { (state self.new).files ≡ (state self.old).files }
         ensures noted { (state self.new).opened ≡ (state self.old).opened ++ name.now ∷ [] }
+        ensures ends { (state self.new).ends ≡ (state self.old).ends }
         ensures faults { (state self.new).faults ≡ faults_of_open result (state self.old).faults }
         ensures misses { (state self.new).misses ≡ misses_of_open result (state self.old).misses };
 
@@ -32,7 +33,7 @@ pub trait Shelf {
         ensures bound { ReadsAtMost result buf.new }
         ensures bytes { ReadConsumes (state self.old).rest (state self.new).rest result buf.new }
         ensures counted { CountsTaken (state self.old).taken (state self.new).taken result }
-        ensures ended { (state self.new).ended ≡ ended_after result (state self.old).ended }
+        ensures ends { (state self.new).ends ≡ ends_after result (state self.old).opened (state self.old).ends }
         ensures held { (state self.new).files ≡ (state self.old).files }
         ensures noted { (state self.new).opened ≡ (state self.old).opened }
         ensures faults { (state self.new).faults ≡ faults_after result (state self.old).faults }

@@ -1,10 +1,12 @@
 -- Each read adds to the bytes; the end, the limit and the failures are told as they come.
-use Rattle.std.proofs.Common.{◌≡◌, ◌+◌, ◌∙◌, length, take, refl, ap, arith, length-append}
+use Rattle.std.proofs.Common.{◌≡◌, ℕ, ◌+◌, ◌∙◌, List, length, take, refl, ap, ap₂, arith, length-append}
 use Rattle.std.proofs.lemmas.List.{length-take-le}
 use Rattle.std.proofs.lemmas.Result.{err_from_is_err_and}
 use Rattle.std.proofs.KnownBytes.{Consumes-trans}
 use Rattle.sch_io.specs.Counts.{one_more}
-use Rattle.sch_io.proofs.Rest.{told_failed, told_memory, told_whole, told_large, unended}
+use Rattle.sch_io.specs.Ends.{told_end}
+use Rattle.sch_io.proofs.EndLemmas.{unended}
+use Rattle.sch_io.proofs.Rest.{told_failed, told_memory, told_whole, told_large}
 use Rattle.sch_io.proofs.reading.read_rest.Goals as goal
 
 pub returns-in_err-n : goal.returns-in_err-n
@@ -14,7 +16,7 @@ returns-in_err-n g c =
       told = told_failed _;
       counted = tt;
       at_end = tt;
-      ended = c.in_err-n.ensures.ended ∙ c.reading.invariant.unended;
+      ends = c.in_err-n.ensures.ends ∙ c.reading.invariant.ends;
       too_large = ((λ is. absurd (cc)), (λ more. absurd (omega (arith, c.in_err-n.ensures.counted))));
       held = c.in_err-n.ensures.held ∙ c.reading.invariant.held;
       noted = c.in_err-n.ensures.noted ∙ c.reading.invariant.noted;
@@ -31,7 +33,7 @@ returns-then-n-eq0 g c =
           (told_whole _ _ _ _ _ _ c.if-n-eq0.true c.reading.invariant.given c.in_ok-n.ensures.bytes.0 ends c.reading.invariant.within);
       counted = omega (arith, c.in_ok-n.ensures.counted, ap length c.of.ensures);
       at_end = ends;
-      ended = rw c.if-n-eq0.true at c.in_ok-n.ensures.ended;
+      ends = (rw c.if-n-eq0.true at c.in_ok-n.ensures.ends) ∙ ap₂ (λ (o e : List (List ℕ)). told_end o e) c.reading.invariant.noted c.reading.invariant.ends;
       too_large = ((λ is. absurd (cc)), (λ more. absurd (omega (arith, c.in_ok-n.ensures.counted))));
       held = c.in_ok-n.ensures.held ∙ c.reading.invariant.held;
       noted = c.in_ok-n.ensures.noted ∙ c.reading.invariant.noted;
@@ -48,7 +50,7 @@ returns-then-n-len g c =
           (omega (arith, taken, c.reading.bytes.ok.0));
       counted = tt;
       at_end = tt;
-      ended = c.in_ok-n.ensures.ended ∙ unended c.in_ok-n.n _ (omega arith) c.reading.invariant.unended;
+      ends = c.in_ok-n.ensures.ends ∙ unended c.in_ok-n.n (g.S.Shelf.state c.reading.shelf).opened (g.S.Shelf.state c.reading.shelf).ends (omega arith) ∙ c.reading.invariant.ends;
       too_large = ((λ is. omega (arith, c.in_ok-n.ensures.counted, c.reading.bytes.ok.0)), (λ more. refl));
       held = c.in_ok-n.ensures.held ∙ c.reading.invariant.held;
       noted = c.in_ok-n.ensures.noted ∙ c.reading.invariant.noted;
@@ -64,7 +66,7 @@ returns-in_err-extend_from_slice g c =
       told = told_memory _;
       counted = tt;
       at_end = tt;
-      ended = c.in_ok-n.ensures.ended ∙ unended c.in_ok-n.n _ (omega arith) c.reading.invariant.unended;
+      ends = c.in_ok-n.ensures.ends ∙ unended c.in_ok-n.n (g.S.Shelf.state c.reading.shelf).opened (g.S.Shelf.state c.reading.shelf).ends (omega arith) ∙ c.reading.invariant.ends;
       too_large = ((λ is. absurd (cc)), (λ more. absurd (omega (arith, c.in_ok-n.ensures.counted, c.reading.bytes.ok.0))));
       held = c.in_ok-n.ensures.held ∙ c.reading.invariant.held;
       noted = c.in_ok-n.ensures.noted ∙ c.reading.invariant.noted;
@@ -83,7 +85,7 @@ reading-preserved g c =
       given = rw c.in_ok-extend_from_slice.ensures.items
           (Consumes-trans _ _ _ _ _ c.reading.invariant.given c.in_ok-n.ensures.bytes.0);
       counted = omega (arith, c.in_ok-n.ensures.counted, longer, taken, c.reading.bytes.ok.0);
-      unended = c.in_ok-n.ensures.ended ∙ unended c.in_ok-n.n _ (omega arith) c.reading.invariant.unended;
+      ends = c.in_ok-n.ensures.ends ∙ unended c.in_ok-n.n (g.S.Shelf.state c.reading.shelf).opened (g.S.Shelf.state c.reading.shelf).ends (omega arith) ∙ c.reading.invariant.ends;
       held = c.in_ok-n.ensures.held ∙ c.reading.invariant.held;
       noted = c.in_ok-n.ensures.noted ∙ c.reading.invariant.noted;
       faults = c.in_ok-n.ensures.faults ∙ c.reading.invariant.faults;

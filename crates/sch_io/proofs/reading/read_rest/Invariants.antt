@@ -1,4 +1,4 @@
-use Rattle.std.proofs.Common.{◌≡◌, ◌-◌, ◌≤◌, false, length}
+use Rattle.std.proofs.Common.{◌≡◌, ◌-◌, ◌≤◌, length}
 use Rattle.std.specs.Io.KnownBytes.{Consumes}
 use Rattle.sch_io.specs.declared.reading.TheConstants.{MAX_FILE_BYTES}
 use Rattle.sch_io.proofs.reading.read_rest.Given as goal
@@ -8,7 +8,7 @@ invariant-reading g l = record {
   within : length l.bytes.items ≤ MAX_FILE_BYTES;
   given : Consumes (g.S.Shelf.state l.initial.shelf).rest (g.S.Shelf.state l.shelf).rest l.bytes.items;
   counted : (g.S.Shelf.state l.shelf).taken ≡ length l.bytes.items;
-  unended : (g.S.Shelf.state l.shelf).ended ≡ false;
+  ends : (g.S.Shelf.state l.shelf).ends ≡ (g.S.Shelf.state l.initial.shelf).ends;
   held : (g.S.Shelf.state l.shelf).files ≡ (g.S.Shelf.state l.initial.shelf).files;
   noted : (g.S.Shelf.state l.shelf).opened ≡ (g.S.Shelf.state l.initial.shelf).opened;
   faults : (g.S.Shelf.state l.shelf).faults ≡ (g.S.Shelf.state l.initial.shelf).faults;

@@ -1,5 +1,5 @@
 -- An empty body. The borrow is opened and closed at another ghost value.
-use Rattle.std.proofs.Common.{ℕ, true, List, [], ◌∷◌, refl, MutBor}
+use Rattle.std.proofs.Common.{ℕ, List, [], ◌∷◌, refl, MutBor}
 use seplogic.Ra.Ura.{Ura}
 use mir.Syntax.{named}
 use mir.Val.{Val, vunit, vptr}
@@ -25,6 +25,7 @@ use denote.Triple.Entry.{on_entry}
 use denote.Triple.Spec.{Meets, triple_of}
 use denote.Triple.Table.{entered}
 use denote.Triple.Walked.{says, Stays, stay_ref, walk_of, AllGo, Goes-ref, Walks, ends_at, walked, walk_Meets}
+use Rattle.sch_io.specs.Ends.{told_end}
 use Rattle.sch_io.specs.declared.history.History.{History}
 use Rattle.sch_io.specs.contracts.history.History as T
 use Rattle.sch_io.specs.contracts.history.History.end.Key.{name as #it}
@@ -45,7 +46,7 @@ module _ {M : Type 1} {𝓤 : Ura M} (𝓛 : Logic 𝓤) (at_mem : Memory → SP
   x = (record { ref_ptr = (b, o); ghost_name = γ; now = h }, tt)
 
   abbrev h' : History
-  h' = record { marker = h.marker; opened = h.opened; ended = true }
+  h' = record { marker = h.marker; opened = h.opened; ends = told_end h.opened h.ends }
 
   abbrev at : List Val × Unit {0}
   at = (vptr b o ∷ [], tt)
