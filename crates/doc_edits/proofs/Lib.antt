@@ -26,3 +26,4 @@ pub mod GraftedLemmas
 pub mod InsertedSumLemmas
 pub mod InsertedSoundLemmas
 pub mod InsertedLemmas
+pub mod NamingLemmas

@@ -5,16 +5,46 @@ ghost use Rattle.doc_table.specs.Table.{numbered};
 ghost use Rattle.doc_table.specs.inner.Parts.{IsSound, table_of};
 ghost use Rattle.doc_edits.specs.Changes.{gained};
 ghost use Rattle.doc_edits.specs.Fitting.{MayGain};
+ghost use Rattle.doc_edits.specs.Keeping.{NamesGrow};
 
 use doc_names::NameId;
 use doc_table::{Bare, Node, NodeContent, NodeId, attach};
 use sch_base::{ItemList, Text};
 use std::alloc::AllocError;
 
-/// Gives an element one attribute more, the last one, which takes the next number.
+/// Gives an element one attribute more, the last one, which takes the next number; its name is numbered where it is new.
 ///
-/// After want of memory nothing has changed. Costs the copying of the value.
-pub fn gain(bare: &mut Bare, n: NodeId, name: NameId, value: &str) -> Result<NodeId, AllocError>
+/// After want of memory nothing has changed, names included. Costs the copying of the value, and of the name where it is new.
+pub fn gain(
+    bare: &mut Bare,
+    n: NodeId,
+    prefix: &str,
+    local: &str,
+    uri: &str,
+    value: &str,
+) -> Result<NodeId, AllocError>
+    requires sound { IsSound bare.old }
+    requires may { MayGain (table_of bare.old) n (record { prefix = prefix.now; local = local.now; uri = uri.now }) value.now }
+    ensures sound { IsSound bare.new }
+    ensures gained { OnOk result (table_of bare.new ≡ gained (table_of bare.old) n (record { prefix = prefix.now; local = local.now; uri = uri.now }) value.now) }
+    ensures number { IfOk result (λ a. a ≡ length (table_of bare.old)) }
+    ensures names { NamesGrow bare.old.names bare.new.names }
+    ensures cap { bare.new.pair_cap ≡ bare.old.pair_cap }
+    ensures unchanged { OnErr result (bare.new ≡ bare.old) }
+{
+    let known = bare.names.len();
+    let name = bare.name_id(prefix, local, uri)?;
+    match gain_named(bare, n, name, value) {
+        Ok(number) => Ok(number),
+        Err(error) => {
+            bare.names.cut(known);
+            Err(error)
+        }
+    }
+}
+
+/// `gain`, of an attribute whose name has a number.
+fn gain_named(bare: &mut Bare, n: NodeId, name: NameId, value: &str) -> Result<NodeId, AllocError>
     requires sound { IsSound bare.old }
     requires known { name < length bare.old.names }
     requires may { MayGain (table_of bare.old) n (numbered bare.old.names name) value.now }

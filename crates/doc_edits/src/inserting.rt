@@ -19,8 +19,8 @@ use std::alloc::{AllocError, Global};
 /// Puts the one kid of a piece's root, with all below it, under a node behind so many of its kids. The new nodes take the
 /// next numbers in document order; the kid's number is answered.
 ///
-/// After want of memory the table is as before, and names may have been numbered. Costs the nodes of the piece, the
-/// siblings behind it, and the copying of the piece's texts.
+/// After want of memory nothing has changed, names included. Costs the nodes of the piece, the siblings behind it, and the
+/// copying of the piece's texts.
 pub fn insert(
     bare: &mut Bare,
     parent: NodeId,
@@ -35,7 +35,34 @@ pub fn insert(
     ensures number { IfOk result (λ n. n ≡ length (table_of bare.old)) }
     ensures names { NamesGrow bare.old.names bare.new.names }
     ensures cap { bare.new.pair_cap ≡ bare.old.pair_cap }
-    ensures unchanged { OnErr result (table_of bare.new ≡ table_of bare.old) }
+    ensures unchanged { OnErr result (bare.new ≡ bare.old) }
+{
+    let known = bare.names.len();
+    match put_piece(bare, parent, before, piece) {
+        Ok(number) => Ok(number),
+        Err(error) => {
+            bare.names.cut(known);
+            Err(error)
+        }
+    }
+}
+
+/// `insert`, after which names of the piece may have numbers though memory was wanting.
+fn put_piece(
+    bare: &mut Bare,
+    parent: NodeId,
+    before: usize,
+    piece: &Bare,
+) -> Result<NodeId, AllocError>
+    requires sound { IsSound bare.old }
+    requires piece { IsSound piece.now }
+    requires may { MayTake (table_of bare.old) parent before (table_of piece.now) }
+    ensures sound { OnOk result (IsSound bare.new) }
+    ensures inserted { OnOk result (table_of bare.new ≡ inserted (table_of bare.old) parent before (table_of piece.now)) }
+    ensures number { IfOk result (λ n. n ≡ length (table_of bare.old)) }
+    ensures names { NamesGrow bare.old.names bare.new.names }
+    ensures cap { bare.new.pair_cap ≡ bare.old.pair_cap }
+    ensures kept { OnErr result (bare.new ≡ record bare.old { names = bare.new.names }) }
 {
     let first = bare.next_number();
     let behind = kids_behind(bare, parent, before)?;

@@ -1,5 +1,5 @@
 -- Names spelled by the words of a table: they stay when words are added, and each stands once.
-use Rattle.std.proofs.Common.{◌≡◌, ℕ, ◌<◌, ◌≤◌, suc, zero, Bool, true, false, List, [], ◌∷◌, ◌++◌, map, length, get_or, slice_get, None, Some, refl, sym, ap, ap₂, ◌∙◌, inl, inr, ⊎_elim, arith, length-append}
+use Rattle.std.proofs.Common.{◌≡◌, ℕ, ◌<◌, ◌≤◌, suc, zero, Bool, true, false, List, [], ◌∷◌, ◌++◌, map, length, take, get_or, slice_get, None, Some, refl, sym, ap, ap₂, ◌∙◌, inl, inr, ⊎_elim, arith, length-append}
 use Rattle.std.specs.Prelude.{Result, Ok, Err, OnErr}
 use Rattle.std.specs.List.{list_any}
 use Rattle.indexmap.specs.IndexSet.{insert_key}
@@ -57,6 +57,11 @@ below-more n m (key ∷ keys) h k =
 pub below-push : (n : ℕ) (keys : List NameKey) (key : NameKey) → KeysAreBelow n keys → KeyIsBelow n key → KeysAreBelow n (keys ++ key ∷ [])
 below-push n [] key k new = (new, tt)
 below-push n (x ∷ keys) key k new = (k.0, below-push n keys key k.1 new)
+
+pub below-taken : (n m : ℕ) (keys : List NameKey) → KeysAreBelow n keys → KeysAreBelow n (take m keys)
+below-taken n zero keys k = tt
+below-taken n (suc m) [] k = tt
+below-taken n (suc m) (key ∷ keys) k = (k.0, below-taken n m keys k.1)
 
 get-map : {A B : Type 0} (f : A → B) (xs : List A) (i : ℕ) (x : A) → slice_get xs i ≡ Some x → slice_get (map f xs) i ≡ Some (f x)
 get-map f [] i x h = absurd (cc)

@@ -1,5 +1,5 @@
 -- Items put into a table that keeps each once, and their numbers.
-use Rattle.std.proofs.Common.{◌≡◌, ◌≢◌, get_or, ℕ, ◌+◌, ◌<◌, suc, zero, Bool, true, false, cond, not, ◌||◌, List, [], ◌∷◌, ◌++◌, ◌⊎◌, map, length, slice_get, None, Some, refl, sym, ap, ◌∙◌, subst, inl, inr, ⊎_elim, true≢false, arith, nat_lt, ltb-true, one-add}
+use Rattle.std.proofs.Common.{◌≡◌, ◌≢◌, get_or, ℕ, ◌+◌, ◌<◌, suc, zero, Bool, true, false, cond, not, ◌||◌, List, [], ◌∷◌, ◌++◌, ◌⊎◌, map, length, take, slice_get, None, Some, refl, sym, ap, ◌∙◌, subst, inl, inr, ⊎_elim, true≢false, arith, nat_lt, ltb-true, one-add}
 use Rattle.std.specs.List.{list_any, position_or_len, position}
 use Rattle.indexmap.specs.IndexSet.{insert_key}
 use Rattle.doc_names.specs.Numbering.{EachOnce, Numbered}
@@ -31,6 +31,16 @@ once-more xs x once new i j y hi hj =
     (λ (a : (i ≡ length xs) × (x ≡ y)). ⊎_elim (λ (b : slice_get xs j ≡ Some y). absurd (new j (b ∙ ap Some (sym a.1))))
     (λ (b : (j ≡ length xs) × (x ≡ y)). a.0 ∙ sym b.0) (get-more xs x y j hj))
     (get-more xs x y i hi)
+
+-- what stands among the first items stands in the list, so that each of them stands once
+get-taken : {A : Type 0} (n : ℕ) (xs : List A) (i : ℕ) (x : A) → slice_get (take n xs) i ≡ Some x → slice_get xs i ≡ Some x
+get-taken zero xs i x h = absurd (cc)
+get-taken (suc n) [] i x h = absurd (cc)
+get-taken (suc n) (y ∷ xs) zero x h = h
+get-taken (suc n) (y ∷ xs) (suc i) x h = get-taken n xs i x h
+
+pub once-taken : {A : Type 0} (n : ℕ) (xs : List A) → EachOnce xs → EachOnce (take n xs)
+once-taken n xs once i j x hi hj = once i j x (get-taken n xs i x hi) (get-taken n xs j x hj)
 
 pub map-push : {A B : Type 0} (f : A → B) (xs : List A) (x : A) → map f (xs ++ x ∷ []) ≡ map f xs ++ f x ∷ []
 map-push f [] x = refl

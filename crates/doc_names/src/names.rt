@@ -1,6 +1,6 @@
 //! Names, numbered in the order of first use.
 
-ghost use Rattle.std.specs.Prelude.{◌≡◌, [], IfOk, OnErr};
+ghost use Rattle.std.specs.Prelude.{◌≡◌, [], IfOk, OnErr, length, take};
 ghost use Rattle.doc_names.specs.Name.{numbered};
 ghost use Rattle.doc_names.specs.Numbering.{EachOnce, Numbered};
 ghost use Rattle.doc_names.specs.inner.Keys.{Extends, KeyOf};
@@ -80,6 +80,22 @@ impl NameTable {
         let key = key_of(&mut self.words, alloc, prefix, local, uri)?;
         let (index, _) = self.keys.insert_full(key)?;
         Ok(NameId::from_index(index))
+    }
+
+    /// How many names have a number.
+    pub fn len(&self) -> usize
+        ensures { result ≡ length self.now }
+    {
+        self.keys.len()
+    }
+
+    /// Forgets all names but the first so many; their words stay, and are found where they are used again.
+    ///
+    /// Takes no memory. Costs the names that go, and those that stay where at least half of them go.
+    pub fn cut(&mut self, len: usize)
+        ensures { self.new ≡ take len self.old }
+    {
+        self.keys.truncate(len);
     }
 
     /// The prefix of a name, empty for a number that no name has.

@@ -1,5 +1,5 @@
--- Lists of node numbers: membership, how often a number stands in a list, the last one, and all below a number.
-use Rattle.std.specs.Prelude.{ℕ, zero, suc, ◌+◌, ◌≤◌, ◌==◌, Bool, false, ◌||◌, List, [], ◌∷◌, ◌++◌, if◌then◌else◌}
+-- Lists of node numbers: membership, how often a number stands in a list, the last one, all below a number, and longer lists.
+use Rattle.std.specs.Prelude.{◌≡◌, ℕ, zero, suc, ◌+◌, ◌≤◌, ◌==◌, Bool, false, ◌||◌, List, [], ◌∷◌, ◌++◌, if◌then◌else◌}
 
 -- whether the number stands in the list
 abbrev pub mem : ℕ → List ℕ → Bool
@@ -24,3 +24,7 @@ last_or n (m ∷ ms) = last_or m ms
 abbrev pub upto : ℕ → List ℕ
 upto zero = []
 upto (suc n) = upto n ++ n ∷ []
+
+-- a list that begins with another
+abbrev pub BeginsWith : {A : Type 0} → List A → List A → Type 0
+BeginsWith {A} before after = (more : List A) × (after ≡ before ++ more)

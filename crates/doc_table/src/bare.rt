@@ -96,6 +96,7 @@ impl Bare {
         ensures sound { IsSound self.new }
         ensures numbered { IfOk result (λ id. Numbered self.old.names self.new.names (record { prefix = prefix.now; local = local.now; uri = uri.now }) id) }
         ensures nodes { table_of self.new ≡ table_of self.old }
+        ensures kept { self.new ≡ record self.old { names = self.new.names } }
         ensures cap { self.new.pair_cap ≡ self.old.pair_cap }
         ensures unchanged { OnErr result (self.new ≡ self.old) }
     {

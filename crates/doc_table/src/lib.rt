@@ -21,6 +21,8 @@ pub use cell::Cell;
 pub use ids::{NodeId, NodeList};
 pub use kind::Kind;
 pub use laws::{laws_from_order, one_table, order_is_by_number};
-pub use limits::{MAX_DEPTH, MAX_LIVE_NODES, MAX_LIVE_TEXT_BYTES, MAX_NODE_NUMBERS};
+pub use limits::{
+    MAX_DEPTH, MAX_LIVE_NODES, MAX_LIVE_TEXT_BYTES, MAX_NODE_NUMBERS, numbers_of_limits,
+};
 pub use new_node::{AppendError, NewNode};
 pub use node::{Decl, Label, Node, NodeContent};

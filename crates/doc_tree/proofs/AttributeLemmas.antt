@@ -1,10 +1,9 @@
 -- An attribute against which nothing speaks may come, or get its value.
-use Rattle.std.proofs.Common.{◌≡◌, ℕ, suc, zero, ◌+◌, ◌≤◌, Bool, true, false, cond, not, ◌&&◌, List, [], ◌∷◌, ◌++◌, length, Option, None, Some, refl, sym, ap, ap₂, ◌∙◌, subst, true≢false, arith, ⊎_elim, eqb, eqb-true, eq-eqb, ltb-false, is_none, is_some, unwrap_or}
+use Rattle.std.proofs.Common.{◌≡◌, ℕ, suc, ◌+◌, ◌≤◌, Bool, true, false, cond, not, ◌&&◌, List, [], ◌∷◌, ◌++◌, length, Option, None, Some, refl, sym, ap, ap₂, ◌∙◌, subst, true≢false, arith, eqb, eqb-true, eq-eqb, ltb-false, is_none, is_some, unwrap_or}
 use Rattle.std.specs.Option.{option_or}
-use Rattle.std.specs.Prelude.{nat_lt, slice_get, slice_index_or}
+use Rattle.std.specs.Prelude.{nat_lt}
 use Rattle.std.specs.Str.{bytes_eq}
 use Rattle.std.proofs.lemmas.Slice.Eq.{bytes_eq-Decides}
-use Rattle.doc_names.specs.Numbering.{Numbered}
 use Rattle.doc_table.specs.declared.kind.Kind.TheVariants.{Element, Attribute, Text}
 use Rattle.doc_table.specs.declared.limits.TheConstants.{MAX_LIVE_NODES, MAX_LIVE_TEXT_BYTES, MAX_NODE_NUMBERS}
 use Rattle.doc_table.specs.Kinds.{can_be_kid, holds_kids, is_document, is_element, is_kind}
@@ -17,7 +16,6 @@ use Rattle.doc_table.proofs.ListLemmas.{mem-head, mem-tail}
 use Rattle.doc_edits.specs.Fitting.{MayGain, MayGo, MaySay}
 use Rattle.doc_edits.specs.Changes.{deleted, deleted_by, kids_beside, meeting, removed}
 use Rattle.doc_edits.specs.Documents.{EditsKeepDocuments}
-use Rattle.doc_edits.specs.Keeping.{NamesGrow}
 use Rattle.doc_tree.specs.declared.refusal.EditRefusal.{EditRefusal}
 use Rattle.doc_tree.specs.declared.refusal.EditRefusal.TheVariants.{WrongKind, NoPrefix, XmlnsName, TooManyNodes, TooMuchText, IdsSpent, TooManyPairs}
 use Rattle.doc_tree.specs.Edited.{attribute_name_at}
@@ -25,22 +23,6 @@ use Rattle.doc_tree.specs.NameTests.{attribute_named, has_name, named}
 use Rattle.doc_tree.specs.Refusals.{declares_namespace, name_refusal, setting_refusal, value_refusal}
 use Rattle.doc_tree.specs.Scope.{attribute_namespace, namespace_or_none, scope_at, xmlns_prefix}
 use Rattle.doc_tree.proofs.RefusalLemmas.{find-in, find-none, is-element, none-of-four, none-of-three, not-true, or-false, or-none}
-
--- a use of a name leaves the names before it where they are
-pub names-grow : (before after : List Name) (name : Name) (number : ℕ) → Numbered before after name number → NamesGrow before after
-names-grow before after name number n =
-    ⊎_elim (λ (e : after ≡ before). let r : NamesGrow before after = ([], e ∙ sym (append-nil before)) in r)
-    (λ (e : (after ≡ before ++ name ∷ []) × (number ≡ length before)). let r : NamesGrow before after = (name ∷ [], e.0) in r) n.added
-  where
-    append-nil : (xs : List Name) → xs ++ [] ≡ xs
-    append-nil [] = refl
-    append-nil (x ∷ xs) = ap (λ l. x ∷ l) (append-nil xs)
-
--- the item with a number
-pub get-number : {A : Type 0} (xs : List A) (i : ℕ) (x d : A) → slice_get xs i ≡ Some x → slice_index_or xs i d ≡ x
-get-number [] i x d h = absurd (true≢false (sym (ap is_some h)))
-get-number (y ∷ ys) zero x d h = ap (λ o. unwrap_or o d) h
-get-number (y ∷ ys) (suc i) x d h = get-number ys i x d h
 
 -- a node with an expanded name passes the test of that name
 pub has-expanded : (T : Table) (a : ℕ) (name : Name) → expanded_of T a ≡ Some (expanded name) → has_name T a name.uri name.local ≡ true

@@ -18,10 +18,10 @@ use Rattle.doc_tree.specs.declared.refusal.EditError.TheVariants.{Refused, Memor
 use Rattle.doc_tree.specs.NameTests.{attribute_named}
 use Rattle.doc_tree.specs.Scope.{attribute_namespace, namespace_or_none, scope_at, xmlns_prefix}
 
--- the answers to a reason: that very one; want of memory may come at any time
+-- the answers to a reason: that very one; want of memory comes only where there is none
 abbrev pub RefusesFor : Option EditRefusal → EditError → Type 0
 RefusesFor reason (Refused found) = reason ≡ Some found
-RefusesFor reason Memory = Unit {0}
+RefusesFor reason Memory = reason ≡ None
 
 -- the answers where no memory is wanted
 abbrev pub RefusesOnlyFor : Option EditRefusal → EditError → Type 0

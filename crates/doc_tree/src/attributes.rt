@@ -1,8 +1,7 @@
 //! Edits of attributes.
 
-ghost use Rattle.std.specs.Prelude.{◌≡◌, true, IfOk, OnOk, OnErr, IfErr, None};
+ghost use Rattle.std.specs.Prelude.{◌≡◌, true, OnOk, OnErr, IfErr, None};
 ghost use Rattle.std.specs.Option.{option_copied};
-ghost use Rattle.doc_names.specs.Numbering.{Numbered};
 ghost use Rattle.doc_table.specs.Kinds.{is_document};
 ghost use Rattle.doc_edits.specs.Changes.{gained};
 ghost use Rattle.doc_tree.specs.Edited.{NamesGrow, attribute_name_at, attribute_set, attribute_unset};
@@ -14,7 +13,6 @@ use crate::declarations::is_xmlns;
 use crate::refusal::{EditError, EditRefusal};
 use crate::tree::Tree;
 use doc_edits::edits_keep_documents;
-use doc_names::NameId;
 use doc_table::NodeId;
 use sch_base::Text;
 use std::alloc::AllocError;
@@ -23,8 +21,8 @@ impl Tree {
     /// Sets the attribute with an expanded name: one that is there gets the value and keeps its prefix, and another comes as
     /// the element's last one. A name without a prefix is in no namespace (Namespaces in XML 1.0, section 6.2).
     ///
-    /// A refused edit changes nothing; after want of memory the nodes are as before. Costs the element's attributes, the
-    /// declarations in scope, and the copying of the value.
+    /// A refused edit, and one that finds no memory, changes nothing, names included; memory is wanted only where nothing
+    /// speaks against the edit. Costs the element's attributes, the declarations in scope, and the copying of the value.
     pub fn set_attr(
         &mut self,
         n: NodeId,
@@ -39,7 +37,7 @@ impl Tree {
         ensures names { NamesGrow self.old.names self.new.names }
         ensures cap { self.new.pair_cap ≡ self.old.pair_cap }
         ensures refused { IfErr result (RefusesFor (setting_refusal self.old n prefix.now local.now value.now)) }
-        ensures unchanged { OnErr result (self.new.nodes ≡ self.old.nodes) }
+        ensures unchanged { OnErr result (self.new ≡ self.old) }
     {
         if let Some(reason) = self.name_refusal(n, prefix, local) {
             return Err(EditError::Refused(reason));
@@ -93,22 +91,11 @@ impl Tree {
         ensures gained { OnOk result (self.new.nodes ≡ gained self.old.nodes n (attribute_name_at self.old.nodes n prefix.now local.now) value.now) }
         ensures names { NamesGrow self.old.names self.new.names }
         ensures cap { self.new.pair_cap ≡ self.old.pair_cap }
-        ensures unchanged { OnErr result (self.new.nodes ≡ self.old.nodes) }
-    {
-        let name = self.attribute_id(n, prefix, local)?;
-        doc_edits::gain(&mut self.bare, n, name, value)?;
-        Ok(())
-    }
-
-    /// The number of the name that an attribute of an element has.
-    fn attribute_id(&mut self, n: NodeId, prefix: &str, local: &str) -> Result<NameId, AllocError>
-        ensures numbered { IfOk result (λ id. Numbered self.old.names self.new.names (attribute_name_at self.old.nodes n prefix.now local.now) id) }
-        ensures nodes { self.new.nodes ≡ self.old.nodes }
-        ensures cap { self.new.pair_cap ≡ self.old.pair_cap }
         ensures unchanged { OnErr result (self.new ≡ self.old) }
     {
         let uri = Text::copy(self.bare.alloc, self.attribute_uri(n, prefix))?;
-        self.name_id(prefix, local, uri.as_str())
+        doc_edits::gain(&mut self.bare, n, prefix, local, uri.as_str(), value)?;
+        Ok(())
     }
 
     /// The attribute of an element with this expanded name; the namespace is empty for none.

@@ -23,7 +23,8 @@ impl Tree {
 
     /// Sets the characters of a text or comment, or the data of a processing instruction. A text must not become empty.
     ///
-    /// A refused edit, and one that finds no memory, changes nothing. Costs the copying of the text.
+    /// A refused edit, and one that finds no memory, changes nothing; memory is wanted only where nothing speaks against the
+    /// edit. Costs the copying of the text.
     pub fn set_text(&mut self, n: NodeId, text: &str) -> Result<(), EditError>
         requires document { is_document self.old.nodes ≡ true }
         ensures within { OnOk result (text_refusal self.old.nodes n text.now ≡ None) }

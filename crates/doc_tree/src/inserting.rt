@@ -80,8 +80,8 @@ impl Tree {
     /// 1. Its nodes take the next numbers in document order; the number of the kid is answered. The names of the piece are
     /// taken as they are.
     ///
-    /// A refused edit changes nothing; after want of memory the nodes are as before. Costs the nodes and the texts of the
-    /// piece, and the kids behind it.
+    /// A refused edit, and one that finds no memory, changes nothing, names included; memory is wanted only where nothing
+    /// speaks against the edit. Costs the nodes and the texts of the piece, and the kids behind it.
     pub fn insert(&mut self, parent: NodeId, at: u32, piece: &Tree) -> Result<NodeId, EditError>
         requires from_1 { 1 ≤ at }
         requires one { length (kids_of piece.now.nodes 0) ≡ 1 }
@@ -93,13 +93,13 @@ impl Tree {
         ensures names { NamesGrow self.old.names self.new.names }
         ensures cap { self.new.pair_cap ≡ self.old.pair_cap }
         ensures refused { IfErr result (RefusesFor (insertion_refusal self.old parent at piece.now.nodes)) }
-        ensures unchanged { OnErr result (self.new.nodes ≡ self.old.nodes) }
+        ensures unchanged { OnErr result (self.new ≡ self.old) }
     {
         if let Err(reason) = self.check_place(parent, at, piece.top_kind()) {
             return Err(EditError::Refused(reason));
         }
-        if let Some(reason) = self.room_refusal(parent, piece) {
-            return Err(EditError::Refused(reason));
+        if let Some(passed) = self.room_refusal(parent, piece) {
+            return Err(EditError::Refused(passed));
         }
         edits_keep_documents();
         let number = doc_edits::insert(&mut self.bare, parent, at as usize - 1, &piece.bare)?;

@@ -42,13 +42,13 @@ module _ (before after : Contents) (n : ℕ) (command : Command) (named : node_n
 
   pub scope : (result : Result Touched ApplyError) → IfOk result (Done before after command n) → IfErr result (NotDone before after command n) → InScope before.nodes → InScope after.nodes
   scope (Ok touched) h g s = h.scope s
-  scope (Err e) h g s = subst InScope (sym g.unchanged) s
+  scope (Err e) h g s = subst (λ (t : Contents). InScope t.nodes) (sym g.unchanged) s
 
   pub refused : (result : Result Touched ApplyError) → IfErr result (NotDone before after command n) → IfErr result (RefusesCommand before command)
   refused (Ok touched) g = tt
   refused (Err (Refused found)) g = ap (refusal_where before command) named ∙ g.refused
-  refused (Err Memory) g = subst (λ o. MayWantMemoryWhere before.nodes command o) (sym named) g.refused
+  refused (Err Memory) g = subst (λ o. MayWantMemoryWhere before command o) (sym named) g.refused
 
-  pub unchanged : (result : Result Touched ApplyError) → IfErr result (NotDone before after command n) → OnErr result (after.nodes ≡ before.nodes)
+  pub unchanged : (result : Result Touched ApplyError) → IfErr result (NotDone before after command n) → OnErr result (after ≡ before)
   unchanged (Ok touched) g = tt
   unchanged (Err e) g = g.unchanged

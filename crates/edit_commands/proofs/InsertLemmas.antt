@@ -26,8 +26,10 @@ use Rattle.doc_edits.specs.Fitting.{MayTake}
 use Rattle.doc_edits.proofs.InsertionWayLemmas.{way-old}
 use Rattle.doc_edit_laws.specs.Along.{Edit, inserts}
 use Rattle.doc_edit_laws.specs.Touching.{touched_kids}
-use Rattle.name_scopes.specs.Fragments.{ScopedPiece, event_nodes, is_too_deep, piece_refusal, plain_text, some_tag, tag_doubles, tag_lacks_prefix}
+use Rattle.name_scopes.specs.Fragments.{Refuses, ScopedPiece, event_nodes, is_too_deep, piece_refusal, plain_text, some_tag, tag_doubles, tag_lacks_prefix}
 use Rattle.name_scopes.specs.Scoping.{InScope}
+use Rattle.name_scopes.specs.declared.refusal.PieceError.{PieceError}
+use Rattle.name_scopes.specs.declared.refusal.PieceError.TheVariants as pieces
 use Rattle.name_scopes_laws.specs.Scopes.{AdditionsKeepScope}
 use Rattle.edit_script.specs.declared.command.Command.TheVariants.{Insert}
 use Rattle.edit_script.specs.declared.command.PathStep.{PathStep}
@@ -35,7 +37,7 @@ use Rattle.edit_commands.specs.declared.refusal.ApplyError.{ApplyError}
 use Rattle.edit_commands.specs.declared.touched.Touched.{Touched}
 use Rattle.edit_commands.specs.declared.touched.Touched.TheVariants.{Below}
 use Rattle.edit_commands.specs.Commands.{RefusesAt, insertion_refusal, size_refusal, top_kind}
-use Rattle.edit_commands.specs.Refusals.{of_edit}
+use Rattle.edit_commands.specs.Refusals.{of_edit, of_piece}
 use Rattle.edit_commands.specs.Touched.{holds_cell}
 use Rattle.edit_commands.specs.inner.Done.{Done}
 use Rattle.edit_commands.proofs.DeleteLemmas.{kids-hold}
@@ -118,7 +120,14 @@ module _ (before : Contents) (n at : ℕ) (events : List Event) (P : Table) (top
 
   pub insert-refused : (e : EditError) → RefusesFor (tree.insertion_refusal before n at P) e → (path : List PathStep) → RefusesAt before (Insert path at events) n (of_edit e)
   insert-refused (edits.Refused found) h path = agrees ∙ h
-  insert-refused edits.Memory h path = tt
+  insert-refused edits.Memory h path = (ap (place_refusal T n at) kind ∙ place, λ plain. free)
+
+-- what refuses the piece refuses the command, and want of memory for the piece is one of the command
+pub piece-refused : (before : Contents) (n at : ℕ) (events : List Event) (top : Kind) → top_kind events ≡ Some top → place_refusal before.nodes n at (Some top) ≡ None →
+    (e : PieceError) → Refuses events (piece_refusal before.nodes n events) e → (path : List PathStep) → RefusesAt before (Insert path at events) n (of_piece e)
+piece-refused before n at events top kind place (pieces.Refused found) h path =
+    ap₂ option_or (ap (place_refusal before.nodes n at) kind ∙ place) (ap (λ (o : Option EditRefusal). option_or o (size_refusal before events)) h)
+piece-refused before n at events top kind place pieces.Memory h path = (ap (place_refusal before.nodes n at) kind ∙ place, h)
 
 -- what holds of an error holds of an answer that is that error
 pub on-error : (result : Result Touched ApplyError) (e : ApplyError) (F : ApplyError → Type 0) → IsErrAnd result (λ x. x ≡ e) → F e → IfErr result F

@@ -1,5 +1,6 @@
 -- What a command of an edit script does to a document: the first reason for which it is refused, or the new tree.
-use Rattle.std.specs.Prelude.{◌≡◌, ◌≢◌, ℕ, ◌+◌, ◌-◌, nat_lt, List, [], ◌∷◌, length, sum_by, Option, None, Some, if◌then◌else◌}
+use Rattle.std.specs.Prelude.{◌≡◌, ◌≢◌, ℕ, ◌+◌, ◌-◌, false, nat_lt, List, [], ◌∷◌, length, sum_by, Option, None, Some, if◌then◌else◌}
+use Rattle.std.specs.List.{list_any}
 use Rattle.std.specs.Option.{option_or}
 use Rattle.pyx_core.specs.declared.event.Event.{Event}
 use Rattle.pyx_core.specs.declared.event.Event.TheVariants as event
@@ -15,7 +16,7 @@ use Rattle.doc_tree.specs.Refusals.{deletion_refusal, place_refusal, setting_ref
 use Rattle.doc_tree.specs.Scope.{scope_at}
 use Rattle.doc_tree.specs.Table.{Contents, Table, parent_of}
 use Rattle.doc_tree.specs.Walks.{order, text_bytes}
-use Rattle.name_scopes.specs.Fragments.{ScopedPiece, event_nodes, piece_refusal, plain_text}
+use Rattle.name_scopes.specs.Fragments.{ScopedPiece, event_nodes, is_start, piece_refusal, plain_text}
 use Rattle.name_scopes.specs.QNames.{local_part, prefix_part}
 use Rattle.edit_script.specs.declared.command.Command.{Command}
 use Rattle.edit_script.specs.declared.command.Command.TheVariants.{Insert, Delete, SetText, SetAttr, UnsetAttr}
@@ -90,25 +91,28 @@ pub record IsEdited (T : Table) (command : Command) (U : Table) : Type 0 where
   pub named : node_named T (path_of command) ≡ Some node
   pub edited : EditedAt T command node U
 
--- whether a command can want memory at its node: not where a node is deleted and no two texts meet, nor where an attribute goes
-abbrev pub MayWantMemory : Table → Command → ℕ → Type 0
-MayWantMemory T (Insert path at piece) n = Unit {0}
-MayWantMemory T (Delete path) n = meeting T n (kids_beside T (parent_of T n)) ≢ None
-MayWantMemory T (SetText path text) n = Unit {0}
-MayWantMemory T (SetAttr path name value) n = Unit {0}
-MayWantMemory T (UnsetAttr path name) n = ⊥
+-- when a command can want memory at its node: where nothing speaks against another text, or against a value; where a fragment
+-- may come at its place and, if it has no tags, whose names are judged with memory, nothing speaks against its nodes; where a
+-- node is deleted and two texts meet; not where an attribute goes
+abbrev pub MayWantMemory : Contents → Command → ℕ → Type 0
+MayWantMemory tree (Insert path at piece) n =
+    (place_refusal tree.nodes n at (top_kind piece) ≡ None) × (list_any is_start piece ≡ false → piece_refusal tree.nodes n piece ≡ None)
+MayWantMemory tree (Delete path) n = meeting tree.nodes n (kids_beside tree.nodes (parent_of tree.nodes n)) ≢ None
+MayWantMemory tree (SetText path text) n = text_refusal tree.nodes n text ≡ None
+MayWantMemory tree (SetAttr path name value) n = setting_refusal tree n (prefix_part name) (local_part name) value ≡ None
+MayWantMemory tree (UnsetAttr path name) n = ⊥
 
 -- the answers to a command that isn't done at its node: the first reason against it, or want of memory where it can come
 abbrev pub RefusesAt : Contents → Command → ℕ → ApplyError → Type 0
 RefusesAt tree command n (Refused found) = refusal_at tree command n ≡ Some found
-RefusesAt tree command n Memory = MayWantMemory tree.nodes command n
+RefusesAt tree command n Memory = MayWantMemory tree command n
 
 -- a path that names no node wants no memory
-abbrev pub MayWantMemoryWhere : Table → Command → Option ℕ → Type 0
-MayWantMemoryWhere T command None = ⊥
-MayWantMemoryWhere T command (Some n) = MayWantMemory T command n
+abbrev pub MayWantMemoryWhere : Contents → Command → Option ℕ → Type 0
+MayWantMemoryWhere tree command None = ⊥
+MayWantMemoryWhere tree command (Some n) = MayWantMemory tree command n
 
 -- the answers to a command that isn't done
 abbrev pub RefusesCommand : Contents → Command → ApplyError → Type 0
 RefusesCommand tree command (Refused found) = command_refusal tree command ≡ Some found
-RefusesCommand tree command Memory = MayWantMemoryWhere tree.nodes command (node_named tree.nodes (path_of command))
+RefusesCommand tree command Memory = MayWantMemoryWhere tree command (node_named tree.nodes (path_of command))

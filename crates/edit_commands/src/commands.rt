@@ -29,8 +29,9 @@ use std::alloc::Global;
 
 /// Does a command of an edit script on a document.
 ///
-/// A refused command changes nothing, and one that finds no memory leaves the nodes as they were. A delete where no two texts
-/// meet takes none, nor does an unset. Costs the kids along the path, and what the edit of the tree costs.
+/// A refused command, and one that finds no memory, changes nothing, names included. A delete where no two texts meet takes
+/// no memory, nor does an unset; another text and a set want it only where nothing speaks against them, and an insert only
+/// where its fragment may come at its place. Costs the kids along the path, and what the edit of the tree costs.
 pub fn apply_to(alloc: Global, tree: &mut Tree, command: &Command) -> Result<Touched, ApplyError>
     requires document { is_document tree.old.nodes ≡ true }
     requires formed { WellFormedCommand command.now }
@@ -43,7 +44,7 @@ pub fn apply_to(alloc: Global, tree: &mut Tree, command: &Command) -> Result<Tou
     ensures names { NamesGrow tree.old.names tree.new.names }
     ensures cap { tree.new.pair_cap ≡ tree.old.pair_cap }
     ensures refused { IfErr result (RefusesCommand tree.old command.now) }
-    ensures unchanged { OnErr result (tree.new.nodes ≡ tree.old.nodes) }
+    ensures unchanged { OnErr result (tree.new ≡ tree.old) }
 {
     let Some(n) = node_named(tree, path_of(command).as_slice()) else {
         return Err(ApplyError::Refused(EditRefusal::NoNode));

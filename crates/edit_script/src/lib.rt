@@ -13,5 +13,5 @@ mod reader;
 
 pub use command::{Command, Path, PathStep};
 pub use fault::{ScriptError, ScriptFault, ScriptKind};
-pub use limits::{MAX_PLACE, MAX_SCRIPT_BYTES};
+pub use limits::{MAX_PLACE, MAX_SCRIPT_BYTES, numbers_of_limits};
 pub use reader::ScriptReader;

@@ -12,7 +12,7 @@ use Rattle.pyx_core.specs.Reader.{ReaderState, Reads, Feeds, Finishes}
 use Rattle.pyx_core.specs.Reading.{completed, events_before_fault, events_of, events_unless, fault_of, CompletedEventsStay, FaultsStay}
 use Rattle.doc_tree.specs.limits.TheConstants.{MAX_LIVE_TEXT_BYTES}
 use Rattle.doc_tree.specs.Laws.{HasWaysUp, WellFormed}
-use Rattle.doc_tree.specs.Table.{Contents}
+use Rattle.doc_tree.specs.Table.{Table}
 use Rattle.name_scopes.specs.declared.build.Loader.{Loader}
 use Rattle.name_scopes.specs.ScopedTree.{Scoped}
 use Rattle.name_scopes.specs.DocFaults.{Refuses, begin, doc_fault, line_fault}
@@ -150,10 +150,10 @@ taken-good bytes loader has =
     let all : events_before_fault Document bytes ≡ has.taken = ap (events_unless Document bytes) has.good ∙ sym has.all in
     doc-fault-is bytes None (going-good (events_before_fault Document bytes) has.later has.taken loader has.going all) has.good
 
-pub taken-loaded : (bytes : List ℕ) (loader : Loader) (tree : Contents) → EventsNest → tree ≡ loader.tree → HasWaysUp tree.nodes → WellFormed tree.nodes → HasTakenAll bytes loader → Scoped (bare (events_of Document bytes)) tree.nodes
-taken-loaded bytes loader tree laws is ways formed has =
-    subst (λ (t : Contents). Scoped (bare (events_of Document bytes)) t.nodes) (sym is)
-    (loaded bytes has.taken has.later loader laws has.good (subst (λ (t : Contents). HasWaysUp t.nodes) is ways) (subst (λ (t : Contents). WellFormed t.nodes) is formed) has.going has.all)
+pub taken-loaded : (bytes : List ℕ) (loader : Loader) (T : Table) → EventsNest → T ≡ loader.tree.nodes → HasWaysUp T → WellFormed T → HasTakenAll bytes loader → Scoped (bare (events_of Document bytes)) T
+taken-loaded bytes loader T laws is ways formed has =
+    subst (Scoped (bare (events_of Document bytes))) (sym is)
+    (loaded bytes has.taken has.later loader laws has.good (subst HasWaysUp is ways) (subst WellFormed is formed) has.going has.all)
 
 -- fewer bytes than 2^64 - 1 were read
 pub few-fed : (bytes piece rest : List ℕ) (reader : ReaderState) (loader : Loader) → length bytes ≤ MAX_LIVE_TEXT_BYTES → (stands : Stands bytes (piece ++ rest) reader loader) → length (stands.fed ++ piece) < 18446744073709551615

@@ -1,16 +1,20 @@
 -- The tests of a fragment, event by event.
-use Rattle.std.proofs.Common.{◌≡◌, ℕ, ◌+◌, ◌<◌, Bool, true, false, ◌||◌, List, [], ◌∷◌, ◌++◌, length, map, get_or, drop, take, None, Some, refl, sym, ap, ap₂, ◌∙◌}
-use Rattle.std.specs.Prelude.{if◌then◌else◌}
+use Rattle.std.proofs.Common.{◌≡◌, ℕ, ◌+◌, ◌<◌, Bool, true, false, ◌||◌, List, [], ◌∷◌, ◌++◌, length, map, get_or, drop, take, Option, None, Some, refl, sym, ap, ap₂, ◌∙◌, subst, true≢false}
+use Rattle.std.specs.List.{list_any}
+use Rattle.std.specs.Prelude.{if◌then◌else◌, Result, Ok, Err, IfErr, IsErrAnd}
 use Rattle.std.proofs.lemmas.List.{drop_more, take_more}
 use Rattle.std.proofs.Math.Seq.{drop-append_seam}
 use Rattle.pyx_core.specs.declared.event.Attr.{Attr}
 use Rattle.pyx_core.specs.declared.event.Event.{Event}
 use Rattle.pyx_core.specs.declared.event.Event.TheVariants as event
+use Rattle.doc_tree.specs.declared.refusal.EditRefusal.{EditRefusal}
 use Rattle.doc_tree.specs.declared.refusal.EditRefusal.TheVariants as refusal
 use Rattle.doc_tree.specs.Scope.{Decl}
 use Rattle.name_scopes.specs.declared.open_tags.OpenTags.{OpenTags}
+use Rattle.name_scopes.specs.declared.refusal.PieceError.{PieceError}
+use Rattle.name_scopes.specs.declared.refusal.PieceError.TheVariants.{Memory}
 use Rattle.name_scopes.specs.DocFaults.{in_scope, outer_scopes}
-use Rattle.name_scopes.specs.Fragments.{some_tag, tag_doubles, tag_lacks_prefix}
+use Rattle.name_scopes.specs.Fragments.{Refuses, is_start, some_tag, tag_doubles, tag_lacks_prefix}
 use Rattle.name_scopes.specs.inner.Piece.{Stands, scopes_after, holds_of_tag, names_refusal}
 use Rattle.name_scopes.specs.inner.Scope.{newest_first}
 use Rattle.name_scopes.proofs.BindingLemmas.{newest-push}
@@ -112,3 +116,29 @@ rest-at events i found below is = drop_more events i found below ∙ ap (λ (x :
 
 pub front-next : (events : List Event) (i : ℕ) (found : Event) → i < length events → found ≡ get_or events i found → take (i + 1) events ≡ take i events ++ found ∷ []
 front-next events i found below is = take_more events i found below ∙ ap (λ (x : Event). take i events ++ x ∷ []) (sym is)
+
+-- without tags no name is faulty
+some-tag-none : (test : List Decl → List ℕ → List Attr → Bool) (scopes : List (List Decl)) (events : List Event) → list_any is_start events ≡ false →
+    some_tag test scopes events ≡ false
+some-tag-none test scopes [] h = refl
+some-tag-none test scopes (event.Start name attrs ∷ events) h = absurd (true≢false h)
+some-tag-none test scopes (event.End name ∷ events) h = some-tag-none test (outer_scopes scopes) events h
+some-tag-none test scopes (event.Chars text ∷ events) h = some-tag-none test scopes events h
+some-tag-none test scopes (event.Pi target body ∷ events) h = some-tag-none test scopes events h
+some-tag-none test scopes (event.Comment text ∷ events) h = some-tag-none test scopes events h
+
+pub plain-names : (around : List Decl) (events : List Event) → list_any is_start events ≡ false → names_refusal around events ≡ None
+plain-names around events h =
+    ap₂ (λ (a b : Bool). if a then Some refusal.NoPrefix else if b then Some refusal.SameAttribute else None)
+    (some-tag-none tag_lacks_prefix (around ∷ []) events h) (some-tag-none tag_doubles (around ∷ []) events h)
+
+-- want of memory where there are tags, and where there is no reason
+pub wanting-tags : {T : Type 0} (r : Result T PieceError) (events : List Event) (reason : Option EditRefusal) → list_any is_start events ≡ true →
+    IsErrAnd r (λ error. error ≡ Memory) → IfErr r (Refuses events reason)
+wanting-tags (Ok x) events reason tags h = tt
+wanting-tags (Err e) events reason tags h = subst (Refuses events reason) (sym h) (λ plain. absurd (true≢false (sym tags ∙ plain)))
+
+pub wanting-none : {T : Type 0} (r : Result T PieceError) (events : List Event) (reason : Option EditRefusal) → reason ≡ None →
+    IsErrAnd r (λ error. error ≡ Memory) → IfErr r (Refuses events reason)
+wanting-none (Ok x) events reason none h = tt
+wanting-none (Err e) events reason none h = subst (Refuses events reason) (sym h) (λ plain. none)

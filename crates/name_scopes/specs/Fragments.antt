@@ -1,5 +1,5 @@
 -- A fragment of a document, and the node under which it is to come: what it breaks, and the tree that it is (Namespaces in XML 1.0).
-use Rattle.std.specs.Prelude.{◌≡◌, ℕ, suc, pred, Bool, false, ◌||◌, nat_lt, ◌+◌, List, [], ◌∷◌, ◌++◌, length, map, sum_by, Option, None, Some, is_none, if◌then◌else◌}
+use Rattle.std.specs.Prelude.{◌≡◌, ℕ, suc, pred, Bool, true, false, ◌||◌, nat_lt, ◌+◌, List, [], ◌∷◌, ◌++◌, length, map, sum_by, Option, None, Some, is_none, if◌then◌else◌}
 use Rattle.std.specs.List.{flat_map, list_any}
 use Rattle.std.specs.Option.{option_or}
 use Rattle.pyx_core.specs.declared.event.Attr.{Attr}
@@ -103,10 +103,19 @@ piece_refusal T p events =
     else if is_too_deep (length (above T p)) events then Some refusal.TooDeep
     else None
 
--- the answers to a fragment that is refused: its first reason; want of memory comes at any time
-abbrev pub Refuses : Option EditRefusal → PieceError → Type 0
-Refuses reason (Refused found) = reason ≡ Some found
-Refuses reason Memory = Unit {0}
+-- whether an event is a start tag
+abbrev pub is_start : Event → Bool
+is_start (event.Start name attrs) = true
+is_start (event.End name) = false
+is_start (event.Chars text) = false
+is_start (event.Pi target body) = false
+is_start (event.Comment text) = false
+
+-- the answers to a fragment that is refused: its first reason; the names of tags are judged with memory, and without tags want
+-- of memory comes only where there is no reason
+abbrev pub Refuses : List Event → Option EditRefusal → PieceError → Type 0
+Refuses events reason (Refused found) = reason ≡ Some found
+Refuses events reason Memory = list_any is_start events ≡ false → reason ≡ None
 
 -- the nodes of a piece are in scope, where these declarations are in scope around it
 abbrev pub PieceInScope : List Decl → Table → Type 0

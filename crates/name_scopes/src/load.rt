@@ -14,24 +14,27 @@ ghost use Rattle.name_scopes.specs.inner.Load.{AreDue, Enter, Going, HasTakenAll
 
 use crate::build::Loader;
 use crate::fault::{DocFault, DocKind, EventError, LoadError};
-use doc_tree::{MAX_LIVE_TEXT_BYTES, Tree};
+use doc_tree::{MAX_LIVE_NODES, MAX_LIVE_TEXT_BYTES, Tree};
 use pyx_core::{FeedError, Located, Mode, Reader, completed_events_stay, events_nest, faults_stay};
 use std::alloc::Global;
 
 /// Loads a document of at most `MAX_LIVE_TEXT_BYTES` bytes: the tree of its events, with each name in the namespace that the
-/// nearest declaration of its prefix gives (Namespaces in XML 1.0, section 6), or its first fault.
+/// nearest declaration of its prefix gives (Namespaces in XML 1.0, section 6), or its first fault. Its pair cap is that of a
+/// new tree.
 ///
 /// Costs time linear in the bytes. Beside the tree it keeps the events of some thousand lines at most.
 pub fn load_tree(alloc: Global, bytes: &[u8]) -> Result<Tree, LoadError>
     requires { length bytes.now ≤ MAX_LIVE_TEXT_BYTES }
     ensures good { OnOk result (doc_fault bytes.now ≡ None) }
     ensures loaded { IfOk result (λ tree. Scoped (bare (events_of Document bytes.now)) tree.nodes) }
+    ensures cap { IfOk result (λ tree. tree.pair_cap ≡ MAX_LIVE_NODES) }
     ensures refused { IfErr result (Refuses (doc_fault bytes.now)) }
 {
     events_nest();
     let mut loader = Loader::new(alloc)?;
     let read = read_document(alloc, &mut loader, bytes);
-    let tree = loader.into_tree();
+    let mut tree = loader.into_tree();
+    tree.set_pair_cap(MAX_LIVE_NODES);
     tree.laws();
     match read {
         Ok(()) => Ok(tree),

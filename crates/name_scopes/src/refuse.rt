@@ -1,16 +1,18 @@
 //! The reasons for which the names and the nodes of a fragment keep it from coming under a node.
 
-ghost use Rattle.std.specs.Prelude.{◌≡◌, ◌≤◌, ◌<◌, ◌+◌, [], ◌∷◌, List, nat_le, sum_by, IfOk, MatchOption};
+ghost use Rattle.std.specs.Prelude.{◌≡◌, ◌≤◌, ◌<◌, ◌+◌, [], ◌∷◌, List, nat_le, sum_by, true, IfOk, MatchOption, OnErr};
+ghost use Rattle.std.specs.List.{list_any};
 ghost use Rattle.pyx_core.specs.declared.event.Event.{Event};
 ghost use Rattle.doc_tree.specs.limits.TheConstants.{MAX_DEPTH};
 ghost use Rattle.doc_tree.specs.Scope.{scope_at};
-ghost use Rattle.name_scopes.specs.Fragments.{event_nodes, is_too_deep, piece_refusal, tag_doubles, tag_lacks_prefix};
+ghost use Rattle.name_scopes.specs.Fragments.{event_nodes, is_start, is_too_deep, piece_refusal, tag_doubles, tag_lacks_prefix};
 ghost use Rattle.name_scopes.specs.inner.Piece.{Stands, deep_from, holds_of_tag, names_refusal};
 
 use crate::around::count_above;
 use crate::build::count_plain;
 use crate::open_tags::OpenTags;
 use crate::scope::Scope;
+use crate::subtree::is_start;
 use crate::tag::{is_unknown, lack_prefix, repeat_expanded};
 use doc_tree::{EditRefusal, MAX_DEPTH, MAX_LIVE_NODES, NodeId, Tree};
 use pyx_core::Event;
@@ -25,7 +27,8 @@ pub(crate) fn refuse_piece(
     parent: NodeId,
     events: &[Event],
 ) -> Result<Option<EditRefusal>, AllocError>
-    ensures { IfOk result (λ found. found ≡ piece_refusal tree.now.nodes parent events.now) }
+    ensures found { IfOk result (λ found. found ≡ piece_refusal tree.now.nodes parent events.now) }
+    ensures memory { OnErr result (list_any is_start events.now ≡ true) }
 {
     if let Some(refusal) = refuse_names(alloc, tree, parent, events)? {
         return Ok(Some(refusal));
@@ -41,17 +44,28 @@ pub(crate) fn refuse_piece(
     Ok(None)
 }
 
-/// The first reason among those of the names.
+/// The first reason among those of the names; only tags have names.
 fn refuse_names(
     alloc: Global,
     tree: &Tree,
     parent: NodeId,
     events: &[Event],
 ) -> Result<Option<EditRefusal>, AllocError>
-    ensures { IfOk result (λ found. found ≡ names_refusal (scope_at tree.now.nodes parent) events.now) }
+    ensures found { IfOk result (λ found. found ≡ names_refusal (scope_at tree.now.nodes parent) events.now) }
+    ensures memory { OnErr result (list_any is_start events.now ≡ true) }
 {
+    if !have_tag(events) {
+        return Ok(None);
+    }
     let mut tags = OpenTags::new(alloc);
     refuse_tags(alloc, &mut tags, tree, parent, events)
+}
+
+/// Whether one of the events is a start tag.
+fn have_tag(events: &[Event]) -> bool
+    ensures { result ≡ list_any is_start events.now }
+{
+    events.iter().any(|event| is_start(event))
 }
 
 /// The first reason among those of the names, where nothing is in scope yet.

@@ -16,15 +16,17 @@ ghost use Rattle.name_scopes.specs.inner.Piece.{IsAcceptable, IsPiece, begins_el
 use crate::build::{Loader, append_leaf};
 use crate::refusal::PieceError;
 use crate::refuse::refuse_piece;
-use doc_tree::{NodeId, Tree};
+use doc_tree::{MAX_LIVE_NODES, NodeId, Tree};
 use pyx_core::{Event, EventList};
 use std::alloc::{AllocError, Global};
 
 /// Loads a fragment as a piece to come under a node of a tree: each name is in the namespace that the nearest declaration of
 /// its prefix gives, in the fragment or at the node and above it (Namespaces in XML 1.0, section 6). Else it answers the
-/// first reason for which the names and the nodes keep the fragment from coming there.
+/// first reason for which the names and the nodes keep the fragment from coming there. The piece's pair cap is that of a new
+/// tree.
 ///
-/// Costs time linear in the fragment and in the declarations in scope at the node.
+/// A fragment without tags wants memory only where nothing refuses it. Costs time linear in the fragment and in the
+/// declarations in scope at the node.
 pub fn load_subtree(
     alloc: Global,
     tree: &Tree,
@@ -39,13 +41,15 @@ pub fn load_subtree(
     ensures loaded { IfOk result (λ piece. ScopedPiece (scope_at tree.now.nodes parent) events.now piece.nodes) }
     ensures nodes { IfOk result (λ piece. length (order piece.nodes) ≡ 1 + sum_by event_nodes events.now) }
     ensures text { IfOk result (λ piece. text_bytes piece.nodes ≡ sum_by plain_text events.now) }
-    ensures refused { IfErr result (Refuses (piece_refusal tree.now.nodes parent events.now)) }
+    ensures cap { IfOk result (λ piece. piece.pair_cap ≡ MAX_LIVE_NODES) }
+    ensures refused { IfErr result (Refuses events.now (piece_refusal tree.now.nodes parent events.now)) }
 {
     if let Some(refusal) = refuse_piece(alloc, tree, parent, events.as_slice())? {
         return Err(PieceError::Refused(refusal));
     }
     tree.laws();
-    let piece = build_piece(alloc, tree, parent, events.as_slice())?;
+    let mut piece = build_piece(alloc, tree, parent, events.as_slice())?;
+    piece.set_pair_cap(MAX_LIVE_NODES);
     Ok(piece)
 }
 
@@ -67,7 +71,7 @@ fn build_piece(
 }
 
 /// Whether an event is a start tag.
-fn is_start(event: &Event) -> bool
+pub(crate) fn is_start(event: &Event) -> bool
     ensures { result ≡ is_start event.now }
 {
     match event {

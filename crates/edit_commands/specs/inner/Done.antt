@@ -23,7 +23,7 @@ pub record Done (before after : Contents) (command : Command) (n : ℕ) (touched
 -- the command wasn't done
 pub record NotDone (before after : Contents) (command : Command) (n : ℕ) (error : ApplyError) : Type 0 where
   pub refused : RefusesAt before command n error
-  pub unchanged : after.nodes ≡ before.nodes
+  pub unchanged : after ≡ before
 
 -- what stays in any case
 pub record Keeps (before after : Contents) : Type 0 where

@@ -15,6 +15,7 @@ use Rattle.name_scopes.specs.declared.build.Loader.{Loader}
 use Rattle.name_scopes.specs.declared.open_tags.OpenTags.{OpenTags}
 use Rattle.name_scopes.specs.Declarations.{declarations}
 use Rattle.name_scopes.specs.DocFaults.{Standing, in_scope, outer_scopes, tag_fault}
+pub use Rattle.name_scopes.specs.Fragments.{is_start}
 use Rattle.name_scopes.specs.Fragments.{IsFragment, ScopedPiece, event_nodes, is_too_deep, names_fault, plain_text, some_tag, tag_doubles, tag_lacks_prefix}
 use Rattle.name_scopes.specs.inner.Build.{Builds, IsLeaf}
 use Rattle.name_scopes.specs.inner.Scope.{newest_first}
@@ -96,13 +97,6 @@ pub record IsPiece (around : List Decl) (events : List Event) (P : Table) : Type
   pub scoped : ScopedPiece around events P
   pub nodes : length (order P) ≡ 1 + sum_by event_nodes events
   pub text : text_bytes P ≡ sum_by plain_text events
-
-abbrev pub is_start : Event → Bool
-is_start (event.Start name attrs) = true
-is_start (event.End name) = false
-is_start (event.Chars text) = false
-is_start (event.Pi target body) = false
-is_start (event.Comment text) = false
 
 -- whether the first of the events is a start tag
 abbrev pub begins_element : List Event → Bool

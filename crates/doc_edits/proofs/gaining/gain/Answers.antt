@@ -1,24 +1,24 @@
--- A sound table with one attribute more is sound, and has it.
-use Rattle.std.proofs.Common.{◌≡◌, ◌+◌, length}
-use Rattle.doc_table.specs.inner.Parts.{table_of}
-use Rattle.doc_table.specs.inner.Sound.{Sound}
-use Rattle.doc_table.specs.inner.Views.{table_seen}
-use Rattle.doc_table.specs.Table.{numbered}
-use Rattle.doc_edits.specs.Changes.{gained}
-use Rattle.doc_edits.proofs.KeptGainLemmas.{gained-sound}
+-- A name that was numbered in vain is forgotten again.
+use Rattle.std.proofs.Common.{◌≡◌, length, sym, ap, ◌∙◌, subst}
+use Rattle.doc_table.specs.inner.Parts.{Parts, IsSound}
+use Rattle.doc_edits.proofs.CopyLemmas.{grows-same}
+use Rattle.doc_edits.proofs.NamingLemmas.{cut-parts, names-grow}
 use Rattle.doc_edits.proofs.gaining.gain.Goals as goal
 
-outcome : (c : goal.After-bare-2-1) →
-    Sound c.attach.new.nodes.items c.bare.inside.names (c.bare.inside.live + 1) (c.bare.inside.text_bytes + length c.args.value.now)
-    × (table_seen c.bare.inside.names c.attach.new.nodes.items ≡ gained (table_of c.args.bare.now) c.args.n (numbered c.args.bare.now.names c.args.name) c.args.value.now)
-outcome c =
-    gained-sound c.args.bare.now c.bare.inside.names c.bare.inside.nodes.items c.attach.new.nodes.items c.bare.inside.live c.bare.inside.text_bytes c.bare.inside.pair_cap c.args.n
-    c.depth_under-depth.result c.next_place-place.result c.next_number-number.result c.args.name c.args.value.now c.in_ok-text.text c.new.result c.new-2.result
-    c.bare.view_is c.next_number-number.ensures c.new.ensures c.new-2.ensures c.in_ok-text.ensures c.depth_under-depth.ensures c.next_place-place.ensures
-    c.in_ok-attach.ensures.attached c.requires.sound c.requires.known c.requires.may
+pub returns-in-Ok-clause-names : goal.returns-in-Ok-clause-names
+returns-in-Ok-clause-names c =
+    let grown = names-grow _ _ _ _ c.in_ok-name.ensures.numbered in
+    (grown.0, c.gain_named.ensures.names ∙ grown.1)
 
-pub returns-clause-sound : goal.returns-clause-sound
-returns-clause-sound c = (outcome c).0
+back : (c : goal.After-cut) →
+    record { nodes = c.bare-2.inside.nodes.items; names = c.cut.new.self; live = c.bare-2.inside.live; text_bytes = c.bare-2.inside.text_bytes; pair_cap = c.bare-2.inside.pair_cap } ≡ c.args.bare.now
+back c =
+    cut-parts c.args.bare.now c.name_id.new.self c.bare-2.inside.nodes.items c.bare-2.inside.names c.cut.new.self c.bare-2.inside.live c.bare-2.inside.text_bytes c.bare-2.inside.pair_cap
+    c.len-known.result (c.bare-2.view_is ∙ c.in-Err.ensures.unchanged) c.name_id.ensures.kept (names-grow _ _ _ _ c.in_ok-name.ensures.numbered)
+    (c.len-known.ensures ∙ ap (λ (parts : Parts). length parts.names) c.bare.view_is) c.cut.ensures
 
-pub returns-clause-gained : goal.returns-clause-gained
-returns-clause-gained c = (outcome c).1
+pub returns-in-Err-clause-sound : goal.returns-in-Err-clause-sound
+returns-in-Err-clause-sound c = subst IsSound (sym (back c)) c.requires.sound
+
+pub returns-in-Err-clause-names : goal.returns-in-Err-clause-names
+returns-in-Err-clause-names c = grows-same _ _ (ap (λ (parts : Parts). parts.names) (back c))

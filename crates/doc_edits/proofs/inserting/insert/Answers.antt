@@ -1,59 +1,14 @@
--- The copies show the piece under its new numbers, and the nodes with them are those of a tree.
-use Rattle.std.proofs.Common.{◌≡◌, ◌+◌, true, length, refl, ap, ◌∙◌, arith}
-use Rattle.doc_names.proofs.NameLemmas.{on_err}
-use Rattle.doc_table.specs.Table.{is_live}
-use Rattle.doc_table.specs.inner.Parts.{table_of}
-use Rattle.doc_table.specs.inner.Sound.{Sound}
-use Rattle.doc_table.specs.inner.Views.{table_seen}
-use Rattle.doc_table.proofs.Appending.{holder-live}
-use Rattle.doc_edits.specs.Changes.{inserted}
+-- Names that were numbered in vain are forgotten again.
+use Rattle.std.proofs.Common.{length, ap, ◌∙◌}
+use Rattle.doc_table.specs.inner.Parts.{Parts}
 use Rattle.doc_edits.proofs.CopyLemmas.{grows-same}
-use Rattle.doc_edits.proofs.InsertedLemmas.{behind-few, kept, names-grown, put-named}
+use Rattle.doc_edits.proofs.NamingLemmas.{cut-parts}
 use Rattle.doc_edits.proofs.inserting.insert.Goals as goal
 
-pub returns-in_err-copies-clause-sound : goal.returns-in_err-copies-clause-sound
-returns-in_err-copies-clause-sound c =
-    (names-grown c.args.bare.now c.copy_piece.new.bare c.copy_piece.ensures.kept c.copy_piece.ensures.grown c.requires.sound).0
-
-pub returns-in_err-copies-clause-unchanged : goal.returns-in_err-copies-clause-unchanged
-returns-in_err-copies-clause-unchanged c =
-    on_err _ _ (names-grown c.args.bare.now c.copy_piece.new.bare c.copy_piece.ensures.kept c.copy_piece.ensures.grown c.requires.sound).1
-
-pub graft-requires-clause-few : goal.graft-requires-clause-few
-graft-requires-clause-few c =
-    let live : is_live (table_of c.args.bare.now) c.args.parent ≡ true = holder-live (table_of c.args.bare.now) c.args.parent c.requires.may.under in
-    omega (
-      arith,
-      ap length (c.as_slice.ensures ∙ c.in_ok-behind.ensures),
-      behind-few c.args.bare.now c.requires.sound c.args.parent c.args.before live c.requires.may.among,
-    )
-
-pub returns-in_err-graft-clause-sound : goal.returns-in_err-graft-clause-sound
-returns-in_err-graft-clause-sound c =
-    let named = names-grown c.args.bare.now c.copy_piece.new.bare c.in_ok-copies.ensures.kept c.in_ok-copies.ensures.grown c.requires.sound in
-    (kept c.copy_piece.new.bare c.bare.inside.nodes.items c.graft.new.nodes.items c.bare.inside.names c.bare.inside.names c.bare.inside.live c.bare.inside.text_bytes c.bare.inside.pair_cap
-    c.bare.view_is c.in_err-graft.ensures.unchanged (grows-same c.bare.inside.names c.bare.inside.names refl) named.0).0
-
-pub returns-in_err-graft-clause-unchanged : goal.returns-in_err-graft-clause-unchanged
-returns-in_err-graft-clause-unchanged c =
-    let named = names-grown c.args.bare.now c.copy_piece.new.bare c.in_ok-copies.ensures.kept c.in_ok-copies.ensures.grown c.requires.sound in
-    on_err _ _
-    ((kept c.copy_piece.new.bare c.bare.inside.nodes.items c.graft.new.nodes.items c.bare.inside.names c.bare.inside.names c.bare.inside.live c.bare.inside.text_bytes c.bare.inside.pair_cap
-    c.bare.view_is c.in_err-graft.ensures.unchanged (grows-same c.bare.inside.names c.bare.inside.names refl) named.0).1 ∙ named.1)
-
-outcome : (c : goal.After-drop-behind-inside-2) →
-    Sound c.graft.new.nodes.items c.bare.inside.names (c.bare.inside.live + c.len-count.result) (c.bare.inside.text_bytes + c.piece.inside.text_bytes)
-    × (table_seen c.bare.inside.names c.graft.new.nodes.items ≡ inserted (table_of c.args.bare.now) c.args.parent c.args.before (table_of c.args.piece.now))
-outcome c =
-    let named = names-grown c.args.bare.now c.copy_piece.new.bare c.in_ok-copies.ensures.kept c.in_ok-copies.ensures.grown c.requires.sound in
-    put-named (table_of c.args.bare.now) c.copy_piece.new.bare c.args.piece.now c.bare.inside.nodes.items c.graft.new.nodes.items c.in_ok-copies.copies.items c.bare.inside.names
-    c.bare.inside.live c.bare.inside.text_bytes c.bare.inside.pair_cap c.args.parent c.args.before c.next_number-first.result c.len-count.result c.piece.inside.text_bytes
-    c.as_slice.result.now named.1 c.bare.view_is c.next_number-first.ensures (c.as_slice.ensures ∙ c.in_ok-behind.ensures)
-    (ap (λ parts. parts.text_bytes) c.piece.view_is) (omega (arith, c.len-count.ensures, c.in_ok-copies.copies.ok)) c.in_ok-graft.ensures.grafted
-    named.0 c.requires.piece c.requires.may c.in_ok-copies.ensures.copied
-
-pub returns-clause-sound : goal.returns-clause-sound
-returns-clause-sound c = (outcome c).0
-
-pub returns-clause-inserted : goal.returns-clause-inserted
-returns-clause-inserted c = (outcome c).1
+pub returns-in-Err-clause-names : goal.returns-in-Err-clause-names
+returns-in-Err-clause-names c =
+    grows-same _ _
+    (ap (λ (parts : Parts). parts.names)
+    (cut-parts c.args.bare.now c.put_piece.new.bare c.bare-2.inside.nodes.items c.bare-2.inside.names c.cut.new.self c.bare-2.inside.live c.bare-2.inside.text_bytes c.bare-2.inside.pair_cap
+    c.len-known.result c.bare-2.view_is c.in-Err.ensures.kept c.put_piece.ensures.names
+    (c.len-known.ensures ∙ ap (λ (parts : Parts). length parts.names) c.bare.view_is) c.cut.ensures))

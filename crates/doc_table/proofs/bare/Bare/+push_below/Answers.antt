@@ -27,7 +27,7 @@ loop-kid-init t c = sym (append-nil c.push_all.new.self)
 pub loop-kid-preserved : goal.loop-kid-preserved
 loop-kid-preserved t c =
     let next = flat_map-next (below (table_of c.args.self.now)) c.kids-kid-items.result.now c.loop-kid.kid-index c.kid-item.result c.kid-item.is c.loop-kid-test.true in
-    c.in_ok-push_below.ensures ∙ rw (next, c.loop-kid.invariant) (append_assoc c.push_all.new.self _ _)
+    c.in_ok-push_below.ensures.pushed ∙ rw (next, c.loop-kid.invariant) (append_assoc c.push_all.new.self _ _)
 
 -- the node, its attributes, and what the kids gave
 gathered : (start pushed all list items attributes : List ℕ) (n i : ℕ) (f : ℕ → List ℕ) → pushed ≡ start ++ n ∷ [] → all ≡ pushed ++ attributes →
@@ -36,15 +36,15 @@ gathered start pushed all list items attributes n i f pushed_is all_is list_is o
     list_is ∙ rw (all_is, pushed_is, take_all i items over)
     (append_assoc (start ++ n ∷ []) attributes (flat_map f items) ∙ append_assoc start (n ∷ []) (attributes ++ flat_map f items))
 
-pub returns : goal.returns
-returns t c =
+pub returns-clause-pushed : goal.returns-clause-pushed
+returns-clause-pushed t c =
     let T : Table = table_of c.args.self.now in
     gathered c.args.list.now c.push.new.self c.push_all.new.self c.loop-kid.list c.kids-kid-items.result.now c.attrs.result.now c.args.n c.loop-kid.kid-index (below T)
     c.in_ok-push.ensures.pushed c.in_ok-push_all.ensures.pushed c.loop-kid.invariant c.loop-kid-test.false
     ∙ rw (c.laws.ensures.ordered.below_at c.args.n, c.attrs.ensures, c.kids-kid-items.ensures) refl
 
-pub returns-in_err-push_all : goal.returns-in_err-push_all
-returns-in_err-push_all t c = IfOk-from_err c.from_residual-in_err-push_all.result _ c.from_residual-in_err-push_all.ensures.0
+pub returns-in_err-push_all-clause-pushed : goal.returns-in_err-push_all-clause-pushed
+returns-in_err-push_all-clause-pushed t c = IfOk-from_err c.from_residual-in_err-push_all.result _ c.from_residual-in_err-push_all.ensures.0
 
-pub returns-in_err-push_below : goal.returns-in_err-push_below
-returns-in_err-push_below t c = IfOk-from_err c.from_residual-in_err-push_below.result _ c.from_residual-in_err-push_below.ensures.0
+pub returns-in_err-push_below-clause-pushed : goal.returns-in_err-push_below-clause-pushed
+returns-in_err-push_below-clause-pushed t c = IfOk-from_err c.from_residual-in_err-push_below.result _ c.from_residual-in_err-push_below.ensures.0

@@ -3,7 +3,7 @@ use Rattle.std.proofs.Common.{◌-◌, [], length, refl, ap, ap₂, sym, ◌∙�
 use Rattle.std.specs.Option.{option_or}
 use Rattle.doc_table.specs.Kinds.{is_document}
 use Rattle.doc_table.specs.Table.{Contents}
-use Rattle.doc_table.specs.inner.Parts.{table_of}
+use Rattle.doc_table.specs.inner.Parts.{contents, table_of}
 use Rattle.doc_table.specs.inner.Sound.{Formed}
 use Rattle.doc_table.proofs.TreeLaws.{ordered}
 use Rattle.doc_edits.specs.Changes.{inserted}
@@ -71,7 +71,7 @@ pub returns-in_err-number-clause-number : goal.returns-in_err-number-clause-numb
 returns-in_err-number-clause-number c = IfOk-from_err c.from_residual.result _ c.from_residual.ensures.0
 
 pub returns-in_err-number-clause-document : goal.returns-in_err-number-clause-document
-returns-in_err-number-clause-document c = ap is_document c.in_err-number.ensures.unchanged ∙ (ap (λ (t : Contents). is_document t.nodes) c.self.view_is ∙ c.requires.document)
+returns-in_err-number-clause-document c = ap (λ parts. is_document (table_of parts)) c.in_err-number.ensures.unchanged ∙ (ap (λ (t : Contents). is_document t.nodes) c.self.view_is ∙ c.requires.document)
 
 pub returns-in_err-number-clause-names : goal.returns-in_err-number-clause-names
 returns-in_err-number-clause-names c = subst (λ (t : Contents). NamesGrow t.names c.insert.new.bare.names) c.self.view_is c.insert.ensures.names
@@ -80,10 +80,13 @@ pub returns-in_err-number-clause-cap : goal.returns-in_err-number-clause-cap
 returns-in_err-number-clause-cap c = c.insert.ensures.cap ∙ ap (λ (t : Contents). t.pair_cap) c.self.view_is
 
 pub returns-in_err-number-clause-refused : goal.returns-in_err-number-clause-refused
-returns-in_err-number-clause-refused c = wanting c.from_residual.result _ c.from_residual.ensures.1
+returns-in_err-number-clause-refused c =
+    wanting c.from_residual.result _
+    (nothing-against c.args.self.now c.args.parent c.args.at c.args.piece.now.nodes c.top_kind.result c.room_refusal.result c.top_kind.ensures.kind c.in_default.ensures.good
+    c.room_refusal.ensures c.in_default-room_refusal.is) c.from_residual.ensures.1
 
 pub returns-in_err-number-clause-unchanged : goal.returns-in_err-number-clause-unchanged
-returns-in_err-number-clause-unchanged c = on_err c.from_residual.result _ (c.in_err-number.ensures.unchanged ∙ ap (λ (t : Contents). t.nodes) c.self.view_is)
+returns-in_err-number-clause-unchanged c = on_err c.from_residual.result _ (ap contents c.in_err-number.ensures.unchanged ∙ c.self.view_is)
 
 -- where the piece is there
 

@@ -3,7 +3,7 @@ use Rattle.std.proofs.Common.{[], refl, ap, ap₂, ◌∙◌, sym, subst, append
 use Rattle.std.specs.Option.{option_or}
 use Rattle.doc_table.specs.Kinds.{is_document}
 use Rattle.doc_table.specs.Table.{Contents}
-use Rattle.doc_table.specs.inner.Parts.{table_of}
+use Rattle.doc_table.specs.inner.Parts.{contents, table_of}
 use Rattle.doc_table.specs.inner.Sound.{Formed}
 use Rattle.doc_edits.specs.Changes.{said}
 use Rattle.doc_edits.specs.Fitting.{MaySay}
@@ -77,10 +77,13 @@ pub returns-in_err-say-in-Some-found-clause-cap : goal.returns-in_err-say-in-Som
 returns-in_err-say-in-Some-found-clause-cap c = c.say.ensures.cap ∙ ap (λ (t : Contents). t.pair_cap) c.self.view_is
 
 pub returns-in_err-say-in-Some-found-clause-refused : goal.returns-in_err-say-in-Some-found-clause-refused
-returns-in_err-say-in-Some-found-clause-refused c = wanting c.from_residual.result _ c.from_residual.ensures.1
+returns-in_err-say-in-Some-found-clause-refused c =
+    wanting c.from_residual.result _
+    (nothing-against-value c.args.self.now c.args.n c.args.prefix.now c.args.local.now c.args.value.now c.attribute_uri-uri.result.now c.attribute_named-found.result c.name_refusal.result
+    c.value_refusal.result c.name_refusal.ensures c.in_default.is c.attribute_uri-uri.ensures c.attribute_named-found.ensures c.value_refusal.ensures c.in_default-value_refusal.is) c.from_residual.ensures.1
 
 pub returns-in_err-say-in-Some-found-clause-unchanged : goal.returns-in_err-say-in-Some-found-clause-unchanged
-returns-in_err-say-in-Some-found-clause-unchanged c = on_err c.from_residual.result _ (ap table_of c.in_err-say-in-Some-found.ensures.unchanged ∙ ap (λ (t : Contents). t.nodes) c.self.view_is)
+returns-in_err-say-in-Some-found-clause-unchanged c = on_err c.from_residual.result _ (ap contents c.in_err-say-in-Some-found.ensures.unchanged ∙ c.self.view_is)
 
 -- where a new attribute finds no memory
 
@@ -91,7 +94,7 @@ pub returns-in_err-gain-in-None-clause-edited : goal.returns-in_err-gain-in-None
 returns-in_err-gain-in-None-clause-edited c = IfOk-from_err c.from_residual-in_err-gain-in-None.result _ c.from_residual-in_err-gain-in-None.ensures.0
 
 pub returns-in_err-gain-in-None-clause-document : goal.returns-in_err-gain-in-None-clause-document
-returns-in_err-gain-in-None-clause-document c = ap is_document c.in_err-gain-in-None.ensures.unchanged ∙ c.requires.document
+returns-in_err-gain-in-None-clause-document c = ap (λ (t : Contents). is_document t.nodes) c.in_err-gain-in-None.ensures.unchanged ∙ c.requires.document
 
 pub returns-in_err-gain-in-None-clause-names : goal.returns-in_err-gain-in-None-clause-names
 returns-in_err-gain-in-None-clause-names c = c.gain.ensures.names
@@ -100,7 +103,10 @@ pub returns-in_err-gain-in-None-clause-cap : goal.returns-in_err-gain-in-None-cl
 returns-in_err-gain-in-None-clause-cap c = c.gain.ensures.cap
 
 pub returns-in_err-gain-in-None-clause-refused : goal.returns-in_err-gain-in-None-clause-refused
-returns-in_err-gain-in-None-clause-refused c = wanting c.from_residual-in_err-gain-in-None.result _ c.from_residual-in_err-gain-in-None.ensures.1
+returns-in_err-gain-in-None-clause-refused c =
+    wanting c.from_residual-in_err-gain-in-None.result _
+    (nothing-against-value c.args.self.now c.args.n c.args.prefix.now c.args.local.now c.args.value.now c.attribute_uri-uri.result.now c.attribute_named-found.result c.name_refusal.result
+    c.value_refusal.result c.name_refusal.ensures c.in_default.is c.attribute_uri-uri.ensures c.attribute_named-found.ensures c.value_refusal.ensures c.in_default-value_refusal.is) c.from_residual-in_err-gain-in-None.ensures.1
 
 pub returns-in_err-gain-in-None-clause-unchanged : goal.returns-in_err-gain-in-None-clause-unchanged
 returns-in_err-gain-in-None-clause-unchanged c = on_err c.from_residual-in_err-gain-in-None.result _ c.in_err-gain-in-None.ensures.unchanged

@@ -40,7 +40,7 @@ pub returns-in_err-say-clause-cap : goal.returns-in_err-say-clause-cap
 returns-in_err-say-clause-cap c = c.say.ensures.cap ∙ ap (λ (t : Contents). t.pair_cap) c.self.view_is
 
 pub returns-in_err-say-clause-refused : goal.returns-in_err-say-clause-refused
-returns-in_err-say-clause-refused c = wanting c.from_residual.result _ c.from_residual.ensures.1
+returns-in_err-say-clause-refused c = wanting c.from_residual.result _ (sym c.text_refusal.ensures ∙ c.in_default.is) c.from_residual.ensures.1
 
 pub returns-in_err-say-clause-unchanged : goal.returns-in_err-say-clause-unchanged
 returns-in_err-say-clause-unchanged c = on_err c.from_residual.result _ (ap contents c.in_err-say.ensures.unchanged ∙ c.self.view_is)
