@@ -1,34 +1,32 @@
 //! The application of functions (XPath 1.0, section 4; XSLT 1.0, section 12.4).
 
-ghost use Rattle.std.specs.Prelude.{◌≡◌, ℕ, List, [], ◌∷◌, length, Result, IfOk};
+ghost use Rattle.std.specs.Prelude.{◌≡◌, ℕ, [], ◌∷◌, length};
 ghost use Rattle.xp_outcome.specs.Evaluation.{bind, done};
 ghost use Rattle.xp_outcome.specs.Running.{Ran};
 ghost use Rattle.xp_meaning.specs.Results.{shown};
 ghost use Rattle.xp_values.specs.Outcomes.{Gives};
 ghost use Rattle.xp_values.specs.declared.values.Value.TheVariants as values;
-ghost use Rattle.xp_values.specs.declared.values.EvalFault.{EvalFault};
 ghost use Rattle.xp_values.specs.Texts.{normalize_space, string_length};
-ghost use Rattle.xp_meaning.specs.Functions.{applied, as_chars, as_truth, counted, number_or_own, text_or_own};
+ghost use Rattle.xp_meaning.specs.Conversions.{sum_in};
+ghost use Rattle.xp_meaning.specs.Functions.{applied, as_number, as_text, as_truth, counted, nodes_at, number_or_own, text_at, text_or_own};
 ghost use Rattle.xp_meaning.specs.Language.{in_language};
 
-use crate::arguments::{
-    length_in, named_node, nodes_at, number_at, number_of, text_at, text_of, truth_at,
-};
+use crate::arguments::{nodes_at, number_at, number_of, text_at, text_of, truth_at};
 use crate::caller::Caller;
 use crate::converting::{allocated, number_value, text_value};
-use crate::joining::join;
 use crate::language::in_language;
+use crate::text_functions::{
+    as_chars, concat, contains, starts_with, substring, substring_after, substring_before,
+    translate,
+};
 use doc_tree::NodeId;
 use sch_base::{ItemList, Text};
-use std::alloc::{AllocError, Global};
+use std::alloc::Global;
 use std::sync::ledger::Ledger;
 use xp_meaning::Context;
 use xp_outcome::{Recorder, Steps};
 use xp_typed_tree::Function;
-use xp_values::{
-    EvalError, Num, Value, contains, normalize_space, starts_with, string_length, substring,
-    substring_after, substring_before, translate,
-};
+use xp_values::{EvalError, Num, Value, normalize_space, string_length};
 
 impl Caller<'_> {
     /// What the function gives for arguments that are evaluated and converted as it wants them.
@@ -49,42 +47,69 @@ impl Caller<'_> {
             Function::Last => Ok(counted(at.size)),
             Function::Position => Ok(counted(at.position)),
             Function::Current => node_set_of(alloc, at.current),
-            Function::Count => Ok(count(nodes_at(args, 0))),
-            Function::Sum => number_value(self.sum_in(nodes_at(args, 0), reads, steps)),
-            Function::LocalName => as_chars(self.local_name(named_node(at, args))),
-            Function::NamespaceUri => as_chars(self.namespace_uri(named_node(at, args))),
-            Function::Name => as_chars(self.written_name(named_node(at, args))),
-            Function::String => text_value(self.text_or_own(at, args, reads, steps)),
-            Function::Number => number_value(self.number_or_own(at, args, reads, steps)),
+            Function::Count => Ok(count(args)),
+            Function::Sum => self.sum(args, reads, steps),
+            Function::LocalName => self.local_name(at, args),
+            Function::NamespaceUri => self.namespace_uri(at, args),
+            Function::Name => self.name(at, args),
+            Function::String => self.string(at, args, reads, steps),
+            Function::Number => self.number(at, args, reads, steps),
             Function::Boolean => Ok(Value::Truth(truth_at(args, 0))),
             Function::Not => Ok(Value::Truth(!truth_at(args, 0))),
             Function::True => Ok(Value::Truth(true)),
             Function::False => Ok(Value::Truth(false)),
-            Function::Concat => as_value(join(alloc, args)),
-            Function::StartsWith => Ok(Value::Truth(starts_with(
-                text_at(args, 0),
-                text_at(args, 1),
-            ))),
-            Function::Contains => Ok(Value::Truth(contains(text_at(args, 0), text_at(args, 1)))),
-            Function::SubstringBefore => {
-                as_chars(substring_before(alloc, text_at(args, 0), text_at(args, 1)))
-            }
-            Function::SubstringAfter => {
-                as_chars(substring_after(alloc, text_at(args, 0), text_at(args, 1)))
-            }
-            Function::Substring => {
-                as_chars(substring(alloc, text_at(args, 0), number_at(args, 1), length_in(args)))
-            }
+            Function::Concat => concat(alloc, args),
+            Function::StartsWith => Ok(starts_with(args)),
+            Function::Contains => Ok(contains(args)),
+            Function::SubstringBefore => substring_before(alloc, args),
+            Function::SubstringAfter => substring_after(alloc, args),
+            Function::Substring => substring(alloc, args),
             Function::StringLength => self.length_of(at, args, reads, steps),
             Function::NormalizeSpace => self.normalize(at, args, reads, steps),
-            Function::Translate => {
-                as_value(translate(alloc, text_at(args, 0), text_at(args, 1), text_at(args, 2)))
-            }
-            Function::Lang => self.is_in_language(at.node, text_at(args, 0), reads),
+            Function::Translate => translate(alloc, args),
+            Function::Lang => self.is_in_language(at, args, reads),
             Function::Floor | Function::Ceiling | Function::Round => {
                 Ok(Value::Number(number_at(args, 0)))
             }
         }
+    }
+
+    /// `sum`.
+    fn sum<L: Ledger>(
+        &self,
+        args: &[Value],
+        reads: &mut Recorder,
+        steps: &mut Steps<L>,
+    ) -> Result<Value, EvalError>
+        ensures { Ran (as_number (sum_in self.now.tree.now.nodes (nodes_at args.now 0))) (shown result) reads.old reads.new steps.old steps.new }
+    {
+        number_value(self.sum_in(nodes_at(args, 0), reads, steps))
+    }
+
+    /// `string`.
+    fn string<L: Ledger>(
+        &self,
+        at: &Context,
+        args: &[Value],
+        reads: &mut Recorder,
+        steps: &mut Steps<L>,
+    ) -> Result<Value, EvalError>
+        ensures { Ran (as_text (text_or_own self.now.tree.now.nodes at.now args.now)) (shown result) reads.old reads.new steps.old steps.new }
+    {
+        text_value(self.text_or_own(at, args, reads, steps))
+    }
+
+    /// `number`.
+    fn number<L: Ledger>(
+        &self,
+        at: &Context,
+        args: &[Value],
+        reads: &mut Recorder,
+        steps: &mut Steps<L>,
+    ) -> Result<Value, EvalError>
+        ensures { Ran (as_number (number_or_own self.now.tree.now.nodes at.now args.now)) (shown result) reads.old reads.new steps.old steps.new }
+    {
+        number_value(self.number_or_own(at, args, reads, steps))
     }
 
     /// The text of the argument, or the string-value of the context node without one.
@@ -160,13 +185,13 @@ impl Caller<'_> {
     /// `lang`.
     fn is_in_language(
         &self,
-        n: NodeId,
-        wanted: &str,
+        at: &Context,
+        args: &[Value],
         reads: &mut Recorder,
     ) -> Result<Value, EvalError>
-        ensures { (count : ℕ) → Ran (as_truth (in_language self.now.tree.now.nodes n wanted.now)) (shown result) reads.old reads.new count count }
+        ensures { (count : ℕ) → Ran (as_truth (in_language self.now.tree.now.nodes at.now.node (text_at args.now 0))) (shown result) reads.old reads.new count count }
     {
-        match in_language(self.tree, n, wanted, reads) {
+        match in_language(self.tree, at.node, text_at(args, 0), reads) {
             Ok(truth) => Ok(Value::Truth(truth)),
             Err(_) => Err(EvalError::Memory),
         }
@@ -180,11 +205,11 @@ fn counted(count: u32) -> Value
     Value::Number(Num::Whole(i64::from(count)))
 }
 
-/// How many nodes there are.
-fn count(nodes: &[NodeId]) -> Value
-    ensures { result ≡ counted (length nodes.now) }
+/// `count`.
+fn count(args: &[Value]) -> Value
+    ensures { result ≡ counted (length (nodes_at args.now 0)) }
 {
-    Value::Number(Num::Whole(nodes.len() as i64))
+    Value::Number(Num::Whole(nodes_at(args, 0).len() as i64))
 }
 
 /// The node-set of one node.
@@ -193,24 +218,4 @@ fn node_set_of(alloc: Global, n: NodeId) -> Result<Value, EvalError>
 {
     let nodes = ItemList::of_one(alloc, n)?;
     Ok(Value::NodeSet(nodes))
-}
-
-/// A text as a value.
-fn as_chars(text: Result<Text, AllocError>) -> Result<Value, EvalError>
-    ensures { (meant : List ℕ) → IfOk text (λ t. t ≡ meant) → Gives result (Ok (values.Chars meant)) }
-{
-    match text {
-        Ok(text) => Ok(Value::Chars(text)),
-        Err(_) => Err(EvalError::Memory),
-    }
-}
-
-/// A text or a fault as a value or that fault.
-fn as_value(text: Result<Text, EvalError>) -> Result<Value, EvalError>
-    ensures { (meant : Result (List ℕ) EvalFault) → Gives text meant → Gives result (as_chars meant) }
-{
-    match text {
-        Ok(text) => Ok(Value::Chars(text)),
-        Err(error) => Err(error),
-    }
 }

@@ -12,6 +12,7 @@ mod language;
 mod names;
 mod operators;
 mod reading;
+mod text_functions;
 
 pub use arguments::wanted;
 pub use caller::Caller;

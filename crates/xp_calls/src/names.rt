@@ -1,18 +1,46 @@
 //! The names of nodes (XPath 1.0, section 4.1).
 
-ghost use Rattle.std.specs.Prelude.{◌≡◌, ◌<◌, length, option_map, IfSome, IfOk};
+ghost use Rattle.std.specs.Prelude.{◌≡◌, ◌<◌, length, option_map, IfSome, IfOk, Ok};
 ghost use Rattle.doc_tree.specs.Table.{Name, name_of, numbered};
 ghost use Rattle.doc_tree.specs.QNames.{spelled_name};
+ghost use Rattle.xp_meaning.specs.Functions.{named_node};
 ghost use Rattle.xp_meaning.specs.Names.{local_in, uri_in, written_in, name_at};
+ghost use Rattle.xp_values.specs.Outcomes.{Gives};
+ghost use Rattle.xp_values.specs.declared.values.Value.TheVariants as values;
 
+use crate::arguments::named_node;
 use crate::caller::Caller;
+use crate::text_functions::as_chars;
 use doc_tree::{NameId, NodeId, Tree};
 use sch_base::Text;
 use std::alloc::{AllocError, Global};
+use xp_meaning::Context;
+use xp_values::{EvalError, Value};
 
 impl Caller<'_> {
+    /// `local-name`: the local part of the name, empty where there is none.
+    pub(crate) fn local_name(&self, at: &Context, args: &[Value]) -> Result<Value, EvalError>
+        ensures { Gives result (Ok (values.Chars (local_in (name_at self.now.tree.now.nodes (named_node at.now args.now))))) }
+    {
+        as_chars(self.local_part(named_node(at, args)))
+    }
+
+    /// `namespace-uri`: the namespace of the name, empty where there is none.
+    pub(crate) fn namespace_uri(&self, at: &Context, args: &[Value]) -> Result<Value, EvalError>
+        ensures { Gives result (Ok (values.Chars (uri_in (name_at self.now.tree.now.nodes (named_node at.now args.now))))) }
+    {
+        as_chars(self.namespace_of(named_node(at, args)))
+    }
+
+    /// `name`: the name as it is written, empty where there is none.
+    pub(crate) fn name(&self, at: &Context, args: &[Value]) -> Result<Value, EvalError>
+        ensures { Gives result (Ok (values.Chars (written_in (name_at self.now.tree.now.nodes (named_node at.now args.now))))) }
+    {
+        as_chars(self.written_name(named_node(at, args)))
+    }
+
     /// The local part of the node's name, empty where there is none.
-    pub(crate) fn local_name(&self, n: Option<NodeId>) -> Result<Text, AllocError>
+    fn local_part(&self, n: Option<NodeId>) -> Result<Text, AllocError>
         ensures { IfOk result (λ text. text ≡ local_in (name_at self.now.tree.now.nodes n)) }
     {
         match name_at(self.tree, n) {
@@ -22,7 +50,7 @@ impl Caller<'_> {
     }
 
     /// The namespace of the node's name, empty where there is none.
-    pub(crate) fn namespace_uri(&self, n: Option<NodeId>) -> Result<Text, AllocError>
+    fn namespace_of(&self, n: Option<NodeId>) -> Result<Text, AllocError>
         ensures { IfOk result (λ text. text ≡ uri_in (name_at self.now.tree.now.nodes n)) }
     {
         match name_at(self.tree, n) {
@@ -32,7 +60,7 @@ impl Caller<'_> {
     }
 
     /// The node's name as it is written, empty where there is none.
-    pub(crate) fn written_name(&self, n: Option<NodeId>) -> Result<Text, AllocError>
+    fn written_name(&self, n: Option<NodeId>) -> Result<Text, AllocError>
         ensures { IfOk result (λ text. text ≡ written_in (name_at self.now.tree.now.nodes n)) }
     {
         match name_at(self.tree, n) {

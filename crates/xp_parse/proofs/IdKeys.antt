@@ -1,6 +1,7 @@
 -- `id` and `key` that were read, and where they stop.
 use Rattle.std.proofs.Common.{◌≡◌, ℕ, Bool, true, false, if◌then◌else◌, List, ◌∷◌, None, Some, refl, sym, ◌∙◌, ap, subst, arith}
-use Rattle.std.specs.Prelude.{codes}
+use Rattle.std.specs.Prelude.{Result, MatchResult, codes}
+use Rattle.std.proofs.lemmas.Result.{MatchResult-weaker}
 use Rattle.std.specs.Str.{bytes_eq}
 use Rattle.std.proofs.lemmas.Slice.Eq.{bytes_eq-Decides}
 use Rattle.sch_base.specs.declared.limits.TheConstants.{MAX_NESTING}
@@ -10,20 +11,20 @@ use Rattle.xp_grammar.specs.declared.token.Token.{Token}
 use Rattle.xp_grammar.specs.declared.token.Token.TheVariants as token
 use Rattle.xp_parse.specs.declared.stop.Stop.{Stop}
 use Rattle.xp_parse.specs.declared.stop.Stop.TheVariants as stop
-use Rattle.xp_parse.specs.inner.Places.{IsFirst, Took, Refused}
+use Rattle.xp_parse.specs.inner.Places.{IsFirst, Took, TookBehind, Refused}
 use Rattle.xp_parse.proofs.Failing.{took_shorter}
 use Rattle.xp_grammar.specs.PatternGrammar.{IsIdKey, by_id, by_key}
 use Rattle.xp_grammar.specs.inner.PatternMachine.{Place, want_path, id_open, key_open, key_name, key_comma, call_value, call_close, first_place, open_turn, literal_turn, comma_turn, close_turn, pattern_load, pattern_halt}
-use Rattle.xp_parse.specs.inner.PatternReading.{FailsAt, CallFound, NoLiteral}
+use Rattle.xp_parse.specs.inner.PatternReading.{FailsAt, CallFound, LiteralTaken, NotTaken, no_literal, no_mark}
 use Rattle.xp_parse.proofs.PlaceFails.{fails_beyond, took_over, first_at, refused_at, no_literal_at}
 
 no_open : (a : Place) (x : Token) → (x ≡ token.OpenParen → ⊥) → open_turn a x ≡ None
 no_open a token.OpenParen differs = absurd (differs refl)
 no_open a _ differs = refl
 
-no_literal : (a : Place) (x : Token) → ((value : List ℕ) → x ≡ token.Literal value → ⊥) → literal_turn a x ≡ None
-no_literal a (token.Literal value) differs = absurd (differs value refl)
-no_literal a _ differs = refl
+none_but_literal : (a : Place) (x : Token) → ((value : List ℕ) → x ≡ token.Literal value → ⊥) → literal_turn a x ≡ None
+none_but_literal a (token.Literal value) differs = absurd (differs value refl)
+none_but_literal a _ differs = refl
 
 no_comma : (x : Token) → (x ≡ token.Comma → ⊥) → comma_turn x ≡ None
 no_comma token.Comma differs = absurd (differs refl)
@@ -61,40 +62,37 @@ over_value : (s m : List Placed) (value : List ℕ) → Took (token.Literal valu
 unfolding pattern_load
 over_value s m value t = took_over MAX_NESTING call_value s m (token.Literal value) call_close t refl (omega arith)
 
-value_fails : (s u : List Placed) (why : Stop) → NoLiteral s u why → FailsAt MAX_NESTING call_value s u why
-value_fails s u why r = no_literal_at MAX_NESTING call_value s u why r tt (no_literal call_close)
-
-close_fails : (s m u : List Placed) (value : List ℕ) (why : Stop) → Took (token.Literal value) s m → Refused token.CloseParen m u why →
-    FailsAt MAX_NESTING call_value s u why
-close_fails s m u value why l r =
+value_fails : (s u : List Placed) (why : Stop) → NotTaken token.CloseParen s u why → FailsAt MAX_NESTING call_value s u why
+value_fails _ _ _ (no_literal s u why r) = no_literal_at MAX_NESTING call_value s u why r tt (none_but_literal call_close)
+value_fails _ _ _ (no_mark s m u value why l r) =
     fails_beyond MAX_NESTING call_value call_close s m u why (over_value s m value l) (refused_at MAX_NESTING call_close m u token.CloseParen why r tt no_close)
+
+name_fails : (s u : List Placed) (why : Stop) → NotTaken token.Comma s u why → FailsAt MAX_NESTING key_name s u why
+name_fails _ _ _ (no_literal s u why r) = no_literal_at MAX_NESTING key_name s u why r tt (none_but_literal key_comma)
+name_fails _ _ _ (no_mark s m u name why l r) =
+    fails_beyond MAX_NESTING key_name key_comma s m u why (over_name s m name l) (refused_at MAX_NESTING key_comma m u token.Comma why r tt no_comma)
 
 pub id_unopened : (s m u : List Placed) (why : Stop) → Took (token.Function (codes "id")) s m → Refused token.OpenParen m u why →
     FailsAt MAX_NESTING want_path s u why
 id_unopened s m u why t r =
     fails_beyond MAX_NESTING want_path id_open s m u why (over_id s m t) (refused_at MAX_NESTING id_open m u token.OpenParen why r tt (no_open call_value))
 
-pub id_no_value : (s m n u : List Placed) (why : Stop) → Took (token.Function (codes "id")) s m → Took token.OpenParen m n → NoLiteral n u why →
-    FailsAt MAX_NESTING want_path s u why
-id_no_value s m n u why t o r =
-    fails_beyond MAX_NESTING want_path call_value s n u why (over_id s m t ∙ over_id_open m n o) (value_fails n u why r)
+pub id_fails : (s m n u : List Placed) (why : Stop) → Took (token.Function (codes "id")) s m → Took token.OpenParen m n →
+    NotTaken token.CloseParen n u why → FailsAt MAX_NESTING want_path s u why
+id_fails s m n u why t o x =
+    fails_beyond MAX_NESTING want_path call_value s n u why (over_id s m t ∙ over_id_open m n o) (value_fails n u why x)
 
-pub id_unclosed : (s m n w u : List Placed) (value : List ℕ) (why : Stop) → Took (token.Function (codes "id")) s m → Took token.OpenParen m n →
-    Took (token.Literal value) n w → Refused token.CloseParen w u why → FailsAt MAX_NESTING want_path s u why
-id_unclosed s m n w u value why t o l r =
-    fails_beyond MAX_NESTING want_path call_value s n u why (over_id s m t ∙ over_id_open m n o) (close_fails n w u value why l r)
-
-pub id_found : (s m n w u : List Placed) (value : List ℕ) → Took (token.Function (codes "id")) s m → Took token.OpenParen m n →
-    Took (token.Literal value) n w → Took token.CloseParen w u → CallFound MAX_NESTING s u (start.Id value)
-id_found s m n w u value t o l r = record {
+pub id_found : (s m n u : List Placed) (value : List ℕ) → Took (token.Function (codes "id")) s m → Took token.OpenParen m n →
+    LiteralTaken token.CloseParen n u value → CallFound MAX_NESTING s u (start.Id value)
+id_found s m n u value t o v = record {
   derives =
-      let line : s ≡ t.placed ∷ o.placed ∷ l.placed ∷ r.placed ∷ u =
-      t.is ∙ ap (λ x. t.placed ∷ x) (o.is ∙ ap (λ x. o.placed ∷ x) (l.is ∙ ap (λ x. l.placed ∷ x) r.is)) in
+      let line : s ≡ t.placed ∷ o.placed ∷ v.literal.placed ∷ v.mark.placed ∷ u =
+      t.is ∙ ap (λ x. t.placed ∷ x) (o.is ∙ ap (λ x. o.placed ∷ x) (v.literal.is ∙ ap (λ x. v.literal.placed ∷ x) v.mark.is)) in
       subst (λ x. IsIdKey MAX_NESTING x u (start.Id value)) (sym line)
-      (by_id t.placed o.placed l.placed r.placed u value t.token o.token (omega arith) l.token r.token);
+      (by_id t.placed o.placed v.literal.placed v.mark.placed u value t.token o.token (omega arith) v.literal.token v.mark.token);
   shorter =
       let a = took_shorter (token.Function (codes "id")) s m t in let b = took_shorter token.OpenParen m n o in
-      let c = took_shorter (token.Literal value) n w l in let d = took_shorter token.CloseParen w u r in omega (arith, a, b, c, d);
+      let c = took_shorter (token.Literal value) n v.behind v.literal in let d = took_shorter token.CloseParen v.behind u v.mark in omega (arith, a, b, c, d);
 }
 
 pub key_unopened : (s m u : List Placed) (why : Stop) → Took (token.Function (codes "key")) s m → Refused token.OpenParen m u why →
@@ -102,52 +100,41 @@ pub key_unopened : (s m u : List Placed) (why : Stop) → Took (token.Function (
 key_unopened s m u why t r =
     fails_beyond MAX_NESTING want_path key_open s m u why (over_key s m t) (refused_at MAX_NESTING key_open m u token.OpenParen why r tt (no_open key_name))
 
-pub key_no_name : (s m n u : List Placed) (why : Stop) → Took (token.Function (codes "key")) s m → Took token.OpenParen m n → NoLiteral n u why →
-    FailsAt MAX_NESTING want_path s u why
-key_no_name s m n u why t o r =
-    fails_beyond MAX_NESTING want_path key_name s n u why (over_key s m t ∙ over_key_open m n o)
-    (no_literal_at MAX_NESTING key_name n u why r tt (no_literal key_comma))
+pub key_name_fails : (s m n u : List Placed) (why : Stop) → Took (token.Function (codes "key")) s m → Took token.OpenParen m n →
+    NotTaken token.Comma n u why → FailsAt MAX_NESTING want_path s u why
+key_name_fails s m n u why t o x =
+    fails_beyond MAX_NESTING want_path key_name s n u why (over_key s m t ∙ over_key_open m n o) (name_fails n u why x)
 
--- behind the name
-record NameTaken (s n : List Placed) : Type 0 where
-  to : pattern_halt MAX_NESTING want_path s ≡ pattern_halt MAX_NESTING key_comma n
+pub key_value_fails : (s m n x u : List Placed) (name : List ℕ) (why : Stop) → Took (token.Function (codes "key")) s m →
+    Took token.OpenParen m n → LiteralTaken token.Comma n x name → NotTaken token.CloseParen x u why → FailsAt MAX_NESTING want_path s u why
+key_value_fails s m n x u name why t o l v =
+    fails_beyond MAX_NESTING want_path call_value s x u why
+    (over_key s m t ∙ over_key_open m n o ∙ over_name n l.behind name l.literal ∙ over_comma l.behind x l.mark) (value_fails x u why v)
 
-name_taken : (s m n x : List Placed) (name : List ℕ) → Took (token.Function (codes "key")) s m → Took token.OpenParen m n →
-    Took (token.Literal name) n x → NameTaken s x
-name_taken s m n x name t o l = record { to = over_key s m t ∙ over_key_open m n o ∙ over_name n x name l }
-
-pub key_no_comma : (s m n x u : List Placed) (name : List ℕ) (why : Stop) → Took (token.Function (codes "key")) s m → Took token.OpenParen m n →
-    Took (token.Literal name) n x → Refused token.Comma x u why → FailsAt MAX_NESTING want_path s u why
-key_no_comma s m n x u name why t o l r =
-    fails_beyond MAX_NESTING want_path key_comma s x u why (name_taken s m n x name t o l).to
-    (refused_at MAX_NESTING key_comma x u token.Comma why r tt no_comma)
-
-pub key_no_value : (s m n x y u : List Placed) (name : List ℕ) (why : Stop) → Took (token.Function (codes "key")) s m → Took token.OpenParen m n →
-    Took (token.Literal name) n x → Took token.Comma x y → NoLiteral y u why → FailsAt MAX_NESTING want_path s u why
-key_no_value s m n x y u name why t o l c r =
-    fails_beyond MAX_NESTING want_path call_value s y u why ((name_taken s m n x name t o l).to ∙ over_comma x y c) (value_fails y u why r)
-
-pub key_unclosed : (s m n x y w u : List Placed) (name value : List ℕ) (why : Stop) → Took (token.Function (codes "key")) s m →
-    Took token.OpenParen m n → Took (token.Literal name) n x → Took token.Comma x y → Took (token.Literal value) y w →
-    Refused token.CloseParen w u why → FailsAt MAX_NESTING want_path s u why
-key_unclosed s m n x y w u name value why t o l c v r =
-    fails_beyond MAX_NESTING want_path call_value s y u why ((name_taken s m n x name t o l).to ∙ over_comma x y c) (close_fails y w u value why v r)
-
-pub key_found : (s m n x y w u : List Placed) (name value : List ℕ) → Took (token.Function (codes "key")) s m → Took token.OpenParen m n →
-    Took (token.Literal name) n x → Took token.Comma x y → Took (token.Literal value) y w → Took token.CloseParen w u →
-    CallFound MAX_NESTING s u (start.Key name value)
-key_found s m n x y w u name value t o l c v r = record {
+pub key_found : (s m n x u : List Placed) (name value : List ℕ) → Took (token.Function (codes "key")) s m → Took token.OpenParen m n →
+    LiteralTaken token.Comma n x name → LiteralTaken token.CloseParen x u value → CallFound MAX_NESTING s u (start.Key name value)
+key_found s m n x u name value t o l v = record {
   derives =
-      let line : s ≡ t.placed ∷ o.placed ∷ l.placed ∷ c.placed ∷ v.placed ∷ r.placed ∷ u =
-      t.is ∙ ap (λ z. t.placed ∷ z) (o.is ∙ ap (λ z. o.placed ∷ z) (l.is ∙ ap (λ z. l.placed ∷ z)
-      (c.is ∙ ap (λ z. c.placed ∷ z) (v.is ∙ ap (λ z. v.placed ∷ z) r.is)))) in
+      let line : s ≡ t.placed ∷ o.placed ∷ l.literal.placed ∷ l.mark.placed ∷ v.literal.placed ∷ v.mark.placed ∷ u =
+      t.is ∙ ap (λ z. t.placed ∷ z) (o.is ∙ ap (λ z. o.placed ∷ z) (l.literal.is ∙ ap (λ z. l.literal.placed ∷ z)
+      (l.mark.is ∙ ap (λ z. l.mark.placed ∷ z) (v.literal.is ∙ ap (λ z. v.literal.placed ∷ z) v.mark.is)))) in
       subst (λ z. IsIdKey MAX_NESTING z u (start.Key name value)) (sym line)
-      (by_key t.placed o.placed l.placed c.placed v.placed r.placed u name value t.token o.token (omega arith) l.token c.token v.token r.token);
+      (by_key t.placed o.placed l.literal.placed l.mark.placed v.literal.placed v.mark.placed u name value t.token o.token (omega arith)
+      l.literal.token l.mark.token v.literal.token v.mark.token);
   shorter =
       let a = took_shorter (token.Function (codes "key")) s m t in let b = took_shorter token.OpenParen m n o in
-      let e = took_shorter (token.Literal name) n x l in let f = took_shorter token.Comma x y c in
-      let g = took_shorter (token.Literal value) y w v in let h = took_shorter token.CloseParen w u r in omega (arith, a, b, e, f, g, h);
+      let e = took_shorter (token.Literal name) n l.behind l.literal in let f = took_shorter token.Comma l.behind x l.mark in
+      let g = took_shorter (token.Literal value) x v.behind v.literal in let h = took_shorter token.CloseParen v.behind u v.mark in
+      omega (arith, a, b, e, f, g, h);
 }
+
+-- a literal and the mark behind it
+pub literal_and_mark : (t : Token) (r : Result (List ℕ) Stop) (s m u : List Placed) (value : List ℕ) → Took (token.Literal value) s m →
+    MatchResult r (TookBehind value t m u) (Refused t m u) → MatchResult r (LiteralTaken t s u) (NotTaken t s u)
+literal_and_mark t r s m u value l h =
+    MatchResult-weaker r h
+    (λ kept x. subst (LiteralTaken t s u) (sym x.same) (record { behind = m; literal = l; mark = x.took }))
+    (λ why x. no_mark s m u value why l x)
 
 -- another name
 to_false : (b : Bool) → (b ≡ true → ⊥) → b ≡ false

@@ -14,7 +14,7 @@ use Rattle.xp_grammar.proofs.Steps.{step_on}
 use Rattle.xp_parse.specs.declared.stop.Stop.{Stop}
 use Rattle.xp_parse.specs.declared.stop.Stop.TheVariants as stop
 use Rattle.xp_parse.specs.inner.Places.{IsFirst, Took, Refused}
-use Rattle.xp_parse.specs.inner.Parsing.{Stuck, Fails, TestRead, TypeRead, TargetRead, IsTestMode, TestStops, stops_here, stops_behind, TestFails}
+use Rattle.xp_parse.specs.inner.Parsing.{IsNoMemory, Stuck, Fails, TestRead, TypeRead, TargetRead, IsTestMode, TestStops, stops_here, stops_behind, TestFails}
 use Rattle.std.specs.Prelude.{Result, MatchResult}
 use Rattle.std.proofs.lemmas.Result.{MatchResult-weaker}
 use Rattle.xp_parse.proofs.Failing.{took_shorter, first_token, no_end, stuck_after, none_but_open, none_but_close, none_in_type}
@@ -147,17 +147,29 @@ star_read s u r = record {
   shorter = took_shorter token.Star s u r;
 }
 
-pub prefix_read : (s u : List Placed) (prefix : List ℕ) → Took (token.PrefixStar prefix) s u → TestRead s u (test.InPrefix prefix)
-prefix_read s u prefix r = record {
-  tests = subst (λ t. IsTest t u (test.InPrefix prefix)) (sym r.is) (prefix_test r.placed u prefix r.token);
-  shorter = took_shorter (token.PrefixStar prefix) s u r;
-}
+-- want of memory is no failure of a node test
+no_memory_fails : (s u : List Placed) (why : Stop) → why ≡ stop.Memory → TestFails need_test s u why
+no_memory_fails s u why is = record { stops = λ nm. absurd (subst IsNoMemory is nm) }
 
-pub name_read : (s u : List Placed) (name : List ℕ) (it : StepTest) → it ≡ name_test name → Took (token.Name name) s u → TestRead s u it
-name_read s u name it is r = record {
-  tests = subst (λ i. IsTest s u i) (sym is) (subst (λ t. IsTest t u (name_test name)) (sym r.is) (named_test r.placed u name r.token));
-  shorter = took_shorter (token.Name name) s u r;
-}
+pub prefix_read : (r : Result StepTest Stop) (s u : List Placed) (prefix : List ℕ) →
+    MatchResult r (λ it. it ≡ test.InPrefix prefix) (λ why. why ≡ stop.Memory) → Took (token.PrefixStar prefix) s u →
+    MatchResult r (TestRead s u) (TestFails need_test s u)
+prefix_read r s u prefix h o = MatchResult-weaker r h
+    (λ it is. record {
+      tests = subst (λ i. IsTest s u i) (sym is) (subst (λ t. IsTest t u (test.InPrefix prefix)) (sym o.is) (prefix_test o.placed u prefix o.token));
+      shorter = took_shorter (token.PrefixStar prefix) s u o;
+    })
+    (no_memory_fails s u)
+
+pub name_read : (r : Result StepTest Stop) (s u : List Placed) (name : List ℕ) →
+    MatchResult r (λ it. it ≡ name_test name) (λ why. why ≡ stop.Memory) → Took (token.Name name) s u →
+    MatchResult r (TestRead s u) (TestFails need_test s u)
+name_read r s u name h o = MatchResult-weaker r h
+    (λ it is. record {
+      tests = subst (λ i. IsTest s u i) (sym is) (subst (λ t. IsTest t u (name_test name)) (sym o.is) (named_test o.placed u name o.token));
+      shorter = took_shorter (token.Name name) s u o;
+    })
+    (no_memory_fails s u)
 
 pub node_read : (t : NodeType) (r : Result StepTest Stop) (s m u : List Placed) → Took (token.NodeType t) s m →
     MatchResult r (TypeRead t m u) (TestFails (type_open t) m u) →

@@ -2,9 +2,9 @@
 
 ghost use Rattle.std.specs.Prelude.{◌≡◌, MatchResult, codes};
 ghost use Rattle.xp_grammar.specs.declared.token.Token.TheVariants as token;
-ghost use Rattle.xp_parse.specs.inner.Places.{IsFirst, Took, Refused, rest_of};
+ghost use Rattle.xp_parse.specs.inner.Places.{IsFirst, Took, rest_of, token_of};
 ghost use Rattle.xp_grammar.specs.inner.PatternMachine.{want_path};
-ghost use Rattle.xp_parse.specs.inner.PatternReading.{FailsAt, CallFound, NoLiteral};
+ghost use Rattle.xp_parse.specs.inner.PatternReading.{FailsAt, CallFound, LiteralTaken, NoLiteral, NotTaken};
 
 use crate::mark::Mark;
 use crate::parser::Parser;
@@ -35,8 +35,7 @@ impl<'t, 'a> Parser<'t, 'a> {
     {
         self.advance();
         self.take(Mark::OpenParen)?;
-        let value = self.literal()?;
-        self.take(Mark::CloseParen)?;
+        let value = self.literal_before(Mark::CloseParen)?;
         Ok(PatternStart::Id { value })
     }
 
@@ -48,11 +47,23 @@ impl<'t, 'a> Parser<'t, 'a> {
     {
         self.advance();
         self.take(Mark::OpenParen)?;
-        let name = self.literal()?;
-        self.take(Mark::Comma)?;
+        let name = self.literal_before(Mark::Comma)?;
+        match self.literal_before(Mark::CloseParen) {
+            Ok(value) => Ok(PatternStart::Key { name, value }),
+            Err(stop) => {
+                drop(name);
+                Err(stop)
+            }
+        }
+    }
+
+    /// Takes a literal and the mark behind it.
+    fn literal_before(&mut self, mark: Mark) -> Result<Text, Stop>
+        ensures { MatchResult result (LiteralTaken (token_of mark) (rest_of self.old) (rest_of self.new))
+            (NotTaken (token_of mark) (rest_of self.old) (rest_of self.new)) }
+    {
         let value = self.literal()?;
-        self.take(Mark::CloseParen)?;
-        Ok(PatternStart::Key { name, value })
+        self.take_behind(mark, value)
     }
 
     /// Takes a literal.

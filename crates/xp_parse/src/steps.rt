@@ -1,10 +1,11 @@
 //! Steps of a path (XPath 1.0, sections 2.1 to 2.5).
 
-ghost use Rattle.std.specs.Prelude.{◌≡◌, ◌≤◌, ℕ, MatchResult, IfOk};
+ghost use Rattle.std.specs.Prelude.{◌≡◌, ◌≤◌, ◌∷◌, ℕ, List, MatchResult, IfOk};
 ghost use Rattle.xp_parse.specs.declared.stop.Stop.TheVariants as stop;
 ghost use Rattle.xp_tree.specs.Tree.{Steps, step, no_trees};
 ghost use Rattle.xp_tree.specs.View.{step_of};
 ghost use Rattle.xp_grammar.specs.declared.token.NodeType.TheVariants as node_type;
+ghost use Rattle.xp_grammar.specs.declared.token.Placed.{Placed};
 ghost use Rattle.xp_tree.specs.declared.terms.StepTest.TheVariants as test;
 ghost use Rattle.xp_grammar.specs.Parts.{everywhere, name_test, type_test};
 ghost use Rattle.xp_grammar.specs.inner.Machine.{Ending, after, full, need_step, need_test, type_open, type_inner};
@@ -16,7 +17,7 @@ use crate::parser::Parser;
 use crate::stop::Stop;
 use sch_base::{MAX_NESTING, Text};
 use std::alloc::{AllocError, Global};
-use xp_grammar::{NodeType, Token};
+use xp_grammar::{NodeType, Token, Word};
 use xp_tree::{AxisName, Expr, Step, StepTest};
 
 /// The step `descendant-or-self::node()` that `//` stands for.
@@ -194,20 +195,33 @@ impl<'t, 'a> Parser<'t, 'a> {
                 self.advance();
                 Ok(StepTest::Star)
             }
-            Token::PrefixStar(prefix) => {
-                let prefix = self.take_word(prefix)?;
-                Ok(StepTest::InPrefix { prefix })
-            }
-            Token::Name(name) => {
-                self.advance();
-                Ok(name_test(self.alloc, name.as_str())?)
-            }
+            Token::PrefixStar(prefix) => self.take_prefix(prefix),
+            Token::Name(name) => self.take_name(name),
             Token::NodeType(node_type) => {
                 self.advance();
                 self.typed(*node_type)
             }
             _ => Err(Stop::Unexpected),
         }
+    }
+
+    /// Takes the token at the place, whose prefix this is, as a node test.
+    fn take_prefix(&mut self, prefix: &Word) -> Result<StepTest, Stop>
+        ensures took { (p : Placed) (rest : List Placed) → rest_of self.old ≡ p ∷ rest → rest_of self.new ≡ rest }
+        ensures test { MatchResult result (λ it. it ≡ test.InPrefix prefix.now) (λ why. why ≡ stop.Memory) }
+    {
+        let prefix = self.take_word(prefix)?;
+        Ok(StepTest::InPrefix { prefix })
+    }
+
+    /// Takes the token at the place, whose name this is, as a node test.
+    fn take_name(&mut self, name: &Word) -> Result<StepTest, Stop>
+        ensures took { (p : Placed) (rest : List Placed) → rest_of self.old ≡ p ∷ rest → rest_of self.new ≡ rest }
+        ensures test { MatchResult result (λ it. it ≡ name_test name.now) (λ why. why ≡ stop.Memory) }
+    {
+        self.advance();
+        let test = name_test(self.alloc, name.as_str())?;
+        Ok(test)
     }
 
     /// What stands behind a node type.
@@ -238,9 +252,9 @@ impl<'t, 'a> Parser<'t, 'a> {
                 self.advance();
                 Ok(StepTest::Pi)
             }
-            Token::Literal(target) => {
-                let target = self.take_word(target)?;
-                self.take(Mark::CloseParen)?;
+            Token::Literal(word) => {
+                let word = self.take_word(word)?;
+                let target = self.take_behind(Mark::CloseParen, word)?;
                 Ok(StepTest::PiNamed { target })
             }
             _ => Err(Stop::Unexpected),

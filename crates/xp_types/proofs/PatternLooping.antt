@@ -6,7 +6,7 @@ use Rattle.doc_tree.specs.declared.axes.NodeTest.{NodeTest}
 use Rattle.doc_tree.specs.declared.axes.Axis.{Axis}
 use Rattle.xp_tree.specs.declared.pattern.PatternStep.{PatternStep}
 use Rattle.xp_tree.specs.declared.pattern.PathPattern.{PathPattern}
-use Rattle.xp_tree.specs.PatternTree.{pattern_step_of, path_pattern_of}
+use Rattle.xp_tree.specs.PatternTree.{StepTree, pattern_step_of, path_pattern_of}
 use Rattle.xp_tree.specs.View.{trees_seen}
 use Rattle.xp_typed_tree.specs.declared.expr.TypedExpr.{TypedExpr}
 use Rattle.xp_typed_tree.specs.declared.pattern.TypedPath.{TypedPath}
@@ -17,8 +17,9 @@ use Rattle.xp_types.specs.declared.faults.CheckError.{CheckError}
 use Rattle.xp_types.specs.Scope.{Scope}
 use Rattle.xp_types.specs.inner.Checked.{Checked, after, ChecksAs}
 use Rattle.xp_types.specs.Terms.{pattern_axis}
+use Rattle.xp_types.specs.inner.PatternStep.{pattern_step_typed}
 use Rattle.xp_types.specs.inner.Typing.{resolved, all_typed, pattern_start, pattern_steps_typed, pattern_typing}
-use Rattle.xp_types.proofs.Giving.{stops, gives-same, after-value}
+use Rattle.xp_types.proofs.Giving.{goes, stops, gives-same, after-value}
 use Rattle.xp_types.proofs.Looping.{drop-at, drop-end, unjoined, advance}
 
 pub record PatternStepsOnto (S : Scope) (ss : List PatternStep) (i : ℕ) (done : List TypedPatternStep) : Type 0 where
@@ -31,9 +32,53 @@ pushed : {A B : Type 0} (g : A → B) (done : List A) (d : A) (x : B) (ts : List
 pushed g [] d x ts is = ap (λ y. y ∷ ts) (sym is)
 pushed g (e ∷ es) d x ts is = ap (λ l. g e ∷ l) (pushed g es d x ts is)
 
+-- two checks, and what comes behind them
+parted : {A B C D : Type 0} (m : Checked A) (k : Checked B) (f : A → B → C) (more : C → Checked D) →
+    after m (λ a. after k (λ b. more (f a b))) ≡ after (after m (λ a. after k (λ b. Ok (f a b)))) more
+unfolding after
+parted (Ok a) (Ok b) f more = refl
+parted (Ok a) (Err e) f more = refl
+parted (Err e) k f more = refl
+
 joined-none : {B : Type 0} (xs : List B) → xs ++ [] ≡ xs
 joined-none [] = refl
 joined-none (x ∷ xs) = ap (λ l. x ∷ l) (joined-none xs)
+
+-- ---- a step
+
+module _ (S : Scope) (s : PatternStep) where
+  abbrev made : Axis → NodeTest → TypedTrees → TypedPatternStepTree
+  made a n ps = record { join = s.join; axis = a; test = n; predicates = ps }
+
+  abbrev step-left : NodeTest → Checked TypedPatternStepTree
+  step-left n = after (all_typed S false (trees_seen s.predicates.items)) (λ ps. Ok (made (pattern_axis s.is_attribute) n ps))
+
+  pub pattern-step-unresolved : (x : CheckError) → ChecksAs (resolved S s.test s.test_offset) (λ (n : NodeTest). n) (Err x) →
+      ChecksAs (pattern_step_typed S (pattern_step_of s)) pattern_step_seen (Err x)
+  pattern-step-unresolved x g = stops (resolved S s.test s.test_offset) step-left (λ (n : NodeTest). n) pattern_step_seen x g
+
+  pub pattern-step-stop : (n : NodeTest) (x : CheckError) → ChecksAs (resolved S s.test s.test_offset) (λ (n : NodeTest). n) (Ok n) →
+      ChecksAs (all_typed S false (trees_seen s.predicates.items)) (λ (v : Vec TypedExpr Global). typed_seen v.items) (Err x) →
+      ChecksAs (pattern_step_typed S (pattern_step_of s)) pattern_step_seen (Err x)
+  pattern-step-stop n x g k =
+      goes (resolved S s.test s.test_offset) step-left (λ (n : NodeTest). n) pattern_step_seen n (Err x) g
+      (stops _ _ (λ (v : Vec TypedExpr Global). typed_seen v.items) pattern_step_seen x k)
+
+  pub pattern-step-made : (n : NodeTest) (ps : Vec TypedExpr Global) (a : Axis) (d : TypedPatternStep) → ChecksAs (resolved S s.test s.test_offset) (λ (n : NodeTest). n) (Ok n) →
+      ChecksAs (all_typed S false (trees_seen s.predicates.items)) (λ (v : Vec TypedExpr Global). typed_seen v.items) (Ok ps) → a ≡ pattern_axis s.is_attribute →
+      pattern_step_seen d ≡ made a n (typed_seen ps.items) → ChecksAs (pattern_step_typed S (pattern_step_of s)) pattern_step_seen (Ok d)
+  pattern-step-made n ps a d g k axis seen = record {
+    given = after-value (resolved S s.test s.test_offset) step-left n g.given
+        ∙ after-value (all_typed S false (trees_seen s.predicates.items)) (λ qs. Ok (made (pattern_axis s.is_attribute) n qs)) (typed_seen ps.items) k.given
+        ∙ ap Ok (sym (seen ∙ ap (λ b. made b n (typed_seen ps.items)) axis));
+  }
+
+  -- it comes before the others
+  pub pattern-step-first : (ss : List StepTree) → pattern_steps_typed S (pattern_step_of s ∷ ss)
+      ≡ after (pattern_step_typed S (pattern_step_of s)) (λ t. after (pattern_steps_typed S ss) (λ ts. Ok (t ∷ ts)))
+  pattern-step-first ss =
+      parted (resolved S s.test s.test_offset) (all_typed S false (trees_seen s.predicates.items)) (made (pattern_axis s.is_attribute))
+      (λ t. after (pattern_steps_typed S ss) (λ ts. Ok (t ∷ ts)))
 
 -- ---- steps
 
@@ -49,36 +94,21 @@ module _ (S : Scope) (ss : List PatternStep) where
   }
 
   module _ (i : ℕ) (done : List TypedPatternStep) (s : PatternStep) (lt : i < length ss) (is : s ≡ get_or ss i s) (so : PatternStepsOnto S ss i done) where
-    next : pattern_steps_typed S (map pattern_step_of ss) ≡ after (pattern_steps_typed S (pattern_step_of s ∷ map pattern_step_of (drop (i + 1) ss))) (λ ts. Ok (map pattern_step_seen done ++ ts))
+    next : pattern_steps_typed S (map pattern_step_of ss)
+        ≡ after (after (pattern_step_typed S (pattern_step_of s)) (λ t. after (pattern_steps_typed S (map pattern_step_of (drop (i + 1) ss))) (λ rest. Ok (t ∷ rest)))) (λ ts. Ok (map pattern_step_seen done ++ ts))
     next = so.onto ∙ ap (λ r. after (pattern_steps_typed S (map pattern_step_of r)) (λ ts. Ok (map pattern_step_seen done ++ ts))) (drop-at ss i s lt is)
+        ∙ ap (λ m. after m (λ ts. Ok (map pattern_step_seen done ++ ts))) (pattern-step-first S s (map pattern_step_of (drop (i + 1) ss)))
 
-    abbrev made : NodeTest → TypedTrees → TypedPatternStepTree
-    made n ps = record { join = s.join; axis = pattern_axis s.is_attribute; test = n; predicates = ps }
-
-    abbrev left : NodeTest → Checked (List TypedPatternStepTree)
-    left n = after (all_typed S false (trees_seen s.predicates.items)) (λ ps. after (pattern_steps_typed S (map pattern_step_of (drop (i + 1) ss))) (λ rest. Ok (made n ps ∷ rest)))
-
-    tested : (n : NodeTest) → ChecksAs (resolved S s.test s.test_offset) (λ (x : NodeTest). x) (Ok n) →
-        pattern_steps_typed S (map pattern_step_of ss) ≡ after (left n) (λ ts. Ok (map pattern_step_seen done ++ ts))
-    tested n g = next ∙ ap (λ m. after m (λ ts. Ok (map pattern_step_seen done ++ ts))) (after-value (resolved S s.test s.test_offset) left n g.given)
-
-    pub pattern-steps-unresolved : (x : CheckError) → ChecksAs (resolved S s.test s.test_offset) (λ (n : NodeTest). n) (Err x) →
+    pub pattern-steps-stop : (x : CheckError) → ChecksAs (pattern_step_typed S (pattern_step_of s)) pattern_step_seen (Err x) →
         ChecksAs (pattern_steps_typed S (map pattern_step_of ss)) (λ (w : Vec TypedPatternStep Global). map pattern_step_seen w.items) (Err x)
-    pattern-steps-unresolved x g = gives-same next (stops _ _ (λ (u : List TypedPatternStepTree). u) _ x (stops _ _ (λ (n : NodeTest). n) (λ (u : List TypedPatternStepTree). u) x g))
+    pattern-steps-stop x g = gives-same next (stops _ _ (λ (u : List TypedPatternStepTree). u) _ x (stops _ _ pattern_step_seen (λ (u : List TypedPatternStepTree). u) x g))
 
-    pub pattern-steps-stop : (n : NodeTest) (x : CheckError) → ChecksAs (resolved S s.test s.test_offset) (λ (n : NodeTest). n) (Ok n) →
-        ChecksAs (all_typed S false (trees_seen s.predicates.items)) (λ (v : Vec TypedExpr Global). typed_seen v.items) (Err x) →
-        ChecksAs (pattern_steps_typed S (map pattern_step_of ss)) (λ (w : Vec TypedPatternStep Global). map pattern_step_seen w.items) (Err x)
-    pattern-steps-stop n x g k =
-        gives-same (tested n g) (stops _ _ (λ (u : List TypedPatternStepTree). u) _ x (stops _ _ (λ (v : Vec TypedExpr Global). typed_seen v.items) (λ (u : List TypedPatternStepTree). u) x k))
-
-    pub pattern-steps-go : (all : List TypedPatternStep) (n : NodeTest) (ps : Vec TypedExpr Global) (a : Axis) (d : TypedPatternStep) → ChecksAs (resolved S s.test s.test_offset) (λ (n : NodeTest). n) (Ok n) →
-        ChecksAs (all_typed S false (trees_seen s.predicates.items)) (λ (v : Vec TypedExpr Global). typed_seen v.items) (Ok ps) → a ≡ pattern_axis s.is_attribute →
-        pattern_step_seen d ≡ record { join = s.join; axis = a; test = n; predicates = typed_seen ps.items } → all ≡ done ++ d ∷ [] → PatternStepsOnto S ss (i + 1) all
-    pattern-steps-go all n ps a d g k axis seen grown = subst (PatternStepsOnto S ss (i + 1)) (sym grown) (record {
-      onto = advance (pattern_steps_typed S (map pattern_step_of ss)) (all_typed S false (trees_seen s.predicates.items)) (pattern_steps_typed S (map pattern_step_of (drop (i + 1) ss))) (λ qs rest. made n qs ∷ rest)
-          (λ ts. map pattern_step_seen done ++ ts) (λ ts. map pattern_step_seen (done ++ d ∷ []) ++ ts) (typed_seen ps.items) k.given
-          (λ ts. pushed pattern_step_seen done d (made n (typed_seen ps.items)) ts (seen ∙ ap (λ b. record { join = s.join; axis = b; test = n; predicates = typed_seen ps.items }) axis)) (tested n g);
+    pub pattern-steps-go : (all : List TypedPatternStep) (d : TypedPatternStep) → ChecksAs (pattern_step_typed S (pattern_step_of s)) pattern_step_seen (Ok d) →
+        all ≡ done ++ d ∷ [] → PatternStepsOnto S ss (i + 1) all
+    pattern-steps-go all d g grown = subst (PatternStepsOnto S ss (i + 1)) (sym grown) (record {
+      onto = advance (pattern_steps_typed S (map pattern_step_of ss)) (pattern_step_typed S (pattern_step_of s)) (pattern_steps_typed S (map pattern_step_of (drop (i + 1) ss))) (λ t rest. t ∷ rest)
+          (λ ts. map pattern_step_seen done ++ ts) (λ ts. map pattern_step_seen (done ++ d ∷ []) ++ ts) (pattern_step_seen d) g.given
+          (λ ts. pushed pattern_step_seen done d (pattern_step_seen d) ts refl) next;
     })
 
 -- ---- path patterns

@@ -7,6 +7,7 @@ ghost use Rattle.xp_tree.specs.PatternTree.{pattern_step_of, path_pattern_of};
 ghost use Rattle.xp_typed_tree.specs.TypedView.{pattern_step_seen, paths_seen};
 ghost use Rattle.xp_types.specs.inner.Checked.{ChecksAs};
 ghost use Rattle.xp_types.specs.Terms.{pattern_axis};
+ghost use Rattle.xp_types.specs.inner.PatternStep.{pattern_step_typed};
 ghost use Rattle.xp_types.specs.inner.Typing.{pattern_start, pattern_steps_typed, pattern_typing};
 
 use crate::env::Env;
@@ -39,12 +40,30 @@ fn type_pattern_steps(
 {
     let mut typed = Vec::new(alloc);
     for step in steps {
-        let test = resolve(alloc, &step.test, step.test_offset, env)?;
-        let predicates = type_list(alloc, &step.predicates, env, false)?;
-        let axis = pattern_axis(step.is_attribute);
-        typed.push(TypedPatternStep::new(step.join, axis, test, predicates))?;
+        typed.push(type_pattern_step(alloc, step, env)?)?;
     }
     Ok(typed)
+}
+
+/// A step of a path pattern.
+fn type_pattern_step(
+    alloc: Global,
+    step: &PatternStep,
+    env: &Env,
+) -> Result<TypedPatternStep, CheckError>
+    ensures { ChecksAs (pattern_step_typed env.now (pattern_step_of step.now)) pattern_step_seen result }
+{
+    let test = resolve(alloc, &step.test, step.test_offset, env)?;
+    match type_list(alloc, &step.predicates, env, false) {
+        Ok(predicates) => {
+            let axis = pattern_axis(step.is_attribute);
+            Ok(TypedPatternStep::new(step.join, axis, test, predicates))
+        }
+        Err(error) => {
+            drop(test);
+            Err(error)
+        }
+    }
 }
 
 /// The axis of a step in a pattern.

@@ -110,26 +110,25 @@ ran_unselected k (Err e) is h = h
 
 -- What is kept of a step that stands in the pattern
 
-module _ (T : Table) (L : Lets) (ps : List TypedPathTree) (at : PlacedStep) (placed : IsPlacedIn ps at) (parent index : ℕ) (is : index ≡ parent) where
+module _ (T : Table) (L : Lets) (ps : List TypedPathTree) (at : PlacedStep) (placed : IsPlacedIn ps at) (parent : ℕ) where
   -- it tells how a run ends
-  pub outcome_there : (kept : KeptStep) → IsOutcomeAt T L ps (record { path = at.path; step = at.number; parent = index }) kept → (n k : ℕ) →
+  pub outcome_there : (kept : KeptStep) → IsOutcomeAt T L ps (record { path = at.path; step = at.number; parent = parent }) kept → (n k : ℕ) →
       Ran (is_left T (step_of T L (pattern_step_seen at.step.now)) n k (Some parent)) (told kept.selected.nodes k) nothing_read kept.selected.reads 0 kept.visits
   outcome_there kept outcome n k =
-      let there : (m l : ℕ) → Ran (is_left T (step_of T L (pattern_step_seen at.step.now)) m l (Some index)) (told kept.selected.nodes l) nothing_read kept.selected.reads 0 kept.visits =
-      subst (λ o. IfSome o (λ s. (m l : ℕ) → Ran (is_left T (step_of T L s) m l (Some index)) (told kept.selected.nodes l) nothing_read kept.selected.reads 0 kept.visits)) placed.there outcome in
-      subst (λ p. Ran (is_left T (step_of T L (pattern_step_seen at.step.now)) n k (Some p)) (told kept.selected.nodes k) nothing_read kept.selected.reads 0 kept.visits) is (there n k)
+      let there : (m l : ℕ) → Ran (is_left T (step_of T L (pattern_step_seen at.step.now)) m l (Some parent)) (told kept.selected.nodes l) nothing_read kept.selected.reads 0 kept.visits =
+      subst (λ o. IfSome o (λ s. (m l : ℕ) → Ran (is_left T (step_of T L s) m l (Some parent)) (told kept.selected.nodes l) nothing_read kept.selected.reads 0 kept.visits)) placed.there outcome in
+      there n k
 
   -- and it is known where a run for one node has ended, since a pattern calls no `current`
   pub outcome_kept : StepsNeedNoCurrent → (node : ℕ) (selected : Selected) (before after visits : ℕ) → after ≡ before + visits →
       ((k : ℕ) → Ran (is_left T (step_of T L (pattern_step_seen at.step.now)) node k (Some parent)) (told selected.nodes k) nothing_read selected.reads before after) →
-      IsOutcomeAt T L ps (record { path = at.path; step = at.number; parent = index }) (record { selected = selected; visits = visits })
+      IsOutcomeAt T L ps (record { path = at.path; step = at.number; parent = parent }) (record { selected = selected; visits = visits })
   outcome_kept law node selected before after visits rose ran =
       let s : TypedPatternStepTree = pattern_step_seen at.step.now in
-      let here : (n k : ℕ) → Ran (is_left T (step_of T L s) n k (Some index)) (told selected.nodes k) nothing_read selected.reads 0 visits =
-      λ n k. subst (λ p. Ran (is_left T (step_of T L s) n k (Some p)) (told selected.nodes k) nothing_read selected.reads 0 visits) (sym is)
-      (ran_alike (ap (λ m. bind m (λ ms. done (mem k ms))) (law T L s.axis s.test s.predicates n node parent placed.typed))
-      (ran_counted (told selected.nodes k) visits rose (sym (zero-add visits)) (ran k))) in
-      subst (λ o. IfSome o (λ t. (n k : ℕ) → Ran (is_left T (step_of T L t) n k (Some index)) (told selected.nodes k) nothing_read selected.reads 0 visits)) (sym placed.there) here
+      let here : (n k : ℕ) → Ran (is_left T (step_of T L s) n k (Some parent)) (told selected.nodes k) nothing_read selected.reads 0 visits =
+      λ n k. ran_alike (ap (λ m. bind m (λ ms. done (mem k ms))) (law T L s.axis s.test s.predicates n node parent placed.typed))
+      (ran_counted (told selected.nodes k) visits rose (sym (zero-add visits)) (ran k)) in
+      subst (λ o. IfSome o (λ t. (n k : ℕ) → Ran (is_left T (step_of T L t) n k (Some parent)) (told selected.nodes k) nothing_read selected.reads 0 visits)) (sym placed.there) here
 
 -- the visits that two counts tell, where the later one is below the greatest
 pub visits_known : (P : ℕ → Type 0) (o : Option ℕ) (start end before after : ℕ) → IfSome o (λ visits. (after ≡ before + visits) × (after < 18446744073709551615)) →

@@ -23,7 +23,7 @@ use Rattle.xp_typed_tree.specs.WellTyped.{is_pattern_axis, PatternStepsTyped}
 use Rattle.xslt_ways.specs.Ways.{is_anywhere, looks_at, looks_there, OnOneWay}
 use Rattle.xslt_ways.proofs.WayLemmas.{above_above, one_way}
 use Rattle.xslt_match.specs.Matching.{is_candidate, leads, led_to, reaches, starts, standing}
-use Rattle.xslt_match.specs.inner.Leading.{is_beside, fits, holder}
+use Rattle.xslt_match.specs.inner.Leading.{is_beside, fits, holder, leading_to}
 use Rattle.xslt_match.proofs.Filters.{iff, and-false, and-true, or-false, eqb-turned, any-same, any-none, any-either, any-swap, filter-swap, filter-narrow, any-one, mem-out, Found, found, kept-passes, kept-listed, any-given, Given, given}
 
 -- a test of the nodes that a step leads to from some nodes, by each of these
@@ -260,13 +260,12 @@ module _ (T : Table) (form : WellFormed T) (ord : Ordered T) (up : HasWaysUp T) 
           mem-tail p k (ancestors T k) (ap (mem p) (up.ancestors_at k q e) ∙ subst (λ x. mem p (x ∷ ancestors T q) ≡ true) same (mem-head p (ancestors T q)))
 
   -- the nodes at which those that lead on are candidates stand on the way
-  pub holders_way : (steps rest front : List TypedPatternStepTree) (s : TypedPatternStepTree) (nodes holders : List ℕ) (n : ℕ) →
-      PatternStepsTyped steps → Going T steps rest nodes n →
-      rest ≡ front ++ s ∷ [] → holders ≡ filter_map (holder T s) nodes → OnOneWay T holders
-  holders_way steps rest front s nodes holders n typed g e eh =
+  pub holders_way : (steps rest front : List TypedPatternStepTree) (s : TypedPatternStepTree) (nodes : List ℕ) (n : ℕ) →
+      PatternStepsTyped steps → Going T steps rest nodes n → rest ≡ front ++ s ∷ [] → OnOneWay T (filter_map (holder T s) nodes)
+  holders_way steps rest front s nodes n typed g e =
       let parted : steps ≡ (front ++ s ∷ []) ++ g.passed = g.parted ∙ ap (λ l. l ++ g.passed) e in
       let later : PatternStepsTyped (s ∷ g.passed) = typed_at front s g.passed (subst PatternStepsTyped parted typed) in
-      λ a b ha hb. one_way T form ord up (length (ancestors T n)) a b n (omega arith) (on a later.2 (sym (ap (mem a) eh) ∙ ha)) (on b later.2 (sym (ap (mem b) eh) ∙ hb))
+      λ a b ha hb. one_way T form ord up (length (ancestors T n)) a b n (omega arith) (on a later.2 ha) (on b later.2 hb)
     where
       on : (p : ℕ) → PatternStepsTyped g.passed → mem p (filter_map (holder T s) nodes) ≡ true → mem p (above T n) ≡ true
       on p later h =
@@ -276,19 +275,16 @@ module _ (T : Table) (form : WellFormed T) (ord : Ordered T) (up : HasWaysUp T) 
           above_above T form ord up (length (ancestors T n)) p f.source n (omega arith) (holder_above s f.source p f.gives) (reach_above g.passed f.source n later r)
 
   -- one step more is passed
-  pub going_on : (steps rest front : List TypedPatternStepTree) (s : TypedPatternStepTree) (nodes holders ends way next : List ℕ) (n : ℕ) →
+  pub going_on : (steps rest front : List TypedPatternStepTree) (s : TypedPatternStepTree) (nodes way next : List ℕ) (n : ℕ) →
       PatternStepsTyped steps → Going T steps rest nodes n →
-      rest ≡ front ++ s ∷ [] → holders ≡ filter_map (holder T s) nodes → ((m : ℕ) → list_any (looks_at T s.join m) ends ≡ list_any (looks_at T s.join m) holders) →
-      way ≡ starts T false n → next ≡ filter (λ m. list_any (looks_at T s.join m) ends) way → Going T steps front next n
-  going_on steps rest front s nodes holders ends way next n typed g e eh same ew en =
+      rest ≡ front ++ s ∷ [] → way ≡ starts T false n → next ≡ leading_to T s nodes way → Going T steps front next n
+  going_on steps rest front s nodes way next n typed g e ew en =
       let parted : steps ≡ (front ++ s ∷ []) ++ g.passed = g.parted ∙ ap (λ l. l ++ g.passed) e in
       let later : PatternStepsTyped (s ∷ g.passed) = typed_at front s g.passed (subst PatternStepsTyped parted typed) in
       record {
         passed = s ∷ g.passed;
         parted = parted ∙ append_assoc front (s ∷ []) g.passed;
-        lead_on = en
-            ∙ (filter-same (λ m. list_any (looks_at T s.join m) ends) (λ m. list_any (looks_at T s.join m) holders) way (λ m h. same m)
-            ∙ step_along s g.passed n nodes holders way later g.lead_on eh ew);
+        lead_on = en ∙ step_along s g.passed n nodes (filter_map (holder T s) nodes) way later g.lead_on refl ew;
       }
 
   -- the nodes that stand at a step are those from which the later steps lead on and to which the step leads

@@ -12,8 +12,9 @@ ghost use Rattle.doc_tree.specs.Walks.{above, order};
 ghost use Rattle.doc_axes.specs.Axes.{backwards, is_attribute_kind};
 ghost use Rattle.xp_typed_tree.specs.TypedView.{pattern_step_seen};
 ghost use Rattle.xp_typed_tree.specs.WellTyped.{is_pattern_axis, PatternStepsTyped};
-ghost use Rattle.xslt_match.specs.inner.Leading.{is_beside, fits, holder};
+ghost use Rattle.xslt_match.specs.inner.Leading.{is_beside, fits, holder, leading_to};
 ghost use Rattle.xslt_match.specs.Matching.{leads, reaches, standing, starts};
+ghost use Rattle.xslt_ways.specs.Ways.{OnOneWay};
 
 use crate::matching::Matcher;
 use doc_axes::passes;
@@ -174,12 +175,26 @@ fn origins(
     let mut nodes = ItemList::of_one(alloc, n)?;
     let mut rest = steps;
     while let Some((last, earlier)) = rest.split_last() {
-        let parents = holders(alloc, tree, last, nodes.as_slice())?;
-        let ends = ends_of(alloc, tree, last.join, parents)?;
-        nodes = looking_at(alloc, tree, last.join, way, ends.as_slice())?;
+        nodes = leading_to(alloc, tree, last, nodes.as_slice(), way)?;
         rest = earlier;
     }
     Ok(nodes)
+}
+
+/// The nodes of the way from which a step leads to some nodes.
+fn leading_to(
+    alloc: Global,
+    tree: &Tree,
+    step: &TypedPatternStep,
+    nodes: &[NodeId],
+    way: &[NodeId],
+) -> Result<NodeList, AllocError>
+    requires { OnOneWay tree.now.nodes (filter_map (holder tree.now.nodes (pattern_step_seen step.now)) nodes.now) }
+    ensures { IfOk result (λ v. v ≡ leading_to tree.now.nodes (pattern_step_seen step.now) nodes.now way.now) }
+{
+    let parents = holders(alloc, tree, step, nodes)?;
+    let ends = ends_of(alloc, tree, step.join, parents)?;
+    looking_at(alloc, tree, step.join, way, ends.as_slice())
 }
 
 /// The nodes at which some of the nodes are candidates of the step.

@@ -130,22 +130,35 @@ impl Matcher<'_> {
             (shown result) reads.old reads.new steps.old steps.new }
         ensures kept { IsKeptFor self.now.evaluator.caller.tree.now.nodes self.now.evaluator.lets.now self.now.pattern.now kept.new }
     {
-        patterns_need_no_current();
-        let alloc = self.evaluator.caller.alloc;
-        let key = StepKey {
-            path: at.path,
-            step: at.number,
-            parent: parent.index(),
-        };
-        if let Some(found) = kept.find(key) {
+        if let Some(found) = kept.find(key_at(at, parent)) {
             steps.tick_times(found.visits);
-            return found.selected.tell(alloc, k, reads);
+            return found.selected.tell(self.evaluator.caller.alloc, k, reads);
         }
+        self.left_anew(at, k, parent, kept, reads, steps)
+    }
+
+    /// `left_at` by an evaluation of the step, whose outcome is kept.
+    fn left_anew<L: Ledger>(
+        &self,
+        at: &PlacedStep<'_>,
+        k: NodeId,
+        parent: NodeId,
+        kept: &mut KeptSteps,
+        reads: &mut Recorder,
+        steps: &mut Steps<L>,
+    ) -> Result<bool, EvalError>
+        requires placed { IsPlacedIn self.now.pattern.now at.now }
+        requires kept { IsKeptFor self.now.evaluator.caller.tree.now.nodes self.now.evaluator.lets.now self.now.pattern.now kept.old }
+        ensures ran { Ran (is_left self.now.evaluator.caller.tree.now.nodes (step_of self.now.evaluator.caller.tree.now.nodes self.now.evaluator.lets.now (pattern_step_seen at.now.step.now)) self.now.node k (Some parent))
+            (shown result) reads.old reads.new steps.old steps.new }
+        ensures kept { IsKeptFor self.now.evaluator.caller.tree.now.nodes self.now.evaluator.lets.now self.now.pattern.now kept.new }
+    {
+        patterns_need_no_current();
         let before = steps.taken();
         let selected = self.select(at.step, parent, steps)?;
         let visits = visits_between(before, steps.taken());
-        let told = selected.tell(alloc, k, reads);
-        kept.keep(key, selected, visits)?;
+        let told = selected.tell(self.evaluator.caller.alloc, k, reads);
+        kept.keep(key_at(at, parent), selected, visits)?;
         told
     }
 
@@ -167,6 +180,17 @@ impl Matcher<'_> {
             .step_at(&step.step, self.node, parent, &mut reads, steps);
         reads.settle();
         selected(alloc, nodes, reads)
+    }
+}
+
+/// By what the outcome of a step at a node is kept.
+fn key_at(at: &PlacedStep<'_>, parent: NodeId) -> StepKey
+    ensures { result ≡ record { path = at.now.path; step = at.now.number; parent = parent } }
+{
+    StepKey {
+        path: at.path,
+        step: at.number,
+        parent: parent.index(),
     }
 }
 

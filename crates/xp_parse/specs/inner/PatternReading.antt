@@ -10,12 +10,13 @@ use Rattle.xp_tree.specs.declared.pattern.PatternStep.{PatternStep}
 use Rattle.xp_tree.specs.Tree.{Trees}
 use Rattle.xp_tree.specs.PatternTree.{StepTree, PathTree, pattern_step_of, path_pattern_of}
 use Rattle.xp_grammar.specs.declared.token.Placed.{Placed}
+use Rattle.xp_grammar.specs.declared.token.Token.{Token}
 use Rattle.xp_grammar.specs.declared.token.Token.TheVariants as token
 use Rattle.xp_grammar.specs.Parts.{offset_at}
 use Rattle.xp_grammar.specs.Grammar.{IsTest, IsPredicates}
 use Rattle.xp_parse.specs.declared.stop.Stop.{Stop}
 use Rattle.xp_parse.specs.declared.stop.Stop.TheVariants as stop
-use Rattle.xp_parse.specs.inner.Places.{NotAt, Took}
+use Rattle.xp_parse.specs.inner.Places.{NotAt, Took, Refused}
 use Rattle.xp_parse.specs.inner.Parsing.{IsNoMemory}
 use Rattle.xp_grammar.specs.PatternGrammar.{step_tree, IsStepPattern, IsRelative, IsMoreSteps, IsIdKey, IsPathPattern, IsPattern, IsMorePaths}
 use Rattle.xp_grammar.specs.inner.PatternMachine.{Place, want_path, want_step, behind_call, behind_step, step_turn, union_turn, pattern_turn, pattern_halt, IsPendingPlace, IsLimitedPlace}
@@ -114,6 +115,17 @@ pub record NoLiteral (s u : List Placed) (why : Stop) : Type 0 where
   pub why_is : IsNoMemory why → why ≡ stop.Unexpected
   pub kept : IsNoMemory why → u ≡ s
   pub not_at : IsNoMemory why → (value : List ℕ) → NotAt (token.Literal value) s
+
+-- a literal was taken, and a mark behind it
+pub record LiteralTaken (t : Token) (s u : List Placed) (value : List ℕ) : Type 0 where
+  pub behind : List Placed
+  pub literal : Took (token.Literal value) s behind
+  pub mark : Took t behind u
+
+-- no literal stands first, or the mark does not stand behind it
+pub data NotTaken (t : Token) : List Placed → List Placed → Stop → Type 0 where
+  no_literal : (s u : List Placed) (why : Stop) → NoLiteral s u why → NotTaken t s u why
+  no_mark : (s m u : List Placed) (value : List ℕ) (why : Stop) → Took (token.Literal value) s m → Refused t m u why → NotTaken t s u why
 
 -- `id` or `key` was read
 pub record CallFound (limit : ℕ) (s u : List Placed) (it : PatternStart) : Type 0 where

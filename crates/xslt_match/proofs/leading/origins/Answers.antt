@@ -1,11 +1,11 @@
 -- One step more is passed, from where it leads on.
-use Rattle.std.proofs.Common.{◌≡◌, ℕ, List, [], ◌∷◌, ◌++◌, map, sym, ap, ◌∙◌, append-nil}
+use Rattle.std.proofs.Common.{◌≡◌, List, [], ◌∷◌, ◌++◌, map, sym, ap, subst, ◌∙◌, append-nil}
 use Rattle.std.proofs.lemmas.List.{map-append}
-use Rattle.std.specs.List.{list_any, filter_map}
+use Rattle.std.specs.List.{filter_map}
 use Rattle.xp_typed_tree.specs.TypedView.{pattern_step_seen}
 use Rattle.xp_typed_tree.specs.TypedTree.{TypedPatternStepTree}
-use Rattle.xslt_ways.specs.Ways.{looks_at}
-use Rattle.xslt_match.specs.inner.Leading.{holder}
+use Rattle.xslt_match.specs.inner.Leading.{holder, leading_to}
+use Rattle.xslt_ways.specs.Ways.{OnOneWay}
 use Rattle.xslt_match.proofs.StepsAlong.{start, going_on, holders_way}
 use Rattle.xslt_match.proofs.leading.origins.Goals as goal
 
@@ -27,23 +27,18 @@ loop-last-preserved c =
     let front : List TypedPatternStepTree = map pattern_step_seen c.in-Some.earlier.now in
     let rest : map pattern_step_seen c.loop-last.rest.now ≡ front ++ s ∷ [] =
     ap (map pattern_step_seen) c.in-Some.ensures.cases.0 ∙ map-append pattern_step_seen c.in-Some.earlier.now (c.in-Some.last.now ∷ []) in
-    let holders : c.in_ok-parents.parents ≡ filter_map (holder T s) c.loop-last.nodes =
-    c.in_ok-parents.ensures ∙ ap (filter_map (holder T s)) c.as_slice.ensures in
-    let same : (m : ℕ) → list_any (looks_at T s.join m) c.as_slice-in-Some.result.now ≡ list_any (looks_at T s.join m) c.in_ok-parents.parents =
-    λ m. ap (list_any (looks_at T s.join m)) c.as_slice-in-Some.ensures ∙ c.in_ok-ends.ensures m in
     going_on T laws.well_formed laws.ordered laws.ways_up (map pattern_step_seen c.args.steps.now) (map pattern_step_seen c.loop-last.rest.now) front s
-    c.loop-last.nodes c.in_ok-parents.parents c.as_slice-in-Some.result.now c.args.way.now c.in_ok-nodes-2.nodes c.args.n c.requires.typed c.loop-last.invariant rest holders same
-    c.requires.way c.in_ok-nodes-2.ensures
+    c.loop-last.nodes c.args.way.now c.in_ok-nodes-2.nodes c.args.n c.requires.typed c.loop-last.invariant rest c.requires.way
+    (c.in_ok-nodes-2.ensures ∙ ap (λ ks. leading_to T s ks c.args.way.now) c.as_slice.ensures)
 
-pub ends_of-requires : goal.ends_of-requires
-ends_of-requires c =
+pub leading_to-requires : goal.leading_to-requires
+leading_to-requires c =
     let T = c.args.tree.now.nodes in
     let laws = c.laws.ensures in
     let s : TypedPatternStepTree = pattern_step_seen c.in-Some.last.now in
     let front : List TypedPatternStepTree = map pattern_step_seen c.in-Some.earlier.now in
     let rest : map pattern_step_seen c.loop-last.rest.now ≡ front ++ s ∷ [] =
     ap (map pattern_step_seen) c.in-Some.ensures.cases.0 ∙ map-append pattern_step_seen c.in-Some.earlier.now (c.in-Some.last.now ∷ []) in
-    let holders : c.in_ok-parents.parents ≡ filter_map (holder T s) c.loop-last.nodes =
-    c.in_ok-parents.ensures ∙ ap (filter_map (holder T s)) c.as_slice.ensures in
-    holders_way T laws.well_formed laws.ordered laws.ways_up (map pattern_step_seen c.args.steps.now) (map pattern_step_seen c.loop-last.rest.now) front s
-    c.loop-last.nodes c.in_ok-parents.parents c.args.n c.requires.typed c.loop-last.invariant rest holders
+    subst (λ ks. OnOneWay T (filter_map (holder T s) ks)) (sym c.as_slice.ensures)
+    (holders_way T laws.well_formed laws.ordered laws.ways_up (map pattern_step_seen c.args.steps.now) (map pattern_step_seen c.loop-last.rest.now) front s
+    c.loop-last.nodes c.args.n c.requires.typed c.loop-last.invariant rest)

@@ -1,6 +1,6 @@
 use Rattle.xp_parse.proofs.Exits.{exits}
 use Rattle.xp_parse.proofs.Failing.{took_of}
-use Rattle.xp_parse.proofs.IdKeys.{key_unopened, key_no_name, key_no_comma, key_no_value, key_unclosed, key_found}
+use Rattle.xp_parse.proofs.IdKeys.{key_unopened, key_name_fails, key_value_fails, key_found}
 use Rattle.xp_parse.proofs.parser.Parser.key_pattern.Goals as goal
 
 pub returns-in_err-take : goal.returns-in_err-take
@@ -13,27 +13,14 @@ pub returns-in_err-name : goal.returns-in_err-name
 returns-in_err-name c =
     let f = c.requires in
     exits _ _ _ c.in_err-name.field-0.0 c.from_residual-in_err-name.ensures.1
-    (key_no_name _ _ _ _ _ (took_of _ _ _ f (c.advance.ensures f.placed f.rest f.is)) c.in_ok-take.ensures c.in_err-name.ensures)
+    (key_name_fails _ _ _ _ _ (took_of _ _ _ f (c.advance.ensures f.placed f.rest f.is)) c.in_ok-take.ensures c.in_err-name.ensures)
 
-pub returns-in_err-take-2 : goal.returns-in_err-take-2
-returns-in_err-take-2 c =
+pub returns-in-Err : goal.returns-in-Err
+returns-in-Err c =
     let f = c.requires in
-    exits _ _ _ c.in_err-take-2.field-0.0 c.from_residual-in_err-take-2.ensures.1
-    (key_no_comma _ _ _ _ _ _ _ (took_of _ _ _ f (c.advance.ensures f.placed f.rest f.is)) c.in_ok-take.ensures c.in_ok-name.ensures c.in_err-take-2.ensures)
+    key_value_fails _ _ _ _ _ _ _ (took_of _ _ _ f (c.advance.ensures f.placed f.rest f.is)) c.in_ok-take.ensures c.in_ok-name.ensures c.in-Err.ensures
 
-pub returns-in_err-value : goal.returns-in_err-value
-returns-in_err-value c =
+pub returns-in-Ok : goal.returns-in-Ok
+returns-in-Ok c =
     let f = c.requires in
-    exits _ _ _ c.in_err-value.field-0.0 c.from_residual-in_err-value.ensures.1
-    (key_no_value _ _ _ _ _ _ _ _ (took_of _ _ _ f (c.advance.ensures f.placed f.rest f.is)) c.in_ok-take.ensures c.in_ok-name.ensures c.in_ok-take-2.ensures c.in_err-value.ensures)
-
-pub returns-in_err-take-3 : goal.returns-in_err-take-3
-returns-in_err-take-3 c =
-    let f = c.requires in
-    exits _ _ _ c.in_err-take-3.field-0.0 c.from_residual-in_err-take-3.ensures.1
-    (key_unclosed _ _ _ _ _ _ _ _ _ _ (took_of _ _ _ f (c.advance.ensures f.placed f.rest f.is)) c.in_ok-take.ensures c.in_ok-name.ensures c.in_ok-take-2.ensures c.in_ok-value.ensures c.in_err-take-3.ensures)
-
-pub returns : goal.returns
-returns c =
-    let f = c.requires in
-    key_found _ _ _ _ _ _ _ _ _ (took_of _ _ _ f (c.advance.ensures f.placed f.rest f.is)) c.in_ok-take.ensures c.in_ok-name.ensures c.in_ok-take-2.ensures c.in_ok-value.ensures c.in_ok-take-3.ensures
+    key_found _ _ _ _ _ _ _ (took_of _ _ _ f (c.advance.ensures f.placed f.rest f.is)) c.in_ok-take.ensures c.in_ok-name.ensures c.in-Ok.ensures

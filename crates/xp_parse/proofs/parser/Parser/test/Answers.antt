@@ -1,5 +1,3 @@
-use Rattle.std.proofs.Common.{sym, ap, ◌∙◌}
-use Rattle.xp_grammar.specs.declared.token.Token.TheVariants as token
 use Rattle.xp_grammar.specs.inner.Machine.{need_test}
 use Rattle.xp_parse.proofs.Failing.{first_same, took_of}
 use Rattle.xp_parse.proofs.NodeTests.{stops_at_end, stops_at_first, star_read, prefix_read, name_read, node_read, no_test}
@@ -13,15 +11,15 @@ returns-in-Star c =
     let f = first_same _ _ _ c.in-Star.is c.in-Some.ensures in
     star_read _ _ (took_of _ _ _ f (c.advance.ensures f.placed f.rest f.is))
 
-pub returns-in_ok-prefix-in-PrefixStar : goal.returns-in_ok-prefix-in-PrefixStar
-returns-in_ok-prefix-in-PrefixStar c =
-    let f = first_same _ _ _ (c.in-PrefixStar.is ∙ ap token.PrefixStar (sym c.in_ok-prefix-in-PrefixStar.ensures.copied)) c.in-Some.ensures in
-    prefix_read _ _ _ (took_of _ _ _ f (c.take_word.ensures.took f.placed f.rest f.is))
+pub returns-in-PrefixStar : goal.returns-in-PrefixStar
+returns-in-PrefixStar c =
+    let f = first_same _ _ _ c.in-PrefixStar.is c.in-Some.ensures in
+    prefix_read _ _ _ _ c.take_prefix.ensures.test (took_of _ _ _ f (c.take_prefix.ensures.took f.placed f.rest f.is))
 
-pub returns-in_ok-name_test-in-Name : goal.returns-in_ok-name_test-in-Name
-returns-in_ok-name_test-in-Name c =
-    let f = first_same _ _ _ (c.in-Name.is ∙ ap token.Name (sym c.as_str.ensures)) c.in-Some.ensures in
-    name_read _ _ _ _ c.in_ok-name_test-in-Name.ensures (took_of _ _ _ f (c.advance-in-Name.ensures f.placed f.rest f.is))
+pub returns-in-Name : goal.returns-in-Name
+returns-in-Name c =
+    let f = first_same _ _ _ c.in-Name.is c.in-Some.ensures in
+    name_read _ _ _ _ c.take_name.ensures.test (took_of _ _ _ f (c.take_name.ensures.took f.placed f.rest f.is))
 
 pub returns-in-NodeType : goal.returns-in-NodeType
 returns-in-NodeType c =

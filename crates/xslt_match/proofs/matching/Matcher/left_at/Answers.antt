@@ -1,8 +1,6 @@
-use Rattle.std.proofs.Common.{sym, zero-add}
-use Rattle.xp_meaning.specs.Results.{shown}
-use Rattle.xp_meaning.proofs.Exits.{exit_memory}
-use Rattle.xslt_match.specs.Kept.{told}
-use Rattle.xslt_match.proofs.Repeating.{outcome_kept, outcome_there, ran_counted, ran_later, ran_unread, ran_wanting, visits_known}
+use Rattle.std.proofs.Common.{sym, subst, zero-add}
+use Rattle.xslt_match.specs.Kept.{IsOutcomeAt, told}
+use Rattle.xslt_match.proofs.Repeating.{outcome_there, ran_counted}
 use Rattle.xslt_match.proofs.matching.Matcher.left_at.Goals as goal
 
 pub returns-in-Some-clause-ran : goal.returns-in-Some-clause-ran
@@ -10,40 +8,8 @@ returns-in-Some-clause-ran g c =
     let T = c.args.self.now.evaluator.caller.tree.now.nodes in
     let L = c.args.self.now.evaluator.lets.now in
     let ps = c.args.self.now.pattern.now in
+    let found = c.in-Some.found.now in
+    let there = subst (λ key. IsOutcomeAt T L ps key found) c.key_at.ensures (c.in-Some.ensures T L ps c.requires.kept) in
     c.tell.ensures _ _ _
-    (ran_counted (told c.in-Some.found.now.selected.nodes c.args.k) c.in-Some.found.now.visits (sym (zero-add c.in-Some.found.now.visits)) c.tick_times.ensures
-    (outcome_there T L ps c.args.at.now c.requires.placed c.args.parent c.index.result c.index.ensures.value c.in-Some.found.now (c.in-Some.ensures T L ps c.requires.kept) c.args.self.now.node c.args.k))
-
-pub returns-in_err-selected-clause-ran : goal.returns-in_err-selected-clause-ran
-returns-in_err-selected-clause-ran g c = exit_memory _ c.from_residual.ensures.1 (ran_unread _ (c.in_err-selected.ensures c.args.k))
-
-pub returns-in_err-keep-clause-ran : goal.returns-in_err-keep-clause-ran
-returns-in_err-keep-clause-ran g c =
-    exit_memory _ c.from_residual-in_err-keep.ensures.1 (ran_wanting (shown c.tell-told.result) (c.tell-told.ensures _ _ _ (c.in_ok-selected.ensures c.args.k)))
-
-pub returns-clause-ran : goal.returns-clause-ran
-returns-clause-ran g c = c.tell-told.ensures _ _ _ (c.in_ok-selected.ensures c.args.k)
-
-pub returns-in_err-keep-clause-kept : goal.returns-in_err-keep-clause-kept
-returns-in_err-keep-clause-kept g c =
-    let T = c.args.self.now.evaluator.caller.tree.now.nodes in
-    let L = c.args.self.now.evaluator.lets.now in
-    let ps = c.args.self.now.pattern.now in
-    let ran = c.in_ok-selected.ensures in
-    c.keep.ensures T L ps c.requires.kept
-    (visits_known _ c.visits_between-visits.result c.args.steps.now c.select.new.steps c.taken-before.result c.taken.result
-    c.visits_between-visits.ensures c.taken-before.ensures c.taken.ensures (ran_later _ (ran c.args.k)).0
-    (λ visits rose. outcome_kept T L ps c.args.at.now c.requires.placed c.args.parent c.index.result c.index.ensures.value c.patterns_need_no_current.ensures.steps c.args.self.now.node
-    c.in_ok-selected.selected c.args.steps.now c.select.new.steps visits rose ran))
-
-pub returns-clause-kept : goal.returns-clause-kept
-returns-clause-kept g c =
-    let T = c.args.self.now.evaluator.caller.tree.now.nodes in
-    let L = c.args.self.now.evaluator.lets.now in
-    let ps = c.args.self.now.pattern.now in
-    let ran = c.in_ok-selected.ensures in
-    c.keep.ensures T L ps c.requires.kept
-    (visits_known _ c.visits_between-visits.result c.args.steps.now c.select.new.steps c.taken-before.result c.taken.result
-    c.visits_between-visits.ensures c.taken-before.ensures c.taken.ensures (ran_later _ (ran c.args.k)).0
-    (λ visits rose. outcome_kept T L ps c.args.at.now c.requires.placed c.args.parent c.index.result c.index.ensures.value c.patterns_need_no_current.ensures.steps c.args.self.now.node
-    c.in_ok-selected.selected c.args.steps.now c.select.new.steps visits rose ran))
+    (ran_counted (told found.selected.nodes c.args.k) found.visits (sym (zero-add found.visits)) c.tick_times.ensures
+    (outcome_there T L ps c.args.at.now c.requires.placed c.args.parent found there c.args.self.now.node c.args.k))
