@@ -16,8 +16,9 @@ use std::alloc::Global;
 /// The schema without abstract parts, or the first rule from 10 to 19 that the schema breaks.
 ///
 /// The first broken rule from 10 to 15 is the one at the element with the least node number, and there the one with the
-/// least number. Where none of these is broken, the first is the one of the others with the least number; how large the
-/// schema is without abstract parts is counted before it is made.
+/// least number: node numbers are taken to stand in document order, as those of a loaded document do, since a schema as it
+/// is read keeps no other order between its phases and its patterns. Where none of these rules is broken, the first is the
+/// one of the others with the least number; how large the schema is without abstract parts is counted before it is made.
 pub fn expand(alloc: Global, raw: RawSchema) -> Result<FlatSchema, SchemaError>
     ensures refused { IfErr result (Refused raw) }
     ensures accepted { OnOk result (first_fault raw ≡ None) }

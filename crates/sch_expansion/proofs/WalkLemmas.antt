@@ -1,21 +1,24 @@
 -- The walk over what items stand for, from visit to visit.
-use Rattle.std.proofs.Common.{◌≡◌, ℕ, ◌+◌, ◌<◌, ◌≤◌, ◌⊎◌, zero, suc, Bool, true, false, List, [], ◌∷◌, ◌++◌, length, map, drop, get_or, Option, None, Some, refl, sym, ap, ◌∙◌, append_assoc, append-nil, arith, inl, inr, ⊎_elim}
+use Rattle.std.proofs.Common.{◌≡◌, ℕ, ◌+◌, ◌<◌, ◌≤◌, ◌⊎◌, zero, suc, Bool, true, false, List, [], ◌∷◌, ◌++◌, length, map, drop, get_or, Option, None, Some, take, ◌||◌, ◌==◌, ne_eqb, true≢false, refl, sym, ap, ◌∙◌, append_assoc, append-nil, arith, inl, inr, ⊎_elim}
 use Rattle.std.proofs.Math.Seq.{drop-cons}
 use Rattle.std.proofs.Math.Numerals.{add-one}
 use Rattle.std.proofs.lemmas.List.{drop_all, map-append}
-use Rattle.std.specs.List.{flat_map}
+use Rattle.std.proofs.lemmas.Bool.{and_parts, cases_lt}
+use Rattle.std.proofs.lemmas.List.Folds.{list_all-append}
+use Rattle.std.specs.List.{flat_map, list_all}
 use Rattle.std.specs.Prelude.{slice_get, unwrap_or}
 use Rattle.sch_model.specs.declared.parts.Assertion.{Assertion}
 use Rattle.sch_model.specs.declared.parts.LetDecl.{LetDecl}
 use Rattle.sch_model.specs.declared.raw.RawItem.{RawItem}
 use Rattle.sch_model.specs.declared.raw.RawItem.TheVariants as item
 use Rattle.sch_model.specs.declared.raw.RawRule.{RawRule}
-use Rattle.sch_references.specs.Extends.{is_named, items_named}
-use Rattle.sch_references.specs.Order.{is_sorted}
+use Rattle.sch_model.specs.Items.{extended_in}
+use Rattle.sch_references.specs.Extends.{is_id, is_named, items_named}
+use Rattle.sch_references.specs.Order.{extends_only, is_sorted}
 use Rattle.sch_references.specs.Placed.{IsPlaceOf}
 use Rattle.sch_expansion.specs.Flat.{assertion_in, let_in}
 use Rattle.sch_expansion.specs.Stands.{replaced, stands_for}
-use Rattle.sch_expansion.specs.inner.Walks.{IsInPlaceOf, IsReachedBy, Nothings, all_visits, expanded, extended_items, own_item, pending_items, pending_visits, told_at, visits_for}
+use Rattle.sch_expansion.specs.inner.Walks.{IsInPlaceOf, IsReachedBy, Nothings, all_visits, are_none, expanded, extended_items, own_item, pending_items, pending_visits, told_at, told_rules, visits_for}
 use Rattle.sch_expansion.proofs.LevelLemmas.{item-unnamed, sorted-replaced, sorted-visits}
 
 -- an item and what it leads to
@@ -106,6 +109,19 @@ pub unnamed-in-place : (rules : List RawRule) (name : List ℕ) → is_sorted []
 unnamed-in-place rules name sorted none =
     none-in-place rules name (sorted-replaced rules sorted name ∙ ap (expanded rules) (item-unnamed rules name none))
 
+-- whether there is no item
+none-is : (items : List RawItem) → are_none items ≡ true → items ≡ []
+none-is [] e = refl
+none-is (its ∷ items) e = absurd (cc)
+
+empty-none : (items : List RawItem) → (length items == 0) ≡ are_none items
+empty-none [] = refl
+empty-none (its ∷ items) = ne_eqb (length (its ∷ items)) 0 (omega arith)
+
+none-front : (xs ys : List RawItem) → are_none xs ≡ false → are_none (xs ++ ys) ≡ false
+none-front [] ys e = absurd (cc)
+none-front (its ∷ xs) ys e = refl
+
 -- what a table tells
 some-at : {A : Type 0} (xs : List A) (place : ℕ) → place < length xs → (x : A) × (slice_get xs place ≡ Some x)
 some-at [] place less = absurd (omega arith)
@@ -121,42 +137,119 @@ pub told-in-place : (rules : List RawRule) (table : List Bool) (name : List ℕ)
 told-in-place rules table name place sorted nothings is told =
     let at = some-at rules place is.within in
     none-in-place rules name
-    (sorted-replaced rules sorted name ∙ ap (expanded rules) (is.items at.0 at.1) ∙ nothings place at.0 (is-told (slice_get table place) told) at.1)
+    (sorted-replaced rules sorted name ∙ ap (expanded rules) (is.items at.0 at.1)
+    ∙ none-is (expanded rules at.0.items) (sym (nothings place true at.0 (is-told (slice_get table place) told) at.1)))
 
-pub nothing-in-place : (rules : List RawRule) (name : List ℕ) (items : List RawItem) → IsInPlaceOf rules name items → length items ≡ 0 → stands_for rules name ≡ []
-nothing-in-place rules name [] in_place none = sym in_place.stands
-nothing-in-place rules name (its ∷ items) in_place none = absurd (cc)
+-- a name of a rule of which the table tells
+named-more : (rules : List RawRule) (m n : ℕ) (name : List ℕ) → m ≤ n → is_named (take m rules) name ≡ true → is_named (take n rules) name ≡ true
+named-more rules zero n name less is = absurd (cc)
+named-more rules (suc m) zero name less is = absurd (omega (arith, less))
+named-more [] (suc m) (suc n) name less is = is
+named-more (rule ∷ rules) (suc m) (suc n) name less is = by (is_id name rule.id) is (named-more rules m n name (omega (arith, less)))
+  where
+    by : (b : Bool) → (b || is_named (take m rules) name) ≡ true → (is_named (take m rules) name ≡ true → is_named (take n rules) name ≡ true) → (b || is_named (take n rules) name) ≡ true
+    by true e more = refl
+    by false e more = more e
 
-push-cases : (table : List Bool) (b : Bool) (place : ℕ) → slice_get (table ++ b ∷ []) place ≡ Some true → (slice_get table place ≡ Some true) ⊎ ((place ≡ length table) × (b ≡ true))
-push-cases [] b zero e = inr (refl, (cc))
-push-cases [] b (suc place) e = absurd (cc)
-push-cases (t ∷ table) b zero e = inl e
-push-cases (t ∷ table) b (suc place) e = ⊎_elim (λ (h : slice_get table place ≡ Some true). inl h) (λ (h : (place ≡ length table) × (b ≡ true)). inr (ap suc h.0, h.1)) (push-cases table b place e)
+told-place : (rules : List RawRule) (table : List Bool) (name : List ℕ) (place : ℕ) → IsPlaceOf rules name place → is_named (told_rules rules table) name ≡ true → place < length table
+told-place rules table name place is known = ⊎_elim
+    (λ (less : place < length table). less)
+    (λ (past : length table ≤ place). absurd (true≢false (sym (named-more rules (length table) place name past known) ∙ is.first)))
+    (cases_lt place (length table))
+
+some-items : (rules : List RawRule) (items : List RawItem) → are_none (expanded rules items) ≡ false → are_none items ≡ false
+some-items rules [] e = absurd (cc)
+some-items rules (its ∷ items) e = refl
+
+-- in the place of an `extends` stands nothing just where it stands for nothing
+pub something-in-place : (rules : List RawRule) (table : List Bool) (name : List ℕ) (place : ℕ) (rule : RawRule) → is_sorted [] rules ≡ true → Nothings rules table →
+    IsPlaceOf rules name place → slice_get rules place ≡ Some rule → told_at table place ≡ false → is_named (told_rules rules table) name ≡ true →
+    are_none rule.items ≡ are_none (stands_for rules name)
+something-in-place rules table name place rule sorted nothings is at told known =
+    let here = some-at table place (told-place rules table name place is known) in
+    let says : here.0 ≡ false = sym (ap (λ o. unwrap_or o false) here.1) ∙ told in
+    let none : are_none (expanded rules rule.items) ≡ false = sym (nothings place here.0 rule here.1 at) ∙ says in
+    some-items rules rule.items none
+    ∙ sym (ap are_none (sorted-replaced rules sorted name ∙ ap (expanded rules) (is.items rule at)) ∙ none)
+
+pub nothing-in-place : (rules : List RawRule) (name : List ℕ) → IsInPlaceOf rules name [] → are_none [] ≡ are_none (stands_for rules name)
+nothing-in-place rules name in_place = ap are_none in_place.stands
+
+pub extended-nothing : (rules : List RawRule) (table : List Bool) (its : RawItem) (node : ℕ) (rule name : List ℕ) (items : List RawItem) → name ≡ rule → its ≡ item.Extends node rule →
+    list_all (is_named (told_rules rules table)) (extended_in its) ≡ true →
+    (is_named (told_rules rules table) name ≡ true → are_none items ≡ are_none (stands_for rules name)) → (length items == 0) ≡ are_none (replaced (stands_for rules) its)
+extended-nothing rules table its node rule name items same is known nothing =
+    let all : list_all (is_named (told_rules rules table)) (extended_in (item.Extends node rule)) ≡ true =
+    sym (ap (λ it. list_all (is_named (told_rules rules table)) (extended_in it)) is) ∙ known in
+    empty-none items
+    ∙ nothing (ap (is_named (told_rules rules table)) same ∙ (and_parts (is_named (told_rules rules table) rule) true all).0)
+    ∙ ap (λ n. are_none (stands_for rules n)) same
+    ∙ sym (ap (λ it. are_none (replaced (stands_for rules) it)) is)
+
+push-cases : (table : List Bool) (b t : Bool) (place : ℕ) → slice_get (table ++ b ∷ []) place ≡ Some t → (slice_get table place ≡ Some t) ⊎ ((place ≡ length table) × (b ≡ t))
+push-cases [] b t zero e = inr (refl, (cc))
+push-cases [] b t (suc place) e = absurd (cc)
+push-cases (s ∷ table) b t zero e = inl e
+push-cases (s ∷ table) b t (suc place) e =
+    ⊎_elim (λ (h : slice_get table place ≡ Some t). inl h) (λ (h : (place ≡ length table) × (b ≡ t)). inr (ap suc h.0, h.1)) (push-cases table b t place e)
 
 rule-same : (rules : List RawRule) (place : ℕ) (r q : RawRule) → slice_get rules place ≡ Some r → slice_get rules place ≡ Some q → r ≡ q
 rule-same rules place r q er eq = cc
 
 pub nothings-push : (rules : List RawRule) (table : List Bool) (b : Bool) (place : ℕ) (rule : RawRule) → Nothings rules table → length table ≡ place → slice_get rules place ≡ Some rule →
-    (b ≡ true → expanded rules rule.items ≡ []) → Nothings rules (table ++ b ∷ [])
-nothings-push rules table b place rule nothings long at here = λ p r told is.
-    ⊎_elim (λ (h : slice_get table p ≡ Some true). nothings p r h is)
-    (λ (h : (p ≡ length table) × (b ≡ true)).
+    b ≡ are_none (expanded rules rule.items) → Nothings rules (table ++ b ∷ [])
+nothings-push rules table b place rule nothings long at here = λ p t r told is.
+    ⊎_elim (λ (h : slice_get table p ≡ Some t). nothings p t r h is)
+    (λ (h : (p ≡ length table) × (b ≡ t)).
     let same : r ≡ rule = rule-same rules place r rule (ap (slice_get rules) (sym (h.0 ∙ long)) ∙ is) at in
-    ap (λ q. expanded rules q.items) same ∙ here h.1)
-    (push-cases table b p told)
+    sym h.1 ∙ here ∙ ap (λ q. are_none (expanded rules q.items)) (sym same))
+    (push-cases table b t p told)
+
+-- a rule extends rules before it alone, of which the table tells
+sorted-at : (before rules : List RawRule) (place : ℕ) (rule : RawRule) → is_sorted before rules ≡ true → slice_get rules place ≡ Some rule →
+    extends_only (before ++ take place rules) rule.items ≡ true
+sorted-at before [] place rule sorted at = absurd (cc)
+sorted-at before (r ∷ rules) zero rule sorted at =
+    let same : r ≡ rule = cc in
+    ap (λ l. extends_only l rule.items) (append-nil before) ∙ ap (λ q. extends_only before q.items) (sym same)
+    ∙ (and_parts (extends_only before r.items) (is_sorted (before ++ r ∷ []) rules) sorted).0
+sorted-at before (r ∷ rules) (suc place) rule sorted at =
+    ap (λ l. extends_only l rule.items) (sym (append_assoc before (r ∷ []) (take place rules)))
+    ∙ sorted-at (before ++ r ∷ []) rules place rule (and_parts (extends_only before r.items) (is_sorted (before ++ r ∷ []) rules) sorted).1 at
+
+pub rule-known : (rules : List RawRule) (table : List Bool) (place : ℕ) (rule : RawRule) → is_sorted [] rules ≡ true → length table ≡ place → slice_get rules place ≡ Some rule →
+    extends_only (told_rules rules table) rule.items ≡ true
+rule-known rules table place rule sorted long at = ap (λ n. extends_only (take n rules) rule.items) long ∙ sorted-at [] rules place rule sorted at
+
+pub item-known : (before : List RawRule) (items : List RawItem) (i : ℕ) (its : RawItem) → i < length items → its ≡ get_or items i its → extends_only before items ≡ true →
+    list_all (is_named before) (extended_in its) ≡ true
+item-known before [] i its less is known = absurd (omega arith)
+item-known before (x ∷ items) zero its less is known =
+    ap (λ it. list_all (is_named before) (extended_in it)) is
+    ∙ (and_parts (list_all (is_named before) (extended_in x)) (extends_only before items) (sym (list_all-append (is_named before) (extended_in x) (flat_map extended_in items)) ∙ known)).0
+item-known before (x ∷ items) (suc i) its less is known =
+    item-known before items i its (omega (arith, less)) is
+    (and_parts (list_all (is_named before) (extended_in x)) (extends_only before items) (sym (list_all-append (is_named before) (extended_in x) (flat_map extended_in items)) ∙ known)).1
 
 -- items one after another
-pub nothing-next : (rules : List RawRule) (items : List RawItem) (i : ℕ) (its : RawItem) → i < length items → its ≡ get_or items i its → replaced (stands_for rules) its ≡ [] →
+item-left : (items : List RawItem) (i : ℕ) (its : RawItem) → i < length items → its ≡ get_or items i its → drop i items ≡ its ∷ drop (i + 1) items
+item-left items i its less is = drop-cons items i its less ∙ (λ j. sym is j ∷ drop (sym (add-one i) j) items)
+
+pub nothing-next : (rules : List RawRule) (items : List RawItem) (i : ℕ) (its : RawItem) → i < length items → its ≡ get_or items i its → are_none (replaced (stands_for rules) its) ≡ true →
     expanded rules (drop i items) ≡ expanded rules (drop (i + 1) items)
 nothing-next rules items i its less is none =
-    let left : drop i items ≡ its ∷ drop (i + 1) items = drop-cons items i its less ∙ (λ j. sym is j ∷ drop (sym (add-one i) j) items) in
-    ap (expanded rules) left ∙ ap (λ l. l ++ expanded rules (drop (i + 1) items)) none
+    ap (expanded rules) (item-left items i its less is) ∙ ap (λ l. l ++ expanded rules (drop (i + 1) items)) (none-is (replaced (stands_for rules) its) none)
+
+pub something-next : (rules : List RawRule) (items : List RawItem) (i : ℕ) (its : RawItem) → i < length items → its ≡ get_or items i its → are_none (replaced (stands_for rules) its) ≡ false →
+    are_none (expanded rules (drop i items)) ≡ false
+something-next rules items i its less is some =
+    ap (λ l. are_none (expanded rules l)) (item-left items i its less is) ∙ none-front (replaced (stands_for rules) its) (expanded rules (drop (i + 1) items)) some
 
 pub nothing-left : (rules : List RawRule) (items : List RawItem) (i : ℕ) → length items ≤ i → expanded rules (drop i items) ≡ []
 nothing-left rules items i least = ap (expanded rules) (drop_all i items least)
 
 pub no-nothings : (rules : List RawRule) → Nothings rules []
-no-nothings rules = λ place rule told at. absurd (cc)
+no-nothings rules = λ place told rule says at. absurd (cc)
 
 -- the stack of stretches, as it is kept
 module _ {A : Type 0} (now : A → List RawItem) (rules : List RawRule) where

@@ -38,6 +38,42 @@ pub(crate) fn copy_option(alloc: Global, text: &Option<Text>) -> Result<Option<T
     }
 }
 
+/// An id, a role and a flag, as rules and assertions have them.
+#[derive(Drop)]
+pub(crate) struct Labels {
+    pub(crate) id: Option<Text>,
+    pub(crate) role: Option<Text>,
+    pub(crate) flag: Option<Text>,
+}
+
+/// An id, a role and a flag of their own.
+pub(crate) fn copy_labels(
+    alloc: Global,
+    id: &Option<Text>,
+    role: &Option<Text>,
+    flag: &Option<Text>,
+) -> Result<Labels, AllocError>
+    ensures id { IfOk result (λ its. its.id ≡ id.now) }
+    ensures role { IfOk result (λ its. its.role ≡ role.now) }
+    ensures flag { IfOk result (λ its. its.flag ≡ flag.now) }
+{
+    let id = copy_option(alloc, id)?;
+    match copy_option(alloc, role) {
+        Ok(role) => match copy_option(alloc, flag) {
+            Ok(flag) => Ok(Labels { id, role, flag }),
+            Err(error) => {
+                drop(role);
+                drop(id);
+                Err(error)
+            }
+        },
+        Err(error) => {
+            drop(id);
+            Err(error)
+        }
+    }
+}
+
 /// Texts of their own.
 fn copy_texts(alloc: Global, texts: &[Text]) -> Result<TextList, AllocError>
     ensures { IfOk result (λ its. its ≡ texts.now) }
@@ -47,6 +83,14 @@ fn copy_texts(alloc: Global, texts: &[Text]) -> Result<TextList, AllocError>
         its.push(Text::copy(alloc, text.as_str())?)?;
     }
     Ok(its)
+}
+
+/// What an assertion tests and tells, copied.
+#[derive(Drop)]
+struct Told {
+    test: Text,
+    diagnostics: TextList,
+    message: PartList,
 }
 
 impl<'a> Copier<'a> {
@@ -139,26 +183,54 @@ impl<'a> Copier<'a> {
         Ok(its)
     }
 
+    /// What an assertion tests and tells.
+    fn told(&self, assertion: &Assertion) -> Result<Told, AllocError>
+        ensures test { IfOk result (λ its. its.test ≡ change_of self.now assertion.now.test) }
+        ensures diagnostics { IfOk result (λ its. its.diagnostics ≡ assertion.now.diagnostics) }
+        ensures message { IfOk result (λ its. its.message ≡ map (part_with (change_of self.now)) assertion.now.message) }
+    {
+        let test = self.expression(assertion.test.as_str())?;
+        match copy_texts(self.alloc, assertion.diagnostics.as_slice()) {
+            Ok(diagnostics) => match self.parts(assertion.message.as_slice()) {
+                Ok(message) => Ok(Told {
+                    test,
+                    diagnostics,
+                    message,
+                }),
+                Err(error) => {
+                    drop(diagnostics);
+                    drop(test);
+                    Err(error)
+                }
+            },
+            Err(error) => {
+                drop(test);
+                Err(error)
+            }
+        }
+    }
+
     /// An assertion.
     fn assertion(&self, assertion: &Assertion) -> Result<Assertion, AllocError>
         ensures { IfOk result (λ its. its ≡ assertion_with (change_of self.now) assertion.now) }
     {
-        let id = copy_option(self.alloc, &assertion.id)?;
-        let role = copy_option(self.alloc, &assertion.role)?;
-        let flag = copy_option(self.alloc, &assertion.flag)?;
-        let test = self.expression(assertion.test.as_str())?;
-        let diagnostics = copy_texts(self.alloc, assertion.diagnostics.as_slice())?;
-        let message = self.parts(assertion.message.as_slice())?;
-        Ok(Assertion {
-            node: assertion.node,
-            report: assertion.report,
-            id,
-            role,
-            flag,
-            test,
-            diagnostics,
-            message,
-        })
+        let told = self.told(assertion)?;
+        match copy_labels(self.alloc, &assertion.id, &assertion.role, &assertion.flag) {
+            Ok(labels) => Ok(Assertion {
+                node: assertion.node,
+                report: assertion.report,
+                id: labels.id,
+                role: labels.role,
+                flag: labels.flag,
+                test: told.test,
+                diagnostics: told.diagnostics,
+                message: told.message,
+            }),
+            Err(error) => {
+                drop(told);
+                Err(error)
+            }
+        }
     }
 }
 

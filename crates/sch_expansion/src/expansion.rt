@@ -81,10 +81,32 @@ impl<'o, 'a> Expansion<'o, 'a> {
         }
     }
 
-    /// The lets and assertions that items stand for.
+    /// Copies the lets and assertions that items stand for to the end of parts.
     ///
     /// Stretches of items that are still to be visited lie on a stack, the next one on its top. Each rule that is visited
     /// stands for something.
+    fn push_all<'t>(
+        &'t self,
+        copier: &Copier<'_>,
+        items: &'t [RawItem],
+        pending: &mut Vec<&'t [RawItem]>,
+        parts: &mut RuleParts,
+    ) -> Result<(), AllocError>
+        requires { pending.old.items ≡ [] }
+        ensures lets { OnOk result (parts.new.lets ≡ parts.old.lets ++ map (let_with (change_of copier.now)) (flat_map let_in (expanded self.now items.now))) }
+        ensures assertions { OnOk result (parts.new.assertions ≡ parts.old.assertions ++ map (assertion_with (change_of copier.now)) (flat_map assertion_in (expanded self.now items.now))) }
+    {
+        pending.push(items)?;
+        while let Some(stretch) = pending.pop() {
+            if let Some((item, rest)) = stretch.split_first() {
+                parts.push(copier, item)?;
+                stack_up(pending, rest, self.reached(item))?;
+            }
+        }
+        Ok(())
+    }
+
+    /// The lets and assertions that items stand for.
     pub(crate) fn parts<'t>(
         &'t self,
         copier: &Copier<'_>,
@@ -95,13 +117,14 @@ impl<'o, 'a> Expansion<'o, 'a> {
     {
         let mut parts = RuleParts::new(self.alloc);
         let mut pending = Vec::new(self.alloc);
-        pending.push(items)?;
-        while let Some(stretch) = pending.pop() {
-            if let Some((item, rest)) = stretch.split_first() {
-                parts.push(copier, item)?;
-                stack_up(&mut pending, rest, self.reached(item))?;
+        let pushed = self.push_all(copier, items, &mut pending, &mut parts);
+        drop(pending);
+        match pushed {
+            Ok(()) => Ok(parts),
+            Err(error) => {
+                drop(parts);
+                Err(error)
             }
         }
-        Ok(parts)
     }
 }

@@ -3,15 +3,15 @@
 ghost use Rattle.std.specs.Prelude.{◌≡◌, Some, filter, map, not, IfOk};
 ghost use Rattle.sch_references.specs.Extends.{abstract_rules};
 ghost use Rattle.sch_references.specs.Order.{IsOrderOf};
-ghost use Rattle.sch_expansion.specs.Flat.{bare_pattern, concrete_patterns, flat_pattern, flat_rule, instance_of, pattern_among, pattern_from};
+ghost use Rattle.sch_expansion.specs.Flat.{bare_pattern, concrete_patterns, flat_pattern, flat_rule, instance_of, pattern_among, pattern_from, text_or_empty};
 ghost use Rattle.sch_expansion.specs.inner.Copies.{change_of};
 ghost use Rattle.sch_expansion.specs.inner.FlatBy.{flat_by};
 
-use crate::copies::{Copier, copy_option};
+use crate::copies::{Copier, copy_labels, copy_option};
 use crate::expansion::Expansion;
 use crate::filling::Filling;
 use crate::origins::Origins;
-use sch_base::ItemList;
+use sch_base::{ItemList, Text};
 use sch_model::{
     FlatPattern, FlatPatternList, FlatRule, FlatRuleList, RawPattern, RawRule, RawSchema,
 };
@@ -26,25 +26,58 @@ struct Flattener<'s, 'o, 'a> {
     origins: Origins<'s>,
 }
 
+/// What a rule has beside its lets and assertions.
+#[derive(Drop)]
+struct RuleHead {
+    id: Option<Text>,
+    context: Text,
+    role: Option<Text>,
+    flag: Option<Text>,
+}
+
 impl<'s, 'o, 'a> Flattener<'s, 'o, 'a> {
+    /// The context and the labels of a rule.
+    fn rule_head(&self, copier: &Copier<'_>, rule: &RawRule) -> Result<RuleHead, AllocError>
+        ensures context { IfOk result (λ head. head.context ≡ change_of copier.now (text_or_empty rule.now.context)) }
+        ensures id { IfOk result (λ head. head.id ≡ rule.now.id) }
+        ensures role { IfOk result (λ head. head.role ≡ rule.now.role) }
+        ensures flag { IfOk result (λ head. head.flag ≡ rule.now.flag) }
+    {
+        let context = copier.expression_or_empty(&rule.context)?;
+        match copy_labels(self.alloc, &rule.id, &rule.role, &rule.flag) {
+            Ok(labels) => Ok(RuleHead {
+                id: labels.id,
+                context,
+                role: labels.role,
+                flag: labels.flag,
+            }),
+            Err(error) => {
+                drop(context);
+                Err(error)
+            }
+        }
+    }
+
     /// A rule, with what it extends.
     fn rule(&self, copier: &Copier<'_>, rule: &RawRule) -> Result<FlatRule, AllocError>
         ensures { IfOk result (λ flat. flat ≡ flat_rule self.now.expansion (change_of copier.now) rule.now) }
     {
-        let id = copy_option(self.alloc, &rule.id)?;
-        let context = copier.expression_or_empty(&rule.context)?;
-        let role = copy_option(self.alloc, &rule.role)?;
-        let flag = copy_option(self.alloc, &rule.flag)?;
-        let parts = self.expansion.parts(copier, rule.items.as_slice())?;
-        Ok(FlatRule {
-            node: rule.node,
-            id,
-            context,
-            role,
-            flag,
-            lets: parts.lets,
-            assertions: parts.assertions,
-        })
+        let head = self.rule_head(copier, rule)?;
+        match self.expansion.parts(copier, rule.items.as_slice()) {
+            Ok(parts) => Ok(FlatRule {
+                node: rule.node,
+                id: head.id,
+                context: head.context,
+                role: head.role,
+                flag: head.flag,
+                lets: parts.lets,
+                assertions: parts.assertions,
+            }),
+            Err(error) => {
+                drop(head);
+                Err(error)
+            }
+        }
     }
 
     /// The rules that aren't abstract.

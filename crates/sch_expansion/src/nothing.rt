@@ -1,9 +1,12 @@
 //! Which abstract rules stand for nothing, and what stands in the place of an `extends`.
 
 ghost use Rattle.std.specs.Prelude.{◌≡◌, ◌≤◌, [], true, length, IfOk};
-ghost use Rattle.sch_references.specs.Order.{is_sorted};
+ghost use Rattle.std.specs.List.{list_all};
+ghost use Rattle.sch_model.specs.Items.{extended_in};
+ghost use Rattle.sch_references.specs.Extends.{is_named};
+ghost use Rattle.sch_references.specs.Order.{extends_only, is_sorted};
 ghost use Rattle.sch_expansion.specs.Stands.{replaced, stands_for};
-ghost use Rattle.sch_expansion.specs.inner.Walks.{IsInPlaceOf, Nothings, expanded, told_at};
+ghost use Rattle.sch_expansion.specs.inner.Walks.{IsInPlaceOf, Nothings, are_none, expanded, told_at, told_rules};
 
 use sch_model::RawItem;
 use sch_references::RuleOrder;
@@ -23,7 +26,8 @@ fn says_nothing(table: &[bool], place: usize) -> bool
 pub(crate) fn items_of<'a>(rules: &RuleOrder<'a>, table: &[bool], name: &str) -> &'a [RawItem]
     requires sorted { is_sorted [] rules.now ≡ true }
     requires told { Nothings rules.now table.now }
-    ensures { IsInPlaceOf rules.now name.now result.now }
+    ensures place { IsInPlaceOf rules.now name.now result.now }
+    ensures nothing { is_named (told_rules rules.now table.now) name.now ≡ true → are_none result.now ≡ are_none (stands_for rules.now name.now) }
 {
     match rules.place_of(name) {
         Some(place) if !says_nothing(table, place) => rules.rule(place).items.as_slice(),
@@ -31,11 +35,12 @@ pub(crate) fn items_of<'a>(rules: &RuleOrder<'a>, table: &[bool], name: &str) ->
     }
 }
 
-/// Whether an item stands for nothing.
+/// Whether an item stands for nothing, where it extends rules of the table alone.
 fn is_nothing(rules: &RuleOrder<'_>, table: &[bool], item: &RawItem) -> bool
     requires sorted { is_sorted [] rules.now ≡ true }
     requires told { Nothings rules.now table.now }
-    ensures { result ≡ true → replaced (stands_for rules.now) item.now ≡ [] }
+    requires known { list_all (is_named (told_rules rules.now table.now)) (extended_in item.now) ≡ true }
+    ensures { result ≡ are_none (replaced (stands_for rules.now) item.now) }
 {
     match item {
         RawItem::Extends { rule, .. } => items_of(rules, table, rule.as_str()).is_empty(),
@@ -43,11 +48,12 @@ fn is_nothing(rules: &RuleOrder<'_>, table: &[bool], item: &RawItem) -> bool
     }
 }
 
-/// Whether all items stand for nothing.
+/// Whether all items stand for nothing, where they extend rules of the table alone.
 fn are_nothing(rules: &RuleOrder<'_>, table: &[bool], items: &[RawItem]) -> bool
     requires sorted { is_sorted [] rules.now ≡ true }
     requires told { Nothings rules.now table.now }
-    ensures { result ≡ true → expanded rules.now items.now ≡ [] }
+    requires known { extends_only (told_rules rules.now table.now) items.now ≡ true }
+    ensures { result ≡ are_none (expanded rules.now items.now) }
 {
     for item in items {
         if !is_nothing(rules, table, item) {
@@ -60,7 +66,8 @@ fn are_nothing(rules: &RuleOrder<'_>, table: &[bool], items: &[RawItem]) -> bool
 /// For each rule whether it stands for nothing.
 pub(crate) fn nothings(alloc: Global, rules: &RuleOrder<'_>) -> Result<Vec<bool>, AllocError>
     requires { is_sorted [] rules.now ≡ true }
-    ensures { IfOk result (λ table. Nothings rules.now table.items) }
+    ensures told { IfOk result (λ table. Nothings rules.now table.items) }
+    ensures all { IfOk result (λ table. length table.items ≡ length rules.now) }
 {
     let mut table = Vec::new(alloc);
     for place in 0..rules.len() {

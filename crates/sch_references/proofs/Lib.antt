@@ -9,3 +9,4 @@ pub mod OrderLemmas
 pub mod ReachLemmas
 pub mod SortLemmas
 pub mod WalkLemmas
+pub mod LiveLemmas

@@ -5,4 +5,5 @@ pub mod Placed
 pub mod Order
 pub mod Places
 pub mod References
+pub mod InDocumentOrder
 pub mod inner

@@ -3,10 +3,12 @@
 #![tactic(auto)]
 
 mod ids;
+mod laws;
 mod order;
 mod reach;
 mod references;
 mod search;
 
+pub use laws::first_in_order;
 pub use order::RuleOrder;
 pub use references::check_references;

@@ -1,5 +1,5 @@
 -- The walk over what items stand for: stretches of items that are still to be visited, the next one last.
-use Rattle.std.specs.Prelude.{◌≡◌, ◌≤◌, ℕ, zero, suc, ◌+◌, Bool, true, false, List, [], ◌∷◌, ◌++◌, Some, length, slice_get}
+use Rattle.std.specs.Prelude.{◌≡◌, ◌≤◌, ℕ, zero, suc, ◌+◌, Bool, true, false, List, [], ◌∷◌, ◌++◌, Some, length, slice_get, take}
 use Rattle.std.specs.List.{flat_map}
 use Rattle.std.specs.Option.{unwrap_or}
 use Rattle.sch_model.specs.declared.raw.RawItem.{RawItem}
@@ -63,9 +63,19 @@ pub record IsReachedBy (rules : List RawRule) (its : RawItem) (items : List RawI
   pub stands : expanded rules items ≡ extended_items (stands_for rules) its
   pub visits : all_visits (visits_for rules) items ≤ item_visits (visits_for rules) its
 
--- rules that stand for nothing, where the table says so
+-- whether there is no item
+abbrev pub are_none : List RawItem → Bool
+are_none [] = true
+are_none (its ∷ items) = false
+
+-- of each rule of the table whether it stands for nothing
 abbrev pub Nothings : List RawRule → List Bool → Type 0
-Nothings rules table = (place : ℕ) (rule : RawRule) → slice_get table place ≡ Some true → slice_get rules place ≡ Some rule → expanded rules rule.items ≡ []
+Nothings rules table = (place : ℕ) (told : Bool) (rule : RawRule) → slice_get table place ≡ Some told → slice_get rules place ≡ Some rule →
+    told ≡ are_none (expanded rules rule.items)
+
+-- the rules of which the table tells
+abbrev pub told_rules : List RawRule → List Bool → List RawRule
+told_rules rules table = take (length table) rules
 
 -- what the table says of a place
 abbrev pub told_at : List Bool → ℕ → Bool

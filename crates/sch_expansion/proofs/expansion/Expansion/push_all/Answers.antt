@@ -5,7 +5,7 @@ use Rattle.sch_expansion.specs.Flat.{assertion_in, assertion_with, let_in, let_w
 use Rattle.sch_expansion.specs.inner.Copies.{change_of}
 use Rattle.sch_expansion.specs.inner.Walks.{pending_items}
 use Rattle.sch_expansion.proofs.WalkLemmas.{assertions-next, ended-fewer, ended-items, lets-next, visited-fewer, visited-items}
-use Rattle.sch_expansion.proofs.expansion.Expansion.parts.Goals as goal
+use Rattle.sch_expansion.proofs.expansion.Expansion.push_all.Goals as goal
 
 pub loop-stretch-smaller-in-Continue-branch-3 : goal.loop-stretch-smaller-in-Continue-branch-3
 loop-stretch-smaller-in-Continue-branch-3 c =
