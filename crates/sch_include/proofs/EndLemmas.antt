@@ -1,8 +1,9 @@
 -- Ends of the steps of a walk.
 use Rattle.std.proofs.Common.{◌≡◌, ℕ, List, [], refl, sym, subst}
-use Rattle.std.specs.Prelude.{Result, Ok, Err, OnOk}
+use Rattle.std.specs.Prelude.{Result, Ok, Err, IsErrAnd, OnOk}
 use Rattle.sch_io.specs.Files.{Files}
 use Rattle.sch_io.specs.ShelfState.{ShelfState}
+use Rattle.doc_tree.specs.Table.{Contents}
 use Rattle.sch_include.specs.declared.fault.IncludeError.{IncludeError}
 use Rattle.sch_include.specs.declared.fault.IncludeError.TheVariants as error
 use Rattle.sch_include.specs.declared.joiner.Joiner.{Joiner}
@@ -13,6 +14,12 @@ use Rattle.sch_include.proofs.NodeLemmas.{walks-memory}
 
 pub shows-end : (s : ShelfState) (a : List (List ℕ)) (r : Result (Unit {0}) IncludeError) → r ≡ Err error.Memory → Shows {T = Unit {0}} s s a a r
 shows-end s a r is = subst (λ (o : Result (Unit {0}) IncludeError). Shows {T = Unit {0}} s s a a o) (sym is) (shows-memory s a)
+
+-- the same of a file that was not opened
+pub shows-unopened : (s : ShelfState) (a b : List (List ℕ)) (r : Result Contents IncludeError) → b ≡ a → IsErrAnd r (λ x. x ≡ error.Memory) → Shows {T = Contents} s s a b r
+shows-unopened s a b (Ok tree) same h = absurd h
+shows-unopened s a b (Err x) same h =
+    subst (λ (names : List (List ℕ)). Shows {T = Contents} s s a names (Err x)) (sym same) (subst (λ (e : IncludeError). Shows {T = Contents} s s a a (Err e)) (sym h) (shows-memory s a))
 
 pub walks-end : (old new : Joiner) (file : OpenFile) (n p : ℕ) (F : Files → Type 0) (r : Result (Unit {0}) IncludeError) → r ≡ Err error.Memory → Walks old new file n p r F
 walks-end old new file n p F r is = subst (λ (o : Result (Unit {0}) IncludeError). Walks old new file n p o F) (sym is) (walks-memory old new file n p F)

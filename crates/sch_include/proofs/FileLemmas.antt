@@ -1,9 +1,10 @@
 -- A file takes the place of an include.
-use Rattle.std.proofs.Common.{◌≡◌, ◌≢◌, inl, inr, ℕ, suc, ◌+◌, ◌-◌, ◌≤◌, true, false, List, [], ◌∷◌, ◌++◌, length, Option, None, Some, refl, sym, ap, ap₂, ◌∙◌, subst, true≢false, arith}
+use Rattle.std.proofs.Common.{◌≡◌, ◌≢◌, inl, inr, ℕ, suc, ◌+◌, ◌-◌, ◌≤◌, true, false, List, [], ◌∷◌, ◌++◌, length, None, Some, refl, sym, ap, ap₂, ◌∙◌, subst, true≢false, arith}
 use Rattle.std.specs.Prelude.{Result, Ok, Err, nat_lt, codes}
 use Rattle.std.proofs.lemmas.Bool.{ltb-false}
 use Rattle.sch_base.specs.declared.limits.TheConstants.{MAX_INCLUDE_DEPTH}
 use Rattle.sch_io.specs.Files.{Files}
+use Rattle.sch_io.specs.ReadThrough.{Extent, ReadsThrough, all_files}
 use Rattle.sch_io.specs.ShelfState.{ShelfState}
 use Rattle.doc_tree.specs.kind.Kind.TheVariants as kinds
 use Rattle.doc_tree.specs.Kinds.{can_be_kid, is_element, is_text}
@@ -21,7 +22,7 @@ use Rattle.sch_include.specs.declared.fault.IncludeKind.TheVariants as kind
 use Rattle.sch_include.specs.declared.joiner.Joiner.{Joiner}
 use Rattle.sch_include.specs.declared.source.OpenFile.{OpenFile}
 use Rattle.sch_include.specs.inner.Growing.{Receives}
-use Rattle.sch_include.specs.Ends.{faults_with, misses_with}
+use Rattle.sch_include.specs.Ends.{extent_with, faults_with, misses_with}
 use Rattle.sch_include.specs.Includes.{is_include}
 use Rattle.sch_include.specs.Parts.{Standing, With}
 use Rattle.doc_tree.specs.NameTests.{has_name}
@@ -136,12 +137,6 @@ Read tree = Ok tree
 pub read≢memory : (tree : Contents) → Read tree ≡ Err error.Memory → ⊥
 read≢memory tree h = cc
 
-abbrev Refused : IncludeKind → Option IncludeKind
-Refused found = Some found
-
-pub refused≢none : (found : IncludeKind) → Refused found ≡ None → ⊥
-refused≢none found h = cc
-
 -- a file that is no tree
 pub unopened-takes : (old new : Joiner) (file : OpenFile) (n p : ℕ) (name : List ℕ) (e : IncludeError) (F : Files → Type 0) → ((files : Files) → F files → LoadsFile files name (Err e)) → new ≡ record old { opened = new.opened } →
     ((Unread e ≡ Err error.Memory → ⊥) → new.opened ≡ old.opened ++ name ∷ []) → TakesFile old new file n p name (Err e) F
@@ -219,6 +214,10 @@ pub is-err : (r : Result (Unit {0}) IncludeError) (x : IncludeError) → IsErrAn
 is-err (Ok done) x h = absurd h
 is-err (Err e) x h = ap (λ (f : IncludeError). Err f) h
 
+-- that tells a limit which is passed
+pub judged-err : (r : Result (Unit {0}) IncludeError) (x y : IncludeError) → IsErrAnd r (λ e. e ≡ x) → x ≡ y → r ≡ Err y
+judged-err r x y h same = is-err r x h ∙ ap (λ (f : IncludeError). Err f) same
+
 pub node-shallow : (joiner : Joiner) (file : OpenFile) (n p : ℕ) → CanWalk joiner file n p → Ordered file.tree.now.nodes → is_element (kind_of file.tree.now.nodes n) ≡ true → file.above + length (ancestors file.tree.now.nodes n) ≤ MAX_DEPTH
 node-shallow joiner file n p can ordered is =
     deep-bound file.tree.now.nodes file.above n (element-is (kind_of file.tree.now.nodes n) is)
@@ -292,18 +291,19 @@ takes-memory old new file n p name F = record { told = []; gives = λ files are 
 
 -- what an error shows is the same whatever was wanted
 pub shows-error : {A B : Type 0} (s u : ShelfState) (a c : List (List ℕ)) (e : IncludeError) → Shows {T = A} s u a c (Err e) → Shows {T = B} s u a c (Err e)
-shows-error s u a c (error.Fault fault) h = record { held = h.held; noted = h.noted; later = h.later; misses = h.misses; faults = h.faults; last = h.last }
-shows-error s u a c error.Memory h = record { held = h.held; noted = h.noted; later = h.later; misses = h.misses; faults = h.faults; last = h.last }
+shows-error s u a c (error.Fault fault) h = record { held = h.held; noted = h.noted; later = h.later; misses = h.misses; faults = h.faults; last = h.last; through = h.through }
+shows-error s u a c error.Memory h = record { held = h.held; noted = h.noted; later = h.later; misses = h.misses; faults = h.faults; last = h.last; through = h.through }
 
 -- a limit that a tree passes is no miss, and no fault of the outside
-pub unfit-kind : (S : Table) (n : ℕ) (T : Table) (above : ℕ) (standing : Standing) (found : IncludeKind) → Some found ≡ fit_fault S n T above standing → (before : ℕ) → (misses_with found before ≡ before) × (faults_with found before ≡ before)
+pub unfit-kind : (S : Table) (n : ℕ) (T : Table) (above : ℕ) (standing : Standing) (found : IncludeKind) → Some found ≡ fit_fault S n T above standing → (before : ℕ) →
+    (misses_with found before ≡ before) × (faults_with found before ≡ before) × (extent_with found ≡ all_files)
 unfit-kind S n T above standing found fault =
     fit-kind (nat_lt MAX_LIVE_NODES ((standing.nodes + length (below T (document_element T))) - length (below S n))) (is_too_deep above T)
     (nat_lt MAX_LIVE_TEXT_BYTES ((standing.text + text_below T (document_element T)) - text_below S n)) found (sym fault)
 
 -- a file was opened, and a limit refused it
 pub shows-unfit : {A : Type 0} (s u : ShelfState) (a b c : List (List ℕ)) (x : A) (found : IncludeKind) (name told : List ℕ) → Shows {T = A} s u a b (Ok x) → c ≡ b → u.opened ≡ s.opened ++ name ∷ [] → told ≡ name →
-    ((before : ℕ) → (misses_with found before ≡ before) × (faults_with found before ≡ before)) → Shows {T = Unit {0}} s u a c (Err (error.Fault (fault_of found told)))
+    ((before : ℕ) → (misses_with found before ≡ before) × (faults_with found before ≡ before) × (extent_with found ≡ all_files)) → Shows {T = Unit {0}} s u a c (Err (error.Fault (fault_of found told)))
 shows-unfit s u a b c x found name told one same noted told_is kind_is = record {
   held = one.held;
   noted = λ base was. one.noted base was ∙ ap (λ (l : List (List ℕ)). base ++ l) (sym same);
@@ -311,6 +311,7 @@ shows-unfit s u a b c x found name told one same noted told_is kind_is = record 
   misses = one.misses ∙ sym (kind_is s.misses).0;
   faults = one.faults ∙ sym (kind_is s.faults).1;
   last = λ of_file. (s.opened, noted ∙ ap (λ (l : List ℕ). s.opened ++ l ∷ []) (sym told_is));
+  through = subst (λ (extent : Extent). ReadsThrough extent s u) (sym (kind_is s.misses).2) one.through;
 }
 
 pub on-then : (r : Result (Unit {0}) IncludeError) (P Q : Type 0) → (P → Q) → OnOk r P → OnOk r Q

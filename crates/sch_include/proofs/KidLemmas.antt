@@ -5,7 +5,9 @@ use Rattle.std.proofs.lemmas.List.{map-append}
 use Rattle.sch_base.proofs.Lists.{cut-at, take-next}
 use Rattle.sch_base.specs.declared.limits.TheConstants.{MAX_INCLUDE_DEPTH}
 use Rattle.sch_io.specs.Files.{Files}
+use Rattle.sch_io.specs.ReadThrough.{all_files}
 use Rattle.sch_io.specs.ShelfState.{ShelfState}
+use Rattle.sch_io.proofs.ReadThrough.{nothing_through, one_of_both, through_then}
 use Rattle.doc_tree.proofs.ListLemmas.{mem-head, mem-tail}
 use Rattle.doc_tree.specs.Growth.{ends_in_text}
 use Rattle.doc_tree.specs.kind.Kind.{Kind}
@@ -20,7 +22,7 @@ use Rattle.sch_include.specs.declared.fault.IncludeError.{IncludeError}
 use Rattle.sch_include.specs.declared.fault.IncludeError.TheVariants as error
 use Rattle.sch_include.specs.declared.joiner.Joiner.{Joiner}
 use Rattle.sch_include.specs.declared.source.OpenFile.{OpenFile}
-use Rattle.sch_include.specs.Ends.{faults_of_including, misses_of_including}
+use Rattle.sch_include.specs.Ends.{extent_of_including, faults_of_including, misses_of_including}
 use Rattle.sch_include.specs.Parts.{InTurn, Part, Standing}
 use Rattle.sch_include.specs.Taking.{Source, Taking, Walked}
 use Rattle.sch_include.specs.inner.Growing.{Adds}
@@ -39,13 +41,14 @@ shows-then s t u a b c x result one two = record {
   misses = subst (λ (m : ℕ). u.misses ≡ misses_of_including result m) one.misses two.misses;
   faults = subst (λ (m : ℕ). u.faults ≡ faults_of_including result m) one.faults two.faults;
   last = two.last;
+  through = through_then (extent_of_including result) s t u one.through two.through;
 }
 
 pub shows-none : (s : ShelfState) (a : List (List ℕ)) → Shows {T = Unit {0}} s s a a (Ok tt)
-shows-none s a = record { held = refl; noted = λ base was. was; later = ([], sym (append-nil a)); misses = refl; faults = refl; last = tt }
+shows-none s a = record { held = refl; noted = λ base was. was; later = ([], sym (append-nil a)); misses = refl; faults = refl; last = tt; through = nothing_through s }
 
 pub shows-memory : {A : Type 0} (s : ShelfState) (a : List (List ℕ)) → Shows {T = A} s s a a (Err error.Memory)
-shows-memory s a = record { held = refl; noted = λ base was. was; later = ([], sym (append-nil a)); misses = refl; faults = refl; last = tt }
+shows-memory s a = record { held = refl; noted = λ base was. was; later = ([], sym (append-nil a)); misses = refl; faults = refl; last = tt; through = one_of_both all_files s s (nothing_through s) }
 
 -- kinds decide whether nodes end in a text
 ends-alike : (U T : Table) (ms ns : List ℕ) → map (kind_of U) ms ≡ map (kind_of T) ns → ends_in_text U ms ≡ ends_in_text T ns

@@ -17,7 +17,9 @@ use Rattle.doc_tree.specs.Lists.{mem, upto}
 use Rattle.doc_tree.specs.Table.{Contents, Table, is_live, kids_of, kind_of}
 use Rattle.doc_tree.specs.Walks.{above, ancestors, below, order, text_bytes}
 use Rattle.doc_tree.specs.Growth.{ends_in_text}
+use Rattle.sch_io.specs.ReadThrough.{Extent, ReadsThrough, all_files}
 use Rattle.sch_io.specs.ShelfState.{ShelfState}
+use Rattle.sch_io.proofs.ReadThrough.{nothing_through}
 use Rattle.sch_rules.specs.Attributes.{said}
 use Rattle.sch_rules.specs.Elements.{document_element, first_or}
 use Rattle.sch_include.specs.declared.fault.IncludeError.{IncludeError}
@@ -27,7 +29,7 @@ use Rattle.sch_include.specs.declared.fault.IncludeKind.{IncludeKind}
 use Rattle.sch_include.specs.declared.fault.IncludeKind.TheVariants as kind
 use Rattle.sch_include.specs.declared.joiner.Joiner.{Joiner}
 use Rattle.sch_include.specs.declared.source.OpenFile.{OpenFile}
-use Rattle.sch_include.specs.Ends.{faults_with, is_of_file, misses_with}
+use Rattle.sch_include.specs.Ends.{extent_with, faults_with, is_of_file, misses_with}
 use Rattle.sch_include.specs.inner.Growing.{Receives}
 use Rattle.sch_include.specs.Includes.{file_named, has_fragment, has_scheme, is_include}
 use Rattle.sch_include.specs.Parts.{Standing, With}
@@ -186,11 +188,27 @@ misses-none kind.TooManyNodes before h = (refl, refl)
 misses-none kind.TreeTooDeep before h = (refl, refl)
 misses-none kind.TooMuchText before h = (refl, refl)
 
--- the limits name no miss and no failure of the outside
-pub fit-kind : (a b c : Bool) (found : IncludeKind) → (if a then Some kind.TooManyNodes else if b then Some kind.TreeTooDeep else if c then Some kind.TooMuchText else None) ≡ Some found → (before : ℕ) → (misses_with found before ≡ before) × (faults_with found before ≡ before)
-fit-kind true b c found h before = let same : found ≡ kind.TooManyNodes = (cc) in rw same (refl, refl)
-fit-kind false true c found h before = let same : found ≡ kind.TreeTooDeep = (cc) in rw same (refl, refl)
-fit-kind false false true found h before = let same : found ≡ kind.TooMuchText = (cc) in rw same (refl, refl)
+extent-none : (k : IncludeKind) → is_of_file k ≡ false → extent_with k ≡ all_files
+extent-none kind.NoHref h = refl
+extent-none kind.Scheme h = refl
+extent-none kind.Fragment h = refl
+extent-none kind.Cycle h = refl
+extent-none kind.TooDeep h = refl
+extent-none kind.TooMany h = refl
+extent-none kind.Missing h = absurd (true≢false h)
+extent-none kind.Failed h = absurd (true≢false h)
+extent-none kind.TooLarge h = absurd (true≢false h)
+extent-none (kind.Doc fault) h = refl
+extent-none kind.TooManyNodes h = refl
+extent-none kind.TreeTooDeep h = refl
+extent-none kind.TooMuchText h = refl
+
+-- the limits name no miss and no failure of the outside, and a file that was read
+pub fit-kind : (a b c : Bool) (found : IncludeKind) → (if a then Some kind.TooManyNodes else if b then Some kind.TreeTooDeep else if c then Some kind.TooMuchText else None) ≡ Some found → (before : ℕ) →
+    (misses_with found before ≡ before) × (faults_with found before ≡ before) × (extent_with found ≡ all_files)
+fit-kind true b c found h before = let same : found ≡ kind.TooManyNodes = (cc) in rw same (refl, refl, refl)
+fit-kind false true c found h before = let same : found ≡ kind.TreeTooDeep = (cc) in rw same (refl, refl, refl)
+fit-kind false false true found h before = let same : found ≡ kind.TooMuchText = (cc) in rw same (refl, refl, refl)
 fit-kind false false false found h before = absurd (cc)
 
 -- an include that was refused shows nothing
@@ -205,6 +223,7 @@ shows-refused source standing n s a (error.Fault fault) h =
       misses = sym (misses-none fault.kind s.misses kind_is).0;
       faults = sym (misses-none fault.kind s.faults kind_is).1;
       last = λ of_file. absurd (true≢false (sym of_file ∙ kind_is));
+      through = subst (λ (extent : Extent). ReadsThrough extent s s) (sym (extent-none fault.kind kind_is)) (nothing_through s);
     }
 
 taking-gives : (files : Files) (depth : ℕ) (source : Source) (n : ℕ) (a b : Standing) (told : List Line) (result : Result (Unit {0}) IncludeError) (name : List ℕ) → included_name source a n ≡ Ok name →

@@ -6,7 +6,9 @@ use Rattle.std.proofs.lemmas.List.{same_from_push}
 use Rattle.std.proofs.lemmas.List.Folds.{fold-map}
 use Rattle.sch_base.specs.declared.limits.TheConstants.{MAX_INCLUDE_DEPTH}
 use Rattle.sch_io.specs.Files.{Files}
+use Rattle.sch_io.specs.ReadThrough.{ReadsThrough, all_files}
 use Rattle.sch_io.specs.ShelfState.{ShelfState}
+use Rattle.sch_io.proofs.ReadThrough.{nothing_through, one_of_both}
 use Rattle.doc_tree.proofs.ListLemmas.{mem-head}
 use Rattle.doc_tree.specs.InOrder.{IsInOrder}
 use Rattle.doc_tree.specs.kind.Kind.{Kind}
@@ -24,7 +26,7 @@ use Rattle.sch_include.specs.declared.fault.IncludeError.TheVariants as error
 use Rattle.sch_include.specs.declared.fault.IncludeFault.{IncludeFault}
 use Rattle.sch_include.specs.declared.joiner.Joiner.{Joiner}
 use Rattle.sch_include.specs.declared.source.OpenFile.{OpenFile}
-use Rattle.sch_include.specs.Ends.{IsAnswered, IsFirst, IsRead, NamesLast, faults_of_including, misses_of_including}
+use Rattle.sch_include.specs.Ends.{IsAnswered, IsFirst, IsRead, NamesLast, extent_of_including, faults_of_including, misses_of_including}
 use Rattle.sch_include.specs.Included.{IsNumberedDocument, WholeFile, as_it_is, nothing, whole_source}
 use Rattle.sch_include.specs.Includes.{is_include}
 use Rattle.sch_include.specs.Parts.{Part, Standing}
@@ -204,6 +206,13 @@ pub is-unread : (result : Result Contents IncludeError) (e : IncludeError) → I
 is-unread (Ok tree) e h = absurd h
 is-unread (Err x) e h = ap Unread h
 
+-- how far the files of a call that failed were read
+pub through-passed : (s u : ShelfState) (result : Result Contents IncludeError) (e : IncludeError) → result ≡ Err e → ReadsThrough (extent_of_including {T = Contents} (Err e)) s u → ReadsThrough (extent_of_including result) s u
+through-passed s u result e is h = subst (λ (r : Result Contents IncludeError). ReadsThrough (extent_of_including r) s u) (sym is) h
+
+pub through-memory : (s : ShelfState) (result : Result Contents IncludeError) → result ≡ Err error.Memory → ReadsThrough (extent_of_including result) s s
+through-memory s result is = through-passed s s result error.Memory is (one_of_both all_files s s (nothing_through s))
+
 -- no file was opened before
 module _ (s t : ShelfState) (name : List ℕ) (start : List (List ℕ)) (none : start ≡ []) where
   at-start : s.opened ≡ s.opened ++ start
@@ -250,10 +259,12 @@ module _ (s t : ShelfState) (name : List ℕ) (start : List (List ℕ)) (none : 
     whole-file : (files : Files) (result : Result (List Line) IncludeFault) → WholeFile files name tree.nodes (standing_of old) (standing_of new) result → WholeFile files name tree.nodes (record nothing { opened = name ∷ [] }) (standing_of new) result
     whole-file files result h = subst (λ (names : List (List ℕ)). WholeFile files name tree.nodes (record nothing { opened = names }) (standing_of new) result) (one-opened old.opened opened) h
 
-    pub counted-stopped : (e : IncludeError) → Shows {T = Unit {0}} t u old.opened new.opened (Err e) → (result : Result Contents IncludeError) → result ≡ Err e → (u.misses ≡ misses_of_including result s.misses) × (u.faults ≡ faults_of_including result s.faults)
+    pub counted-stopped : (e : IncludeError) → Shows {T = Unit {0}} t u old.opened new.opened (Err e) → (result : Result Contents IncludeError) → result ≡ Err e →
+        (u.misses ≡ misses_of_including result s.misses) × (u.faults ≡ faults_of_including result s.faults) × ReadsThrough (extent_of_including result) s u
     counted-stopped e two result is =
         let both : Shows {T = Unit {0}} s u start new.opened (Err e) = shows-then s t u start old.opened new.opened tree (Err e) one two in
-        subst (λ (r : Result Contents IncludeError). (u.misses ≡ misses_of_including r s.misses) × (u.faults ≡ faults_of_including r s.faults)) (sym is) (both.misses, both.faults)
+        subst (λ (r : Result Contents IncludeError). (u.misses ≡ misses_of_including r s.misses) × (u.faults ≡ faults_of_including r s.faults) × ReadsThrough (extent_of_including r) s u) (sym is)
+        (both.misses, both.faults, both.through)
 
     module _ (loads : (files : Files) → s.files ≡ Some files → LoadsFile files name (Ok tree)) where
       pub read-stopped : (e : IncludeError) → Shows {T = Unit {0}} t u old.opened new.opened (Err e) → ReadsWhole old new tree.nodes name (Err e) (λ files. t.files ≡ Some files) → IsRead s.files name s.opened u.opened (Err e)

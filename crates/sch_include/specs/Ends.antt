@@ -2,6 +2,7 @@
 use Rattle.std.specs.Prelude.{◌≡◌, ℕ, Bool, true, false, List, [], ◌∷◌, ◌++◌, Option, Some, Result, Ok, Err, IfErr}
 use Rattle.sch_io.specs.Counts.{one_more}
 use Rattle.sch_io.specs.Files.{Files}
+use Rattle.sch_io.specs.ReadThrough.{Extent, all_files, all_but_last, all_or_but_last}
 use Rattle.doc_tree.specs.Table.{Contents}
 use Rattle.sch_include.specs.declared.fault.IncludeError.{IncludeError}
 use Rattle.sch_include.specs.declared.fault.IncludeError.TheVariants as error
@@ -33,6 +34,22 @@ abbrev pub faults_of_including : {T : Type 0} → Result T IncludeError → ℕ 
 faults_of_including (Ok tree) before = before
 faults_of_including (Err (error.Fault fault)) before = faults_with fault.kind before
 faults_of_including (Err error.Memory) before = before
+
+-- how far the opened files were read: the last one was not read to its end where there is none, its reading failed or it is too
+-- large
+abbrev pub extent_with : IncludeKind → Extent
+extent_with kind.Missing = all_but_last
+extent_with kind.Failed = all_but_last
+extent_with kind.TooLarge = all_but_last
+extent_with _ = all_files
+
+abbrev pub extent_of_error : IncludeError → Extent
+extent_of_error (error.Fault fault) = extent_with fault.kind
+extent_of_error error.Memory = all_or_but_last
+
+abbrev pub extent_of_including : {T : Type 0} → Result T IncludeError → Extent
+extent_of_including (Ok tree) = all_files
+extent_of_including (Err refused) = extent_of_error refused
 
 -- whether the fault is of a file that was opened, and not of what would have named one
 abbrev pub is_of_file : IncludeKind → Bool

@@ -24,7 +24,8 @@ pub(crate) fn copy_node(
 ) -> Result<NodeId, AllocError>
     requires takes { TakesCopy tree.old.nodes parent source.now.nodes n }
     requires scoped { InScope source.now.nodes }
-    ensures { IfOk result (λ k. Copied tree.old.nodes tree.new.nodes parent k source.now.nodes n) }
+    ensures copied { IfOk result (λ k. Copied tree.old.nodes tree.new.nodes parent k source.now.nodes n) }
+    ensures cap { tree.new.pair_cap ≡ tree.old.pair_cap }
 {
     if source.is_element(n) {
         copy_element(tree, parent, source, n)
@@ -42,7 +43,8 @@ fn copy_leaf(
 ) -> Result<NodeId, AllocError>
     requires takes { TakesCopy tree.old.nodes parent source.now.nodes n }
     requires leaf { is_element (kind_of source.now.nodes n) ≡ false }
-    ensures { IfOk result (λ k. Copied tree.old.nodes tree.new.nodes parent k source.now.nodes n) }
+    ensures copied { IfOk result (λ k. Copied tree.old.nodes tree.new.nodes parent k source.now.nodes n) }
+    ensures cap { tree.new.pair_cap ≡ tree.old.pair_cap }
 {
     tree.laws();
     source.laws();
@@ -67,7 +69,8 @@ fn copy_element(
     requires takes { TakesCopy tree.old.nodes parent source.now.nodes n }
     requires scoped { InScope source.now.nodes }
     requires under { kind_of source.now.nodes n ≡ Some Element }
-    ensures { IfOk result (λ k. Copied tree.old.nodes tree.new.nodes parent k source.now.nodes n) }
+    ensures copied { IfOk result (λ k. Copied tree.old.nodes tree.new.nodes parent k source.now.nodes n) }
+    ensures cap { tree.new.pair_cap ≡ tree.old.pair_cap }
 {
     tree.laws();
     source.laws();
@@ -103,8 +106,9 @@ fn append_element(
     requires shallow { length (above tree.old.nodes parent) ≤ MAX_DEPTH }
     requires room { suc (length (order tree.old.nodes)) ≤ MAX_LIVE_NODES }
     requires little { text_bytes tree.old.nodes ≤ MAX_LIVE_TEXT_BYTES }
-    ensures { IfOk result (λ k. (name : Name) × (name_of source.now.nodes n ≡ Some name)
+    ensures grew { IfOk result (λ k. (name : Name) × (name_of source.now.nodes n ≡ Some name)
         × Grew tree.old.nodes tree.new.nodes parent k (element name [])) }
+    ensures cap { tree.new.pair_cap ≡ tree.old.pair_cap }
 {
     let name = copy_name(tree, source, n)?;
     unlimited(tree.append_node(parent, NewNode::Element(name)))
@@ -116,6 +120,7 @@ fn copy_decls(tree: &mut Tree, to: NodeId, source: &Tree, n: NodeId) -> Result<(
     requires no_decl { decls_of tree.old.nodes to ≡ [] }
     requires no_attribute { attrs_of tree.old.nodes to ≡ [] }
     requires once { declares_twice (decls_of source.now.nodes n) ≡ false }
+    ensures cap { tree.new.pair_cap ≡ tree.old.pair_cap }
     ensures no_attribute { OnOk result (attrs_of tree.new.nodes to ≡ []) }
     ensures starts { OnOk result ((G : Table) (p : ℕ) (name : Name) (told : List Line) → Starts G tree.old.nodes p to (element name []) told 1 0 →
         Starts G tree.new.nodes p to (element name (decls_of source.now.nodes n)) (told ++ map declares (decls_of source.now.nodes n)) 1 0) }
@@ -135,7 +140,8 @@ fn copy_attributes(tree: &mut Tree, to: NodeId, source: &Tree, n: NodeId) -> Res
     requires no_attribute { attrs_of tree.old.nodes to ≡ [] }
     requires room { length (order tree.old.nodes) + length (attrs_of source.now.nodes n) ≤ MAX_LIVE_NODES }
     requires little { text_bytes tree.old.nodes + sum_by (λ m. length (value_of source.now.nodes m)) (attrs_of source.now.nodes n) ≤ MAX_LIVE_TEXT_BYTES }
-    ensures { OnOk result ((G : Table) (p : ℕ) (content : Content) (told : List Line) (nodes text : ℕ) → Starts G tree.old.nodes p to content told nodes text →
+    ensures cap { tree.new.pair_cap ≡ tree.old.pair_cap }
+    ensures starts { OnOk result ((G : Table) (p : ℕ) (content : Content) (told : List Line) (nodes text : ℕ) → Starts G tree.old.nodes p to content told nodes text →
         Starts G tree.new.nodes p to content (told ++ flat_map (opens source.now.nodes) (attrs_of source.now.nodes n)) (nodes + length (attrs_of source.now.nodes n))
         (text + sum_by (λ m. length (value_of source.now.nodes m)) (attrs_of source.now.nodes n))) }
 {
@@ -159,8 +165,9 @@ fn copy_attribute(
     requires fits { (name : Name) → name_of source.now.nodes attr ≡ Some name → AttributeFits tree.old.nodes to name }
     requires room { suc (length (order tree.old.nodes)) ≤ MAX_LIVE_NODES }
     requires little { text_bytes tree.old.nodes + length (value_of source.now.nodes attr) ≤ MAX_LIVE_TEXT_BYTES }
-    ensures { IfOk result (λ k. (name : Name) × (name_of source.now.nodes attr ≡ Some name)
+    ensures grew { IfOk result (λ k. (name : Name) × (name_of source.now.nodes attr ≡ Some name)
         × Grew tree.old.nodes tree.new.nodes to k (attribute name (value_of source.now.nodes attr))) }
+    ensures cap { tree.new.pair_cap ≡ tree.old.pair_cap }
 {
     let name = copy_name(tree, source, attr)?;
     unlimited(tree.append_node(to, NewNode::Attribute(name, source.value(attr))))
@@ -172,6 +179,7 @@ fn copy_name(tree: &mut Tree, source: &Tree, n: NodeId) -> Result<NameId, AllocE
     ensures name { IfOk result (λ id. name_of source.now.nodes n ≡ Some (numbered tree.new.names id)) }
     ensures known { IfOk result (λ id. id < length tree.new.names) }
     ensures nodes { tree.new.nodes ≡ tree.old.nodes }
+    ensures cap { tree.new.pair_cap ≡ tree.old.pair_cap }
 {
     match source.name(n) {
         Some(name) => tree.name_id(

@@ -1,8 +1,10 @@
 //! A schema's file with its includes replaced.
 
 ghost use Rattle.std.specs.Prelude.{◌≡◌, [], Some, OnOk, IfOk};
+ghost use Rattle.sch_io.specs.ReadThrough.{ReadsThrough};
 ghost use Rattle.doc_tree.specs.Table.{root_alone};
-ghost use Rattle.sch_include.specs.Ends.{IsRead, faults_of_including, misses_of_including};
+ghost use Rattle.doc_tree.specs.limits.TheConstants.{MAX_LIVE_NODES};
+ghost use Rattle.sch_include.specs.Ends.{IsRead, extent_of_including, faults_of_including, misses_of_including};
 ghost use Rattle.sch_include.specs.Included.{IsNumberedDocument};
 ghost use Rattle.sch_include.specs.inner.Joining.{IsFile, ReadsWhole, Shows};
 
@@ -25,10 +27,14 @@ pub fn include_all<S: Shelf>(alloc: Global, shelf: &mut S, name: &str) -> Result
     // the named file is read first, then those that are included; over a shelf that tells its files they decide what comes of it
     ensures read { IsRead (S.state shelf.old).files name.now (S.state shelf.old).opened (S.state shelf.new).opened result }
     ensures document { IfOk result (λ tree. IsNumberedDocument tree.nodes) }
+    // the most that a tree can hold, as of each new tree
+    ensures cap { IfOk result (λ tree. tree.pair_cap ≡ MAX_LIVE_NODES) }
     ensures held { (S.state shelf.new).files ≡ (S.state shelf.old).files }
     // a file is told as missing, or its reading as failed, exactly where the shelf counted it
     ensures misses { (S.state shelf.new).misses ≡ misses_of_including result (S.state shelf.old).misses }
     ensures faults { (S.state shelf.new).faults ≡ faults_of_including result (S.state shelf.old).faults }
+    // each opened file was read to its end and no further, but for one that is missing, fails or is too large, the last
+    ensures through { ReadsThrough (extent_of_including result) (S.state shelf.old) (S.state shelf.new) }
 {
     let mut joiner = Joiner::new(alloc)?;
     let tree = joiner.open(shelf, name)?;
@@ -48,6 +54,7 @@ impl Joiner {
         requires alone { self.old.tree ≡ root_alone }
         requires unread { self.old.reading.items ≡ [] }
         ensures shows { Shows (S.state shelf.old) (S.state shelf.new) self.old.opened self.new.opened result }
+        ensures cap { self.new.tree.pair_cap ≡ self.old.tree.pair_cap }
         ensures document { OnOk result (IsNumberedDocument self.new.tree.nodes) }
         ensures reads { ReadsWhole self.old self.new tree.now.nodes name.now result (λ files. (S.state shelf.old).files ≡ Some files) }
     {

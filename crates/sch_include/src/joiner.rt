@@ -1,18 +1,20 @@
 //! The tree of a schema under way: files are read and put together.
 
-ghost use Rattle.std.specs.Prelude.{◌≡◌, ◌⊎◌, ℕ, List, ◌+◌, ◌-◌, ◌≤◌, ◌∷◌, [], ◌++◌, true, length, None, Some, Ok, Err, nat_lt, IfOk, IfErr, OnOk, MatchOption};
+ghost use Rattle.std.specs.Prelude.{◌≡◌, ◌⊎◌, ℕ, List, ◌+◌, ◌-◌, ◌≤◌, ◌∷◌, [], ◌++◌, true, codes, length, None, Some, Ok, Err, nat_lt, IfOk, IfErr, OnOk, OnErr, MatchOption};
 ghost use Rattle.std.specs.List.{list_any};
 ghost use Rattle.std.specs.Str.{bytes_eq};
 ghost use Rattle.sch_io.specs.Files.{Files};
+ghost use Rattle.sch_io.specs.ReadThrough.{ReadsThrough};
 ghost use Rattle.doc_tree.specs.Laws.{WellFormed};
 ghost use Rattle.doc_tree.specs.limits.TheConstants.{MAX_DEPTH, MAX_LIVE_NODES, MAX_LIVE_TEXT_BYTES};
 ghost use Rattle.sch_base.specs.declared.limits.TheConstants.{MAX_INCLUDE_DEPTH};
 ghost use Rattle.doc_tree.specs.Table.{is_live, kids_of, root_alone};
 ghost use Rattle.doc_tree.specs.Walks.{ancestors, below};
+ghost use Rattle.sch_rules.specs.Attributes.{said};
 ghost use Rattle.sch_rules.specs.Elements.{document_element};
 ghost use Rattle.sch_include.specs.Includes.{is_include};
 ghost use Rattle.sch_include.specs.Taking.{fault_of, included_name, text_below};
-ghost use Rattle.sch_include.specs.inner.Joining.{IsFault, IsFile, IsNamed, Loads, LoadsFile, Shows, faults_of_loading, fit_fault, misses_of_loading, refused_kind, source_of, standing_of};
+ghost use Rattle.sch_include.specs.inner.Joining.{IsFault, IsFile, IsJudged, IsNamed, Loads, LoadsFile, Shows, extent_of_loading, faults_of_loading, fit_fault, misses_of_loading, refused_kind, source_of, standing_of};
 
 use crate::fault::{IncludeError, IncludeFault, IncludeKind};
 use crate::href::{file_named, has_fragment, has_scheme};
@@ -52,6 +54,7 @@ fn load<S: Shelf>(alloc: Global, shelf: &mut S, name: &str) -> Result<Tree, Refu
     ensures noted { (S.state shelf.new).opened ≡ (S.state shelf.old).opened ++ name.now ∷ [] }
     ensures misses { (S.state shelf.new).misses ≡ misses_of_loading result (S.state shelf.old).misses }
     ensures faults { (S.state shelf.new).faults ≡ faults_of_loading result (S.state shelf.old).faults }
+    ensures through { ReadsThrough (extent_of_loading result) (S.state shelf.old) (S.state shelf.new) }
 {
     match read_all(alloc, shelf, name) {
         Ok(bytes) => match load_tree(alloc, bytes.as_slice()) {
@@ -129,11 +132,13 @@ impl Joiner {
 
     /// The name of the file that an include names, or what refuses it.
     pub(crate) fn included_name(&self, source: &OpenFile, n: NodeId) -> Result<Text, IncludeError>
-        ensures { IsNamed (included_name (source_of self.now source.now) (standing_of self.now) n) result }
+        ensures named { IsNamed (included_name (source_of self.now source.now) (standing_of self.now) n) result }
+        // an include that names nothing is told, and want of memory never in its place
+        ensures nameless { said source.now.tree.now.nodes n (codes "href") ≡ None → result ≡ Err (IncludeError.Fault (fault_of IncludeKind.NoHref [])) }
     {
         let href = match href(source.tree, n) {
             Some(href) => href,
-            None => return Err(self.fault(IncludeKind::NoHref, "")),
+            None => return Err(without_href(self.alloc)),
         };
         if has_scheme(href) {
             return Err(self.fault(IncludeKind::Scheme, href));
@@ -180,14 +185,39 @@ impl Joiner {
         self.reading.iter().any(|other| name == other.as_str())
     }
 
-    /// Counts the document element of a tree in place of a node, or tells the limit that the tree then passes.
-    pub(crate) fn fit(
+    /// Counts the document element of a tree in place of a node, or refuses it with its name.
+    pub(crate) fn judge(
         &mut self,
         source: &Tree,
         n: NodeId,
         tree: &Tree,
         above: usize,
-    ) -> Option<IncludeKind>
+        name: Text,
+    ) -> Result<(), IncludeError>
+        requires lives { is_live source.now.nodes n ≡ true }
+        requires room { length (below source.now.nodes n) ≤ self.old.nodes }
+        requires few { self.old.nodes ≤ MAX_LIVE_NODES }
+        requires bytes { text_below source.now.nodes n ≤ self.old.text }
+        requires little { self.old.text ≤ MAX_LIVE_TEXT_BYTES }
+        requires shallow { above ≤ MAX_DEPTH }
+        // a limit that is passed is told, and want of memory never in its place
+        ensures judged { IsJudged (fit_fault source.now.nodes n tree.now.nodes above (standing_of self.old)) name result }
+        ensures nodes { OnOk result (self.new.nodes ≡ (self.old.nodes + length (below tree.now.nodes (document_element tree.now.nodes))) - length (below source.now.nodes n)) }
+        ensures text { OnOk result (self.new.text ≡ (self.old.text + text_below tree.now.nodes (document_element tree.now.nodes)) - text_below source.now.nodes n) }
+        ensures same { self.new ≡ record self.old { nodes = self.new.nodes; text = self.new.text } }
+        ensures kept { OnErr result (self.new ≡ self.old) }
+    {
+        match self.fit(source, n, tree, above) {
+            Some(kind) => Err(IncludeError::Fault(IncludeFault { kind, name })),
+            None => {
+                drop(name);
+                Ok(())
+            }
+        }
+    }
+
+    /// Counts the document element of a tree in place of a node, or tells the limit that the tree then passes.
+    fn fit(&mut self, source: &Tree, n: NodeId, tree: &Tree, above: usize) -> Option<IncludeKind>
         requires lives { is_live source.now.nodes n ≡ true }
         requires room { length (below source.now.nodes n) ≤ self.old.nodes }
         requires few { self.old.nodes ≤ MAX_LIVE_NODES }
@@ -218,6 +248,16 @@ impl Joiner {
         self.text = text;
         None
     }
+}
+
+/// The fault of an include without an `href`, which names nothing and so wants no memory.
+fn without_href(alloc: Global) -> IncludeError
+    ensures { result ≡ IncludeError.Fault (fault_of IncludeKind.NoHref []) }
+{
+    IncludeError::Fault(IncludeFault {
+        kind: IncludeKind::NoHref,
+        name: Text::from(String::new(alloc)),
+    })
 }
 
 /// How many nodes stand above a node.

@@ -8,7 +8,7 @@ ghost use Rattle.sch_include.specs.Includes.{is_include};
 ghost use Rattle.sch_include.specs.inner.Joining.{CanWalk, CanWalkKids, Keeps, Shows, TakesFile, Walks, WalksFile, WalksKids, source_of, standing_of};
 
 use crate::copy::copy_node;
-use crate::fault::{IncludeError, IncludeFault};
+use crate::fault::IncludeError;
 use crate::joiner::{Joiner, depth_of};
 use crate::source::{OpenFile, document_element, is_include};
 use doc_tree::NodeId;
@@ -27,6 +27,7 @@ impl Joiner {
     ) -> Result<(), IncludeError>
         requires can { CanWalk self.old source.now n parent }
         ensures shows { Shows (S.state shelf.old) (S.state shelf.new) self.old.opened self.new.opened result }
+        ensures cap { self.new.tree.pair_cap ≡ self.old.tree.pair_cap }
         ensures keeps { OnOk result (Keeps self.old self.new source.now n) }
         ensures walks { Walks self.old self.new source.now n parent result (λ files. (S.state shelf.old).files ≡ Some files) }
     {
@@ -52,6 +53,7 @@ impl Joiner {
     ) -> Result<(), IncludeError>
         requires can { CanWalkKids self.old source.now n copy }
         ensures shows { Shows (S.state shelf.old) (S.state shelf.new) self.old.opened self.new.opened result }
+        ensures cap { self.new.tree.pair_cap ≡ self.old.tree.pair_cap }
         ensures walks { WalksKids self.old self.new source.now n (kids_of source.now.tree.now.nodes n) copy result (λ files. (S.state shelf.old).files ≡ Some files) }
     {
         source.tree.laws();
@@ -74,6 +76,7 @@ impl Joiner {
         requires can { CanWalk self.old source.now n parent }
         requires include { is_include source.now.tree.now.nodes n ≡ true }
         ensures shows { Shows (S.state shelf.old) (S.state shelf.new) self.old.opened self.new.opened result }
+        ensures cap { self.new.tree.pair_cap ≡ self.old.tree.pair_cap }
         ensures keeps { OnOk result (Keeps self.old self.new source.now n) }
         ensures walks { Walks self.old self.new source.now n parent result (λ files. (S.state shelf.old).files ≡ Some files) }
     {
@@ -96,6 +99,7 @@ impl Joiner {
         requires include { is_include source.now.tree.now.nodes n ≡ true }
         requires files { length self.old.reading.items ≤ MAX_INCLUDE_DEPTH }
         ensures shows { Shows (S.state shelf.old) (S.state shelf.new) self.old.opened self.new.opened result }
+        ensures cap { self.new.tree.pair_cap ≡ self.old.tree.pair_cap }
         ensures keeps { OnOk result (Keeps self.old self.new source.now n) }
         ensures takes { TakesFile self.old self.new source.now n parent name.now result (λ files. (S.state shelf.old).files ≡ Some files) }
     {
@@ -104,18 +108,16 @@ impl Joiner {
         source.tree.laws();
         tree.laws();
         let above = source.above + depth_of(source.tree, n) - 1;
-        match self.fit(source.tree, n, &tree, above) {
-            Some(kind) => Err(IncludeError::Fault(IncludeFault { kind, name: told })),
-            None => self.walk_included(
-                shelf,
-                &OpenFile {
-                    tree: &tree,
-                    name,
-                    above,
-                },
-                parent,
-            ),
-        }
+        self.judge(source.tree, n, &tree, above, told)?;
+        self.walk_included(
+            shelf,
+            &OpenFile {
+                tree: &tree,
+                name,
+                above,
+            },
+            parent,
+        )
     }
 
     /// Puts the document element of a file, which is noted meanwhile as one that is being read, at the end of a node of the tree.
@@ -129,6 +131,7 @@ impl Joiner {
         requires can { CanWalk self.old file.now (document_element file.now.tree.now.nodes) parent }
         requires files { length self.old.reading.items ≤ MAX_INCLUDE_DEPTH }
         ensures shows { Shows (S.state shelf.old) (S.state shelf.new) self.old.opened self.new.opened result }
+        ensures cap { self.new.tree.pair_cap ≡ self.old.tree.pair_cap }
         ensures keeps { OnOk result (Keeps self.old self.new file.now (document_element file.now.tree.now.nodes)) }
         ensures walks { WalksFile self.old self.new file.now parent result (λ files. (S.state shelf.old).files ≡ Some files) }
     {

@@ -5,7 +5,9 @@ use Rattle.std.proofs.lemmas.Bool.{le-ltb, lt-ltb}
 use Rattle.sch_io.specs.Counts.{one_more}
 use Rattle.sch_io.specs.Files.{Files}
 use Rattle.sch_io.specs.declared.reading.TheConstants.{MAX_FILE_BYTES}
+use Rattle.sch_io.specs.ReadThrough.{Extent, ReadsThrough, all_files, all_but_last, all_or_but_last}
 use Rattle.sch_io.specs.ShelfState.{ShelfState}
+use Rattle.sch_io.proofs.ReadThrough.{left_unread, one_of_both, read_through}
 use Rattle.pyx_core.specs.declared.mode.Mode.TheVariants.{Document}
 use Rattle.pyx_core.specs.Nesting.{bare}
 use Rattle.pyx_core.specs.Reading.{events_of}
@@ -18,7 +20,7 @@ use Rattle.sch_include.specs.declared.fault.IncludeError.TheVariants as include
 use Rattle.sch_include.specs.declared.fault.IncludeFault.{IncludeFault}
 use Rattle.sch_include.specs.declared.fault.IncludeKind.{IncludeKind}
 use Rattle.sch_include.specs.declared.fault.IncludeKind.TheVariants as kind
-use Rattle.sch_include.specs.Ends.{IsFirst, IsRead, faults_with, is_of_file, misses_with}
+use Rattle.sch_include.specs.Ends.{IsFirst, IsRead, extent_with, faults_with, is_of_file, misses_with}
 use Rattle.sch_include.specs.Included.{Including}
 use Rattle.sch_include.specs.Taking.{fault_of}
 use Rattle.sch_words.specs.declared.status.Status.TheVariants as status
@@ -28,12 +30,12 @@ use Rattle.sch_stops.specs.declared.refusal.FileRefusal.TheVariants.{TooLarge, F
 use Rattle.sch_stops.specs.declared.refusal.ScriptRefusal.TheVariants as script
 use Rattle.sch_stops.specs.declared.stop.Stop.{Stop}
 use Rattle.sch_stops.specs.declared.stop.Stop.TheVariants.{DocumentRefused, ScriptRefused, Missing, ReadFault, Memory}
-use Rattle.sch_loading.specs.Reads.{EndsAs, IsLastOf, Opens, OpensAll, Reads, file, schema_file}
+use Rattle.sch_loading.specs.Reads.{EndsAs, IsLastOf, Named, Opens, OpensAll, Reads, ReadsUpTo, extent_of_document, extent_of_stop, file, schema_file}
 use Rattle.sch_loading.specs.Loading.{Fetching, Inclusion, Parsing, as_script, held_under}
 use Rattle.sch_stops.specs.Output.{Output}
 use Rattle.sch_stops.specs.Stops.{ByCause, counted_if, is_status, name_in, status_of}
-use Rattle.sch_loading.specs.Stages.{Came, Is, goes, halts, unread}
-use Rattle.sch_loading.specs.inner.Refusing.{IsInner, stop_of}
+use Rattle.sch_loading.specs.Stages.{Came, Is, Stage, goes, halts, unread}
+use Rattle.sch_loading.specs.inner.Refusing.{AllowsAll, IsInner, IsInside, extent_of_found, stop_of}
 use Rattle.sch_loading.proofs.PartLemmas.{all-first, none-first}
 
 -- The file of a schema with its includes
@@ -60,7 +62,15 @@ include_named P kind.TooLarge name holds = holds refl
 include_named P (kind.Doc fault) name holds = holds refl
 include_named P _ name holds = tt
 
--- and it stops the run as the files say
+-- and it stops the run at the same file
+include_extent : (k : IncludeKind) (name : List ℕ) → extent_with k ≡ extent_of_stop (stop_of k name)
+include_extent kind.Missing name = refl
+include_extent kind.Failed name = refl
+include_extent kind.TooLarge name = refl
+include_extent (kind.Doc fault) name = refl
+include_extent k name = refl
+
+-- and as the files say
 include_told : (files : Files) (schema : List ℕ) (opened : List (List ℕ)) (k : IncludeKind) (name : List ℕ) → Including files schema opened (Err (fault_of k name)) →
     ByCause (λ output. Inclusion files schema opened (halts output)) (λ failed. Inclusion files schema opened (unread failed)) ⊥ (Unit {0}) (stop_of k name)
 include_told files schema opened kind.Missing name is = (Err (fault_of kind.Missing name), is, refl)
@@ -82,8 +92,8 @@ opens_first name (own ∷ more) first =
 
 -- a schema's tree was read
 pub schema_loaded : (old new : ShelfState) (name : List ℕ) (tree : Contents) → IsRead old.files name old.opened new.opened (Ok tree) → new.files ≡ old.files →
-    new.misses ≡ old.misses → new.faults ≡ old.faults → Reads old new (schema_file name ∷ []) (λ files. Inclusion files name) (λ (t : Contents). t.nodes) (Ok tree)
-schema_loaded old new name tree read held misses faults = record {
+    new.misses ≡ old.misses → new.faults ≡ old.faults → ReadsThrough all_files old new → Reads old new (schema_file name ∷ []) (λ files. Inclusion files name) (λ (t : Contents). t.nodes) (Ok tree)
+schema_loaded old new name tree read held misses faults through = record {
   held = held;
   opened = read.opened;
   noted = read.noted;
@@ -94,14 +104,15 @@ schema_loaded old new name tree read held misses faults = record {
   told = tt;
   no_usage = refl;
   no_write = refl;
+  through = through;
 }
 
 -- its includes have a fault
 pub schema_faulted : (old new : ShelfState) (name : List ℕ) (fault : IncludeFault) (stop : Stop) → stop ≡ stop_of fault.kind fault.name →
     IsRead old.files name old.opened new.opened (Err (include.Fault fault)) → new.files ≡ old.files →
-    new.misses ≡ misses_with fault.kind old.misses → new.faults ≡ faults_with fault.kind old.faults →
+    new.misses ≡ misses_with fault.kind old.misses → new.faults ≡ faults_with fault.kind old.faults → ReadsThrough (extent_with fault.kind) old new →
     Reads {B = Contents} old new (schema_file name ∷ []) (λ files. Inclusion files name) (λ t. t.nodes) (Err stop)
-schema_faulted old new name fault stop is read held misses faults =
+schema_faulted old new name fault stop is read held misses faults through =
     subst (λ (s : Stop). Reads {B = Contents} old new (schema_file name ∷ []) (λ files. Inclusion files name) (λ t. t.nodes) (Err s)) (sym is) (record {
       held = held;
       opened = read.opened;
@@ -113,12 +124,13 @@ schema_faulted old new name fault stop is read held misses faults =
       told = include_named (IsLastOf read.opened) fault.kind fault.name read.last;
       no_usage = (include_stop fault.kind fault.name).usage;
       no_write = (include_stop fault.kind fault.name).write_fault;
+      through = subst (λ (extent : Extent). ReadsThrough extent old new) (include_extent fault.kind fault.name) through;
     })
 
 -- memory ran out
 pub schema_unread : (old new : ShelfState) (name : List ℕ) → IsRead old.files name old.opened new.opened (Err include.Memory) → new.files ≡ old.files →
-    new.misses ≡ old.misses → new.faults ≡ old.faults → Reads {B = Contents} old new (schema_file name ∷ []) (λ files. Inclusion files name) (λ t. t.nodes) (Err Memory)
-schema_unread old new name read held misses faults = record {
+    new.misses ≡ old.misses → new.faults ≡ old.faults → ReadsThrough all_or_but_last old new → Reads {B = Contents} old new (schema_file name ∷ []) (λ files. Inclusion files name) (λ t. t.nodes) (Err Memory)
+schema_unread old new name read held misses faults through = record {
   held = held;
   opened = read.opened;
   noted = read.noted;
@@ -129,6 +141,7 @@ schema_unread old new name read held misses faults = record {
   told = tt;
   no_usage = refl;
   no_write = refl;
+  through = through;
 }
 
 -- A single file
@@ -139,10 +152,10 @@ one_file name = ([], refl, refl)
 
 module _ (old new : ShelfState) (name : List ℕ) (held : new.files ≡ old.files) (noted : new.opened ≡ old.opened ++ name ∷ []) where
   -- it was read whole
-  pub file_read : (bytes : List ℕ) → new.faults ≡ old.faults → new.misses ≡ old.misses →
+  pub file_read : (bytes : List ℕ) → new.ends ≡ old.ends ++ name ∷ [] → new.faults ≡ old.faults → new.misses ≡ old.misses →
       ((files : Files) → old.files ≡ Some files → (get files name ≡ Some bytes) × (length bytes ≤ MAX_FILE_BYTES)) →
       Reads old new (file name ∷ []) (λ files. Fetching files name MAX_FILE_BYTES) (λ (found : Option (List ℕ)). found) (Ok (Some bytes))
-  file_read bytes faults misses told = record {
+  file_read bytes ends faults misses told = record {
     held = held;
     opened = name ∷ [];
     noted = noted;
@@ -158,13 +171,14 @@ module _ (old new : ShelfState) (name : List ℕ) (held : new.files ≡ old.file
     told = tt;
     no_usage = refl;
     no_write = refl;
+    through = read_through old new name noted ends;
   }
 
   -- it has more bytes than a file may have
-  pub file_large : new.faults ≡ old.faults → new.misses ≡ old.misses →
+  pub file_large : new.ends ≡ old.ends → new.faults ≡ old.faults → new.misses ≡ old.misses →
       ((files : Files) → old.files ≡ Some files → (bytes : List ℕ) × (get files name ≡ Some bytes) × (MAX_FILE_BYTES < length bytes)) →
-      Reads old new (file name ∷ []) (λ files. Fetching files name MAX_FILE_BYTES) (λ (found : Option (List ℕ)). found) (Ok None)
-  file_large faults misses told = record {
+      ReadsUpTo all_but_last old new (file name ∷ []) (λ files. Fetching files name MAX_FILE_BYTES) (λ (found : Option (List ℕ)). found) (Ok None)
+  file_large ends faults misses told = record {
     held = held;
     opened = name ∷ [];
     noted = noted;
@@ -181,12 +195,13 @@ module _ (old new : ShelfState) (name : List ℕ) (held : new.files ≡ old.file
     told = tt;
     no_usage = refl;
     no_write = refl;
+    through = left_unread old new name noted ends;
   }
 
   -- there is none of that name
-  pub file_missing : new.faults ≡ old.faults → new.misses ≡ one_more old.misses → ((files : Files) → old.files ≡ Some files → get files name ≡ None) →
+  pub file_missing : new.ends ≡ old.ends → new.faults ≡ old.faults → new.misses ≡ one_more old.misses → ((files : Files) → old.files ≡ Some files → get files name ≡ None) →
       Reads {B = Option (List ℕ)} old new (file name ∷ []) (λ files. Fetching files name MAX_FILE_BYTES) (λ found. found) (Err (Missing name))
-  file_missing faults misses told = record {
+  file_missing ends faults misses told = record {
     held = held;
     opened = name ∷ [];
     noted = noted;
@@ -197,12 +212,13 @@ module _ (old new : ShelfState) (name : List ℕ) (held : new.files ≡ old.file
     told = ([], refl);
     no_usage = refl;
     no_write = refl;
+    through = left_unread old new name noted ends;
   }
 
   -- the outside failed
-  pub file_failed : new.faults ≡ one_more old.faults → new.misses ≡ old.misses →
+  pub file_failed : new.ends ≡ old.ends → new.faults ≡ one_more old.faults → new.misses ≡ old.misses →
       Reads {B = Option (List ℕ)} old new (file name ∷ []) (λ files. Fetching files name MAX_FILE_BYTES) (λ found. found) (Err (ReadFault name))
-  file_failed faults misses = record {
+  file_failed ends faults misses = record {
     held = held;
     opened = name ∷ [];
     noted = noted;
@@ -213,12 +229,13 @@ module _ (old new : ShelfState) (name : List ℕ) (held : new.files ≡ old.file
     told = ([], refl);
     no_usage = refl;
     no_write = refl;
+    through = left_unread old new name noted ends;
   }
 
   -- memory ran out
-  pub file_unread : new.faults ≡ old.faults → new.misses ≡ old.misses →
+  pub file_unread : new.ends ≡ old.ends → new.faults ≡ old.faults → new.misses ≡ old.misses →
       Reads {B = Option (List ℕ)} old new (file name ∷ []) (λ files. Fetching files name MAX_FILE_BYTES) (λ found. found) (Err Memory)
-  file_unread faults misses = record {
+  file_unread ends faults misses = record {
     held = held;
     opened = name ∷ [];
     noted = noted;
@@ -229,7 +246,26 @@ module _ (old new : ShelfState) (name : List ℕ) (held : new.files ≡ old.file
     told = tt;
     no_usage = refl;
     no_write = refl;
+    through = one_of_both all_but_last old new (left_unread old new name noted ends);
   }
+
+-- a file that was read whole, and one that has too many bytes
+pub found_whole : {A : Type 0} (old new : ShelfState) (named : List Named) (stage : Files → Stage A) (value_of : Option (List ℕ) → A) (found : Option (List ℕ)) (bytes : List ℕ) → found ≡ Some bytes →
+    ReadsUpTo (extent_of_found found) old new named stage value_of (Ok found) → Reads old new named stage value_of (Ok found)
+found_whole old new named stage value_of found bytes is one = subst (λ (extent : Extent). ReadsUpTo extent old new named stage value_of (Ok found)) (ap extent_of_found is) one
+
+pub found_large : {A : Type 0} (old new : ShelfState) (named : List Named) (stage : Files → Stage A) (value_of : Option (List ℕ) → A) (found : Option (List ℕ)) → ((bytes : List ℕ) → found ≡ Some bytes → ⊥) →
+    ReadsUpTo (extent_of_found found) old new named stage value_of (Ok found) → ReadsUpTo all_but_last old new named stage value_of (Ok found)
+found_large old new named stage value_of None none one = one
+found_large old new named stage value_of (Some bytes) none one = absurd (none bytes refl)
+
+pub found_none : {A : Type 0} (old new : ShelfState) (named : List Named) (stage : Files → Stage A) (value_of : Option (List ℕ) → A) (found : Option (List ℕ)) → found ≡ None →
+    ReadsUpTo (extent_of_found found) old new named stage value_of (Ok found) → ReadsUpTo all_but_last old new named stage value_of (Ok found)
+found_none old new named stage value_of found none one = subst (λ (extent : Extent). ReadsUpTo extent old new named stage value_of (Ok found)) (ap extent_of_found none) one
+
+-- which stops the run there
+pub stopped_there : (old new : ShelfState) (stop here : Stop) → stop ≡ here → ReadsThrough (extent_of_stop here) old new → ReadsThrough (extent_of_stop stop) old new
+stopped_there old new stop here is through = subst (λ (s : Stop). ReadsThrough (extent_of_stop s) old new) (sym is) through
 
 -- Documents
 
@@ -255,11 +291,14 @@ document_faulted found bytes slice fault stop is same faulty refused =
     (refl, Err fault, faulty, refl))
 
 -- neither is of the outside
-pub document_inner : (stop : Stop) (refusal : DocumentRefusal) → stop ≡ DocumentRefused refusal → IsInner stop
-document_inner stop refusal is = subst IsInner (sym is) (record { unnamed = refl; usage = refl; missing = refl; read_fault = refl; write_fault = refl })
+pub document_inside : (stop : Stop) (refusal : DocumentRefusal) → stop ≡ DocumentRefused refusal → IsInside stop
+document_inside stop refusal is = subst IsInside (sym is) (record { unnamed = refl; usage = refl; missing = refl; read_fault = refl; write_fault = refl })
+
+pub document_inner : (stop : Stop) (refusal : DocumentRefusal) → stop ≡ DocumentRefused refusal → AllowsAll (extent_of_document refusal) → IsInner stop
+document_inner stop refusal is allows = record { inside = document_inside stop refusal is; all_read = subst (λ (s : Stop). AllowsAll (extent_of_stop s)) (sym is) allows }
 
 pub memory_inner : (stop : Stop) → stop ≡ Memory → IsInner stop
-memory_inner stop is = subst IsInner (sym is) (record { unnamed = refl; usage = refl; missing = refl; read_fault = refl; write_fault = refl })
+memory_inner stop is = subst IsInner (sym is) (record { inside = record { unnamed = refl; usage = refl; missing = refl; read_fault = refl; write_fault = refl }; all_read = tt })
 
 -- Scripts
 
@@ -269,5 +308,5 @@ script_read found bytes is = (refl, ap as_script (sym is))
 pub script_too_long : (found : Option (List ℕ)) → found ≡ None → EndsAs (Is (as_script found) []) (λ (b : List ℕ). b) (Err (ScriptRefused script.TooLarge))
 script_too_long found none = (refl, ap as_script (sym none))
 
-pub script_inner : IsInner (ScriptRefused script.TooLarge)
-script_inner = record { unnamed = refl; usage = refl; missing = refl; read_fault = refl; write_fault = refl }
+pub script_inside : IsInside (ScriptRefused script.TooLarge)
+script_inside = record { unnamed = refl; usage = refl; missing = refl; read_fault = refl; write_fault = refl }

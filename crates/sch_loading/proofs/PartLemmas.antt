@@ -1,12 +1,14 @@
 -- Parts of a run one after the other.
 use Rattle.std.proofs.Common.{◌∙◌, ◌≡◌, ℕ, Bool, true, false, List, [], ◌∷◌, ◌++◌, append_assoc, append-nil, IfErr, IfSome, MatchResult, Option, None, Some, Result, Ok, Err, refl, ap, sym, subst}
 use Rattle.sch_io.specs.Files.{Files}
+use Rattle.sch_io.specs.ReadThrough.{Extent, ReadsThrough, all_files, all_but_last, all_or_but_last}
 use Rattle.sch_io.specs.ShelfState.{ShelfState}
+use Rattle.sch_io.proofs.ReadThrough.{nothing_through, one_of_both, through_then}
 use Rattle.sch_stops.specs.Output.{Output}
 use Rattle.sch_loading.specs.Stages.{Came, Is, Stage, Then, goes, halts, unread}
-use Rattle.sch_loading.specs.Reads.{EndsAs, IsLastOf, Named, Opens, OpensAll, Reads, file, schema_file}
+use Rattle.sch_loading.specs.Reads.{EndsAs, IsLastOf, Named, Opens, OpensAll, Reads, ReadsUpTo, extent_of, extent_of_stop, file, schema_file}
 use Rattle.sch_stops.specs.Stops.{ByCause, Names, counted_if, ends_with, is_status, name_in, status_of, stopped_by}
-use Rattle.sch_loading.specs.inner.Refusing.{IsInner}
+use Rattle.sch_loading.specs.inner.Refusing.{AllowsAll, IsInner, IsInside}
 use Rattle.sch_words.specs.declared.status.Status.TheVariants as status
 use Rattle.sch_stops.specs.declared.stop.Stop.{Stop}
 use Rattle.sch_stops.specs.declared.stop.Stop.TheVariants.{Usage, SchemaRefused, DocumentRefused, ScriptRefused, Missing, ReadFault, WriteFault, Memory}
@@ -100,6 +102,7 @@ reads_then old mid new some more first next value_of later_of value result one t
   told = names_in (IsLastOf two.opened) (IsLastOf (one.opened ++ two.opened)) (λ name last. (one.opened ++ last.0, ap (λ (o : List (List ℕ)). one.opened ++ o) last.1 ∙ sym (append_assoc one.opened last.0 (name ∷ [])))) result two.told;
   no_usage = two.no_usage;
   no_write = two.no_write;
+  through = through_then (extent_of result) old mid new one.through two.through;
 }
 
 -- a part that stops, and nothing after it
@@ -118,6 +121,7 @@ reads_stopped {D = D} old new some more first next value_of later_of stop result
       told = one.told;
       no_usage = one.no_usage;
       no_write = one.no_write;
+      through = one.through;
     })
 
 -- a part that opens nothing more, behind one that made its value
@@ -127,6 +131,29 @@ ends_on first next opened value later_of begins (Ok later) ends = goes-on first 
 ends_on first next opened value later_of begins (Err stop) ends = by_cause (λ output. next value [] (halts output)) (λ output. Then first next opened (halts output))
     (λ name. next value [] (unread name)) (λ name. Then first next opened (unread name)) ⊥ ⊥ (Unit {0}) (Unit {0})
     (λ stop on. goes-on first next opened value (halts (stopped_by stop)) begins on) (λ name on. goes-on first next opened value (unread name) begins on) (λ no. no) (λ m. m) stop ends
+
+-- which stops the run
+pub reads_ended : {A B C D : Type 0} (extent : Extent) (old new : ShelfState) (named : List Named) (stage : Files → Stage A) (next : A → Stage B) (value_of : C → A) (later_of : D → B) (value : C) (stop : Stop) →
+    ReadsUpTo extent old new named stage value_of (Ok value) → EndsAs (next (value_of value) []) later_of (Err stop) → IsInside stop → ReadsThrough (extent_of_stop stop) old new →
+    Reads old new named (λ files. Then (stage files) next) later_of (Err stop)
+reads_ended extent old new named stage next value_of later_of value stop one ends inside through = record {
+  held = one.held;
+  opened = one.opened;
+  noted = one.noted;
+  which = all-first named one.opened one.which;
+  came = λ files is. ends_on (stage files) next one.opened (value_of value) later_of (one.came files is) (Err stop) ends;
+  faults = one.faults ∙ ap (λ (b : Bool). counted_if b old.faults) (sym inside.read_fault);
+  misses = one.misses ∙ ap (λ (b : Bool). counted_if b old.misses) (sym inside.missing);
+  told = subst (λ (t : Option (List ℕ)). IfSome t (IsLastOf one.opened)) (sym inside.unnamed) tt;
+  no_usage = inside.usage;
+  no_write = inside.write_fault;
+  through = through;
+}
+
+all_allowed : (extent : Extent) (old new : ShelfState) → AllowsAll extent → ReadsThrough all_files old new → ReadsThrough extent old new
+all_allowed all_files old new allows through = through
+all_allowed all_but_last old new allows through = absurd allows
+all_allowed all_or_but_last old new allows through = one_of_both all_files old new through
 
 pub reads_on : {A B C D : Type 0} (old new : ShelfState) (named : List Named) (stage : Files → Stage A) (next : A → Stage B) (value_of : C → A) (later_of : D → B) (value : C) (result : Result D Stop) →
     Reads old new named stage value_of (Ok value) → EndsAs (next (value_of value) []) later_of result → IfErr result IsInner →
@@ -142,19 +169,10 @@ reads_on old new named stage next value_of later_of value (Ok later) one ends in
   told = tt;
   no_usage = refl;
   no_write = refl;
+  through = one.through;
 }
-reads_on old new named stage next value_of later_of value (Err stop) one ends inner = record {
-  held = one.held;
-  opened = one.opened;
-  noted = one.noted;
-  which = all-first named one.opened one.which;
-  came = λ files is. ends_on (stage files) next one.opened (value_of value) later_of (one.came files is) (Err stop) ends;
-  faults = one.faults ∙ ap (λ (b : Bool). counted_if b old.faults) (sym inner.read_fault);
-  misses = one.misses ∙ ap (λ (b : Bool). counted_if b old.misses) (sym inner.missing);
-  told = subst (λ (t : Option (List ℕ)). IfSome t (IsLastOf one.opened)) (sym inner.unnamed) tt;
-  no_usage = inner.usage;
-  no_write = inner.write_fault;
-}
+reads_on old new named stage next value_of later_of value (Err stop) one ends inner =
+    reads_ended all_files old new named stage next value_of later_of value stop one ends inner.inside (all_allowed (extent_of_stop stop) old new inner.all_read one.through)
 
 -- the value of a part, seen as another one
 pub reads_as : {A B C D : Type 0} (old new : ShelfState) (named : List Named) (stage : Files → Stage A) (turn : A → B) (value_of : C → A) (later_of : D → B) (value : C) (later : D) → later_of later ≡ turn (value_of value) →
@@ -176,6 +194,7 @@ reads_nothing {D = D} state named stage later_of result stop is memory = subst (
   told = tt;
   no_usage = refl;
   no_write = refl;
+  through = one_of_both all_files state state (nothing_through state);
 })
 
 -- a part that opens nothing and makes its value
@@ -191,6 +210,7 @@ reads_none state stage later_of later makes = record {
   told = tt;
   no_usage = refl;
   no_write = refl;
+  through = nothing_through state;
 }
 
 -- a part that was stopped, as one of another kind
@@ -208,4 +228,5 @@ reads_same {D = D} old new named stage value_of later_of stop result is one =
       told = one.told;
       no_usage = one.no_usage;
       no_write = one.no_write;
+      through = one.through;
     })

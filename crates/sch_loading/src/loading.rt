@@ -5,9 +5,9 @@ ghost use Rattle.sch_io.specs.declared.reading.TheConstants.{MAX_FILE_BYTES};
 ghost use Rattle.doc_tree.specs.Kinds.{is_document};
 ghost use Rattle.sch_compiled.specs.Soundness.{IsSound};
 ghost use Rattle.edit_script.specs.declared.limits.TheConstants.{MAX_SCRIPT_BYTES};
-ghost use Rattle.sch_loading.specs.Reads.{Reads, file, schema_file};
+ghost use Rattle.sch_loading.specs.Reads.{Reads, ReadsUpTo, file, schema_file};
 ghost use Rattle.sch_loading.specs.Loading.{Expanding, Fetching, Inclusion, Loading, Planning, Scripting};
-ghost use Rattle.sch_loading.specs.inner.Refusing.{stop_of};
+ghost use Rattle.sch_loading.specs.inner.Refusing.{extent_of_fetching, stop_of};
 
 use crate::schema::{plan_of, read_flat};
 use doc_tree::Tree;
@@ -111,7 +111,7 @@ pub fn read_script<S: Shelf>(alloc: Global, name: Text, shelf: &mut S) -> Result
 
 /// The bytes of the named file, None where it has more than a file may have.
 fn read_file<S: Shelf>(alloc: Global, name: Text, shelf: &mut S) -> Result<Option<Bytes>, Stop>
-    ensures reads { Reads (S.state shelf.old) (S.state shelf.new) (file name ∷ []) (λ files. Fetching files name MAX_FILE_BYTES) (λ found. found) result }
+    ensures reads { ReadsUpTo (extent_of_fetching result) (S.state shelf.old) (S.state shelf.new) (file name ∷ []) (λ files. Fetching files name MAX_FILE_BYTES) (λ found. found) result }
     ensures short { IfOk result (λ found. IfSome found (λ bytes. length bytes ≤ MAX_FILE_BYTES)) }
 {
     match read_all(alloc, shelf, name.as_str()) {

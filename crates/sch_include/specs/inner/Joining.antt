@@ -4,6 +4,7 @@ use Rattle.std.specs.List.{flat_map, list_any}
 use Rattle.std.specs.Str.{bytes_eq}
 use Rattle.sch_base.specs.declared.limits.TheConstants.{MAX_INCLUDES, MAX_INCLUDE_DEPTH}
 use Rattle.sch_io.specs.Files.{Files}
+use Rattle.sch_io.specs.ReadThrough.{Extent, ReadsThrough, all_files, all_or_but_last}
 use Rattle.sch_io.specs.ShelfState.{ShelfState}
 use Rattle.doc_tree.specs.limits.TheConstants.{MAX_LIVE_NODES, MAX_LIVE_TEXT_BYTES}
 use Rattle.doc_tree.specs.Growth.{ends_in_text}
@@ -23,7 +24,7 @@ use Rattle.sch_include.specs.declared.joiner.Joiner.{Joiner}
 use Rattle.sch_include.specs.declared.joiner.Refusal.{Refusal}
 use Rattle.sch_include.specs.declared.joiner.Refusal.TheVariants as refusal
 use Rattle.sch_include.specs.declared.source.OpenFile.{OpenFile}
-use Rattle.sch_include.specs.Ends.{NamesLast, faults_of_including, faults_with, misses_of_including, misses_with}
+use Rattle.sch_include.specs.Ends.{NamesLast, extent_of_including, extent_with, faults_of_including, faults_with, misses_of_including, misses_with}
 use Rattle.sch_include.specs.Included.{WholeFile}
 use Rattle.sch_include.specs.Parts.{InTurn, Part, Standing}
 use Rattle.sch_include.specs.Taking.{Loading, Opening, Placing, Reading, Source, Taking, Walked, fault_of, is_too_deep, text_below}
@@ -55,6 +56,11 @@ faults_of_loading (Ok tree) before = before
 faults_of_loading (Err (refusal.Kind kind)) before = faults_with kind before
 faults_of_loading (Err refusal.Memory) before = before
 
+abbrev pub extent_of_loading : {T : Type 0} → Result T Refusal → Extent
+extent_of_loading (Ok tree) = all_files
+extent_of_loading (Err (refusal.Kind kind)) = extent_with kind
+extent_of_loading (Err refusal.Memory) = all_or_but_last
+
 abbrev pub LoadsFile : Files → List ℕ → Result Contents IncludeError → Type 0
 LoadsFile files name (Ok tree) = Loading files name (Ok tree.nodes)
 LoadsFile files name (Err (error.Fault fault)) = Loading files name (Err fault)
@@ -68,6 +74,7 @@ pub record Shows {T : Type 0} (before after : ShelfState) (old new : List (List 
   pub misses : after.misses ≡ misses_of_including result before.misses
   pub faults : after.faults ≡ faults_of_including result before.faults
   pub last : IfErr result (NamesLast after.opened)
+  pub through : ReadsThrough (extent_of_including result) before after
 
 abbrev pub standing_of : Joiner → Standing
 standing_of joiner = record { nodes = joiner.nodes; text = joiner.text; opened = joiner.opened }
@@ -81,13 +88,13 @@ Gives part before after told (Ok done) = part before after (Ok told)
 Gives part before after told (Err (error.Fault fault)) = part before after (Err fault)
 Gives part before after told (Err error.Memory) = Unit {0}
 
--- what names a file, or that very fault; want of memory comes at any time
+-- what names a file, or that very fault; the copy of a name may want memory
 abbrev pub IsNamed : Result (List ℕ) IncludeFault → Result (List ℕ) IncludeError → Type 0
 IsNamed named (Ok name) = named ≡ Ok name
 IsNamed named (Err (error.Fault fault)) = named ≡ Err fault
 IsNamed named (Err error.Memory) = Unit {0}
 
--- that very fault; want of memory comes at any time
+-- that very fault; the copy of its name may want memory
 abbrev pub IsFault : IncludeFault → IncludeError → Type 0
 IsFault fault (error.Fault other) = other ≡ fault
 IsFault fault error.Memory = Unit {0}
@@ -107,6 +114,11 @@ fit_fault S n T above standing =
     else if is_too_deep above T then Some kind.TreeTooDeep
     else if nat_lt MAX_LIVE_TEXT_BYTES ((standing.text + text_below T (document_element T)) - text_below S n) then Some kind.TooMuchText
     else None
+
+-- no limit is passed, or the one that is passed is told with the name, for which no memory is wanted
+abbrev pub IsJudged : Option IncludeKind → List ℕ → Result (Unit {0}) IncludeError → Type 0
+IsJudged found name (Ok done) = found ≡ None
+IsJudged found name (Err refused) = (passed : IncludeKind) × (found ≡ Some passed) × (refused ≡ error.Fault (fault_of passed name))
 
 -- U is G with these lines more, those of a kid of p that has the kind of a node of T
 pub record Joins (G U : Table) (p : ℕ) (T : Table) (n : ℕ) (told : List Line) : Type 0 where

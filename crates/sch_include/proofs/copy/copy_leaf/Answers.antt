@@ -16,8 +16,8 @@ unlimited-requires c = elim c.if-is_text.branch [
       w.in_ok-name.ensures.nodes w.appended-is w.value-else-is_comment.ensures (λ F. refl) w.append_node-else-is_comment.ensures.refused
 ]
 
-pub returns : goal.returns
-returns c = elim c.if-is_text.branch [
+pub returns-clause-copied : goal.returns-clause-copied
+returns-clause-copied c = elim c.if-is_text.branch [
   | then-is_text w ↦ rw w.tree-is
       (text-copied c.args.tree.now.nodes w.append_node-appended.new.self.nodes c.args.parent c.args.source.now.nodes c.args.n c.laws-2.ensures.well_formed c.requires.takes w.append_node-appended.result c.if-is_text.appended c.unlimited.result w.appended-is c.unlimited.ensures
       w.value.result.now w.value.ensures (sym c.is_text.ensures ∙ w.if-is_text.true) w.append_node-appended.ensures.grew)
@@ -30,4 +30,11 @@ returns c = elim c.if-is_text.branch [
       w.in_ok-name.ensures.name
       (subst (λ (F : Table). IfOk w.append_node-else-is_comment.result (λ (k : ℕ). Grew F w.append_node-else-is_comment.new.self.nodes c.args.parent k (instruction (numbered w.copy_name.new.tree.names w.in_ok-name.name) w.value-else-is_comment.result.now)))
       w.in_ok-name.ensures.nodes w.append_node-else-is_comment.ensures.grew))
+]
+
+pub returns-clause-cap : goal.returns-clause-cap
+returns-clause-cap c = elim c.if-is_text.branch [
+  | then-is_text w ↦ rw w.tree-is w.append_node-appended.ensures.cap
+  | else-is_text+then-is_comment w ↦ rw w.tree-is w.append_node.ensures.cap
+  | else-is_text+else-is_comment+in_ok-name w ↦ rw w.tree-is (w.append_node-else-is_comment.ensures.cap ∙ w.in_ok-name.ensures.cap)
 ]

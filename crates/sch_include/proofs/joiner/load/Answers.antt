@@ -1,4 +1,6 @@
 -- What was read decides.
+use Rattle.sch_io.specs.ReadThrough.{all_but_last, all_files}
+use Rattle.sch_io.proofs.ReadThrough.{left_unread, one_of_both, read_through}
 use Rattle.sch_include.specs.Taking.{failed, missing, too_large}
 use Rattle.sch_include.proofs.LoadLemmas.{loads-fault, loads-tree}
 use Rattle.sch_include.proofs.joiner.load.Goals as goal
@@ -21,3 +23,24 @@ pub returns-in-Err-TooLarge-clause-told : goal.returns-in-Err-TooLarge-clause-to
 returns-in-Err-TooLarge-clause-told g c = λ files is.
     let h = rw c.in-Err-TooLarge.field-0-is at (c.in-Err-TooLarge.ensures.told files is) in
     too_large h.0 h.1 h.2
+
+pub returns-in-Ok-load_tree-clause-through : goal.returns-in-Ok-load_tree-clause-through
+returns-in-Ok-load_tree-clause-through g c = read_through _ _ c.args.name.now c.in-Ok.ensures.noted c.in-Ok.ensures.ends
+
+pub returns-in-Err-Fault-clause-through : goal.returns-in-Err-Fault-clause-through
+returns-in-Err-Fault-clause-through g c = read_through _ _ c.args.name.now c.in-Ok.ensures.noted c.in-Ok.ensures.ends
+
+pub returns-in-Ok-clause-through : goal.returns-in-Ok-clause-through
+returns-in-Ok-clause-through g c = one_of_both all_files _ _ (read_through _ _ c.args.name.now c.in-Ok.ensures.noted c.in-Ok.ensures.ends)
+
+pub returns-in-Err-Missing-clause-through : goal.returns-in-Err-Missing-clause-through
+returns-in-Err-Missing-clause-through g c = left_unread _ _ c.args.name.now c.in-Err-Missing.ensures.noted c.in-Err-Missing.ensures.ends
+
+pub returns-in-Err-Failed-clause-through : goal.returns-in-Err-Failed-clause-through
+returns-in-Err-Failed-clause-through g c = left_unread _ _ c.args.name.now c.in-Err-Failed.ensures.noted c.in-Err-Failed.ensures.ends
+
+pub returns-in-Err-TooLarge-clause-through : goal.returns-in-Err-TooLarge-clause-through
+returns-in-Err-TooLarge-clause-through g c = left_unread _ _ c.args.name.now c.in-Err-TooLarge.ensures.noted c.in-Err-TooLarge.ensures.ends
+
+pub returns-clause-through : goal.returns-clause-through
+returns-clause-through g c = one_of_both all_but_last _ _ (left_unread _ _ c.args.name.now c.in-Err-Memory.ensures.noted c.in-Err-Memory.ensures.ends)

@@ -33,5 +33,6 @@ decreases-walk_included g l = inside l.self.now.reading.items + 0
 abbrev pub invariant-walk_kids-loop-kid : goal.invariant-walk_kids-loop-kid
 invariant-walk_kids-loop-kid g l = record {
   shows : Shows {T = Unit {0}} (g.S.Shelf.state l.initial.shelf) (g.S.Shelf.state l.shelf) l.initial.self.opened l.self.opened (Ok tt);
+  cap : l.self.tree.pair_cap ≡ l.initial.self.tree.pair_cap;
   walks : WalksKids l.initial.self l.self l.fn.source l.fn.n (take l.kid-index (kids_of l.fn.source.tree.now.nodes l.fn.n)) l.fn.copy (Ok tt) (λ files. (g.S.Shelf.state l.initial.shelf).files ≡ Some files);
 }
