@@ -1,2 +1,3 @@
 pub mod OneEdit
+pub mod SomeEdit
 pub mod TreesKept

@@ -2,6 +2,7 @@
 #![tactic(auto)]
 
 ghost use Rattle.edit_command_laws.specs.OneEdit.{OneEdit};
+ghost use Rattle.edit_command_laws.specs.SomeEdit.{EditsMakeTrees, ScriptsAreWellFormed};
 ghost use Rattle.edit_command_laws.specs.TreesKept.{EditsKeepTrees};
 
 use doc_edits::{
@@ -9,6 +10,8 @@ use doc_edits::{
     sayings_keep_trees,
 };
 use doc_tree::{laws_from_order, one_table};
+use name_scopes_laws::fragments_have_pieces;
+use pyx_core::events_nest;
 
 /// A command makes one tree of a table: what it says decides all of it, the numbers of new nodes too.
 pub fn one_edit()
@@ -27,4 +30,18 @@ pub fn edits_keep_trees()
     deletions_keep_trees();
     additions_keep_trees();
     edits_keep_documents();
+}
+
+/// A well-formed command against which no reason speaks makes a tree.
+pub fn edits_make_trees()
+    ensures { EditsMakeTrees }
+{
+    fragments_have_pieces();
+}
+
+/// Each command that a script gives is well formed.
+pub fn scripts_are_well_formed()
+    ensures { ScriptsAreWellFormed }
+{
+    events_nest();
 }

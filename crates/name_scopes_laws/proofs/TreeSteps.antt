@@ -44,12 +44,12 @@ or-none None b h = (refl, h)
 or-none (Some x) b h = absurd (cc)
 
 -- no limit is passed
-within : (T : Table) (p : ℕ) (c : Content) → has_too_many T ≡ false → is_too_deep T p c ≡ false → text_bytes T + length (value_in c) ≤ MAX_LIVE_TEXT_BYTES → passed_limit T p c ≡ None
+pub within : (T : Table) (p : ℕ) (c : Content) → has_too_many T ≡ false → is_too_deep T p c ≡ false → text_bytes T + length (value_in c) ≤ MAX_LIVE_TEXT_BYTES → passed_limit T p c ≡ None
 within T p c few shallow little =
     let short : has_too_much_text T c ≡ false = le-ltb MAX_LIVE_TEXT_BYTES (text_bytes T + length (value_in c)) little in
     rw (few, shallow, short) refl
 
-leaf-shallow : (T : Table) (p : ℕ) (e : Event) → IsLeaf e → is_too_deep T p (leaf_of e) ≡ false
+pub leaf-shallow : (T : Table) (p : ℕ) (e : Event) → IsLeaf e → is_too_deep T p (leaf_of e) ≡ false
 leaf-shallow T p (event.Start name attrs) leaf = absurd leaf
 leaf-shallow T p (event.End name) leaf = absurd leaf
 leaf-shallow T p (event.Chars characters) leaf = refl
@@ -104,6 +104,49 @@ limits nodes depth none = by (nat_lt MAX_LIVE_NODES nodes) (nat_lt MAX_DEPTH dep
     by false true few shallow h = absurd (cc)
     by false false few shallow h = (ltb-false MAX_LIVE_NODES nodes few, shallow)
 
+-- an element begins under a node, where nothing speaks against it
+module _ (T : Table) (p : ℕ) (formed : Formed T) (receives : Receives T p) (scope : List Decl) (place : Place) (name : List ℕ) (attrs : List Attr) (fits : StartFits place name attrs)
+    (good : TagIsGood scope name attrs) (room : length (order T) + tag_nodes attrs ≤ MAX_LIVE_NODES) (shallow : nat_lt MAX_DEPTH (length (above T p)) ≡ false)
+    (little : text_bytes T + sum_by value_bytes (plain_attrs attrs) ≤ MAX_LIVE_TEXT_BYTES) where
+  content : Content
+  content = element (element_name scope name) []
+
+  started : Appended T p content
+  unfolding content
+  started =
+      let few : has_too_many T ≡ false = lt-leb MAX_LIVE_NODES (length (order T)) (omega (arith, room)) in
+      appended T p content formed receives.holder tt receives.last receives.all_live (within T p content few shallow (omega (arith, little)))
+
+  declaring : (V : Table) × Formed V × Declaring (with_node T p content) V (length T) (declarations attrs)
+  unfolding content
+  declaring =
+      let grew = started.grew in
+      declare-all (with_node T p content) (with_node T p content) (length T) [] (declarations attrs) started.formed
+      (declaring-none (with_node T p content) (length T) (ap kind_at grew.content) (ap decls_at grew.content) grew.no_kids grew.no_attributes)
+
+  attributing : (W : Table) × Formed W × AttributesAll declaring.0 W (length T) scope attrs
+  unfolding content
+  attributing =
+      let n : ℕ = length T in
+      let U : Table = with_node T p content in
+      let V : Table = declaring.0 in
+      let decls : DeclaresAll U V n (declarations attrs) = declaring.2.all in
+      let here : Receives V n = begun-receives T U V p n scope name attrs started.grew decls in
+      attributes-on V n scope attrs fits.attributes good.all_known good.expanded
+      (omega (arith, room, ap length decls.same_order, ap length started.grew.last_in_order, length-append (order T) (n ∷ [])))
+      (omega (arith, little, decls.same_text, started.grew.more_text))
+      (length attrs) 0 (omega arith) V declaring.1
+      (attributing-none V n scope here declaring.2.under decls.no_kid decls.no_attribute)
+
+  pub element-begun : (U : Table) × Formed U × Begins T U p (length T) scope name attrs
+  unfolding content
+  element-begun = (
+    attributing.0,
+    attributing.1,
+    begun T (with_node T p content) declaring.0 p (length T) scope name attrs started.grew declaring.2.all (has-scopes T formed) (holder-live T p receives.holder) attributing.0 attributing.2 (ways-up T formed) (well-formed T formed)
+        fits.named fits.attributes good,
+  )
+
 module _ (taken : List Event) (place : Place) (standing : Standing) (T : Table) (p : ℕ) (formed : Formed T) (builds : Builds [] taken place standing T p) where
   receives : Receives T p
   receives = builds-receives [] taken place standing T p builds
@@ -147,9 +190,6 @@ module _ (taken : List Event) (place : Place) (standing : Standing) (T : Table) 
     scope : List Decl
     scope = in_scope (declarations attrs ∷ standing.scopes)
 
-    content : Content
-    content = element (element_name scope name) []
-
     parts : (tag_fault scope name attrs ≡ None) × (limit_fault (standing.nodes + tag_nodes attrs) (suc (length standing.scopes)) ≡ None)
     unfolding scope
     parts = or-none (tag_fault scope name attrs) (limit_fault (standing.nodes + tag_nodes attrs) (suc (length standing.scopes))) none
@@ -164,47 +204,19 @@ module _ (taken : List Event) (place : Place) (standing : Standing) (T : Table) 
     unfolding scope
     scope-is = ap (λ (l : List Decl). declarations attrs ++ l) (sym (builds-scope [] taken place standing T p builds (has-scopes T formed)))
 
-    started : Appended T p content
-    unfolding content
-    started =
-        let few : has_too_many T ≡ false = lt-leb MAX_LIVE_NODES (length (order T)) (omega (arith, builds.count, room.0)) in
+    begun-here : (U : Table) × Formed U × Begins T U p (length T) scope name attrs
+    begun-here =
         let shallow : nat_lt MAX_DEPTH (length (above T p)) ≡ false = ap (nat_lt MAX_DEPTH) (open-depth T place.opened standing.scopes p (ways-up T formed) builds.tells.way) ∙ room.1 in
-        appended T p content formed receives.holder tt receives.last receives.all_live (within T p content few shallow (omega (arith, builds.tells.little, little)))
-
-    declaring : (V : Table) × Formed V × Declaring (with_node T p content) V (length T) (declarations attrs)
-    unfolding content
-    declaring =
-        let grew = started.grew in
-        declare-all (with_node T p content) (with_node T p content) (length T) [] (declarations attrs) started.formed
-        (declaring-none (with_node T p content) (length T) (ap kind_at grew.content) (ap decls_at grew.content) grew.no_kids grew.no_attributes)
-
-    attributing : (W : Table) × Formed W × AttributesAll declaring.0 W (length T) scope attrs
-    unfolding content
-    attributing =
-        let n : ℕ = length T in
-        let U : Table = with_node T p content in
-        let V : Table = declaring.0 in
-        let decls : DeclaresAll U V n (declarations attrs) = declaring.2.all in
-        let here : Receives V n = begun-receives T U V p n scope name attrs started.grew decls in
-        attributes-on V n scope attrs fits.attributes good.all_known good.expanded
-        (omega (arith, room.0, builds.count, ap length decls.same_order, ap length started.grew.last_in_order, length-append (order T) (n ∷ [])))
-        (omega (arith, little, builds.tells.little, decls.same_text, started.grew.more_text, plain-bytes attrs))
-        (length attrs) 0 (omega arith) V declaring.1
-        (attributing-none V n scope here declaring.2.under decls.no_kid decls.no_attribute)
+        element-begun T p formed receives scope place name attrs fits good (omega (arith, builds.count, room.0)) shallow (omega (arith, builds.tells.little, little, plain-bytes attrs))
 
     start-on : Grown (taken ++ event.Start name attrs ∷ []) (after Document place (event.Start name attrs)) (moved standing (event.Start name attrs))
-    unfolding content
     start-on =
-        let n : ℕ = length T in
-        let begins : Begins T attributing.0 p n scope name attrs =
-        begun T (with_node T p content) declaring.0 p n scope name attrs started.grew declaring.2.all (has-scopes T formed) (holder-live T p receives.holder) attributing.0 attributing.2 (ways-up T formed) (well-formed T formed)
-        fits.named fits.attributes good in
         let here : scope ≡ declarations attrs ++ (scope_at T p ++ []) = scope-is ∙ ap (λ (l : List Decl). declarations attrs ++ l) (sym (append-nil (scope_at T p))) in
         record {
-          tree = attributing.0;
-          node = n;
-          formed = attributing.1;
-          builds = builds-start [] taken place standing T p builds attributing.0 n scope name attrs (well-formed T formed) fits here begins;
+          tree = begun-here.0;
+          node = length T;
+          formed = begun-here.1;
+          builds = builds-start [] taken place standing T p builds begun-here.0 (length T) scope name attrs (well-formed T formed) fits here begun-here.2;
         }
 
 -- an event without fault leads a tree on

@@ -1,5 +1,5 @@
 -- Edits and scope (Namespaces in XML 1.0, section 6): each name keeps the namespace of the nearest declaration of its prefix.
-use Rattle.std.specs.Prelude.{◌≡◌, ℕ, true, List, ◌++◌}
+use Rattle.std.specs.Prelude.{◌≡◌, ℕ, true, List}
 use Rattle.pyx_core.specs.Nesting.{of_chars}
 use Rattle.doc_table.specs.inner.Sound.{Formed}
 use Rattle.doc_tree.specs.Scope.{scope_at}

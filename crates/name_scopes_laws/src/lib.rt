@@ -2,6 +2,7 @@
 #![tactic(auto)]
 
 ghost use Rattle.name_scopes_laws.specs.Documents.{DocumentsHaveTrees};
+ghost use Rattle.name_scopes_laws.specs.Pieces.{FragmentsHavePieces};
 ghost use Rattle.name_scopes_laws.specs.Scopes.{AdditionsKeepScope, DeletionsKeepScope, SayingsKeepScope};
 
 use doc_edits::{additions_keep_trees, deletions_keep_trees, sayings_keep_trees};
@@ -13,6 +14,11 @@ pub fn documents_have_trees()
 {
     events_nest();
 }
+
+/// Each fragment has a piece under each node under which no reason keeps it from coming.
+pub fn fragments_have_pieces()
+    ensures { FragmentsHavePieces }
+{}
 
 /// A tree in scope stays in scope, where what comes is in scope at its place.
 pub fn edits_keep_scope()

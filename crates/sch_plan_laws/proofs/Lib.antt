@@ -1,2 +1,4 @@
 pub mod Alike
 pub mod AlikeParts
+pub mod Outcomes
+pub mod SomePlan

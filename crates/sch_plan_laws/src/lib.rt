@@ -3,4 +3,4 @@
 
 mod laws;
 
-pub use laws::plans_need_no_places;
+pub use laws::{each_phase_is_compiled, plans_need_no_places};
