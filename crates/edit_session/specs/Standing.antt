@@ -45,7 +45,7 @@ abbrev pub since_of : Option Past → Option Since
 since_of None = None
 since_of (Some past) = Some (record { base = past.base; touched = touched_since past.made })
 
--- why a document is not opened under a plan; memory may run out at any
+-- why a document is not opened under a plan: there are too many pairs; memory is asked where there are not
 abbrev pub RefusesOpening : Plan → Table → OpenRefusal → Type 0
 RefusesOpening plan T TooManyPairs = has_too_many_pairs plan T ≡ true
-RefusesOpening plan T Memory = Unit {0}
+RefusesOpening plan T Memory = has_too_many_pairs plan T ≡ false

@@ -1,7 +1,8 @@
 //! The session of an editor.
 
-ghost use Rattle.std.specs.Prelude.{◌≡◌, ◌≤◌, true, false, length, None, IfErr, IfOk, OnErr, OnOk};
+ghost use Rattle.std.specs.Prelude.{◌≡◌, ◌≤◌, true, false, length, None, IfErr, IfOk, IfSome, OnErr, OnOk};
 ghost use Rattle.doc_tree.specs.Kinds.{is_document};
+ghost use Rattle.doc_tree.specs.Laws.{WellFormed};
 ghost use Rattle.doc_edit_laws.specs.Along.{Edit};
 ghost use Rattle.name_scopes.specs.Scoping.{InScope};
 ghost use Rattle.edit_script.specs.WellFormed.{WellFormedCommand};
@@ -10,6 +11,7 @@ ghost use Rattle.edit_commands.specs.Touched.{touched_by};
 ghost use Rattle.sch_compiled.specs.Soundness.{IsSound};
 ghost use Rattle.edit_costs.specs.Costs.{Raised, cost_of};
 ghost use Rattle.edit_costs.specs.Dirty.{stale_units, units_to_run};
+ghost use Rattle.edit_session.specs.Laws.{LedTo};
 ghost use Rattle.edit_session.specs.Pairs.{has_too_many_pairs, pair_cap_for};
 ghost use Rattle.edit_session.specs.Standing.{RefusesOpening, done_more, evaluated_over, since_of};
 ghost use Rattle.edit_session.specs.Wrote.{RoseBy, UnlessMemory, WroteState};
@@ -36,7 +38,6 @@ use xp_outcome::Steps;
 /// Its units are the lets in force, and the live nodes under each active pattern. What each gave and read is kept, so that after an
 /// edit those alone are evaluated anew that read what it touched. Contracts see the plan, the tree, and what was done since all
 /// units were last evaluated.
-#[derive(Drop)]
 pub struct Session {
     alloc: Global,
     plan: Plan,
@@ -94,6 +95,18 @@ impl Session {
         &self.tree
     }
 
+    /// What holds of each session: its tree is a document, its plan is sound, the tree's pair cap is the plan's, and the commands
+    /// of its past made the tree.
+    pub fn laws(&self)
+        ensures document { is_document self.now.tree.nodes ≡ true }
+        ensures well_formed { WellFormed self.now.tree.nodes }
+        ensures sound { IsSound self.now.plan }
+        ensures cap { self.now.tree.pair_cap ≡ pair_cap_for self.now.plan }
+        ensures led { IfSome self.now.past (λ past. LedTo past self.now.tree.nodes) }
+    {
+        self.tree.laws();
+    }
+
     /// How many units are stale: those that were not evaluated yet, and those that read what an edit has touched since.
     ///
     /// Looks at each of them.
@@ -108,9 +121,8 @@ impl Session {
 
     /// Does a command of an edit script on the document, and marks the units that it touches as stale.
     ///
-    /// A refused command changes nothing, and one that finds no memory leaves the nodes as they were; marking takes none. Costs what
-    /// the edit of the tree costs, and a look at what those units read that read a touched cell; at what all read, before the first
-    /// refresh after an edit.
+    /// A refused command changes nothing, nor does one that finds no memory; marking takes none. Costs what the edit of the tree
+    /// costs, and a look at what those units read that read a touched cell; at what all read, before the first refresh after an edit.
     pub fn apply(&mut self, command: &Command) -> Result<(), ApplyError>
         requires formed { WellFormedCommand command.now }
         ensures within { OnOk result (command_refusal self.old.tree command.now ≡ None) }
@@ -118,8 +130,9 @@ impl Session {
         ensures edit { OnOk result (Edit self.old.tree.nodes self.new.tree.nodes (touched_by self.old.tree.nodes command.now)) }
         ensures marked { OnOk result (self.new.past ≡ done_more self.old.past self.old.tree.nodes command.now) }
         ensures scope { InScope self.old.tree.nodes → InScope self.new.tree.nodes }
+        ensures document { is_document self.new.tree.nodes ≡ true }
         ensures refused { IfErr result (RefusesCommand self.old.tree command.now) }
-        ensures unchanged { OnErr result ((self.new.tree.nodes ≡ self.old.tree.nodes) × (self.new.past ≡ self.old.past)) }
+        ensures unchanged { OnErr result (self.new ≡ self.old) }
         ensures plan { self.new.plan ≡ self.old.plan }
         ensures cap { self.new.tree.pair_cap ≡ self.old.tree.pair_cap }
     {
@@ -186,5 +199,21 @@ impl Session {
             Some(kept) => write_units(self.alloc, &self.plan, &self.tree, kept, sink),
             None => unreachable!(),
         }
+    }
+}
+
+impl Drop for Session {
+    fn drop(self) {
+        let Session {
+            alloc: _,
+            plan,
+            tree,
+            kept,
+            remembered,
+        } = self;
+        drop(plan);
+        drop(tree);
+        drop(kept);
+        drop(remembered);
     }
 }

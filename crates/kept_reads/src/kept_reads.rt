@@ -23,7 +23,6 @@ const FEW_READERS: usize = 4096;
 /// up rows of the same width.
 ///
 /// Once there was an edit, the readers of each cell are known too, which takes 20 bytes a node and 8 bytes a read.
-#[derive(Drop)]
 pub struct KeptReads {
     pub(crate) entries: Vec<Option<UnitReads>>,
     /// The units that read a cell, by their places; some may have read it once, and do so no more.
@@ -164,6 +163,22 @@ impl KeptReads {
             return None;
         }
         u32::try_from(place).ok()
+    }
+}
+
+impl Drop for KeptReads {
+    fn drop(self) {
+        let KeptReads {
+            entries,
+            readers,
+            is_indexed: _,
+            stale_blocks,
+            limit: _,
+            is_edited: _,
+        } = self;
+        drop(entries);
+        drop(readers);
+        drop(stale_blocks);
     }
 }
 

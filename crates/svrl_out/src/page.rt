@@ -11,7 +11,6 @@ use std::alloc::{AllocError, Global};
 const PAGE_BYTES: usize = 65_536;
 
 /// Bytes that wait to be written. What is put on a page is refused only for want of memory.
-#[derive(Drop)]
 pub(crate) struct Page {
     bytes: Vec<u8>,
     faults: u64,
@@ -63,5 +62,12 @@ impl Sink for Page {
                 Err(Failed)
             }
         }
+    }
+}
+
+impl Drop for Page {
+    fn drop(self) {
+        let Page { bytes, faults: _ } = self;
+        drop(bytes);
     }
 }

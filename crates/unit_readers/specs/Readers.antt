@@ -9,6 +9,10 @@ use Rattle.unit_readers.specs.inner.Links.{IsLinked}
 abbrev pub newest : UnitReaders → Cell → ℕ
 newest readers cell = slice_index_or readers.heads.items (cell_number cell) 0
 
+-- how many readers were added, those that were taken since counted too
+abbrev pub readers_added : UnitReaders → ℕ
+readers_added readers = length readers.links.items
+
 -- a unit is a reader of a cell
 pub record IsReader (readers : UnitReaders) (cell : Cell) (unit : ℕ) : Type 0 where
   pub linked : IsLinked readers.links.items unit (newest readers cell)

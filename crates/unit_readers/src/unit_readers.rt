@@ -2,8 +2,7 @@
 
 ghost use Rattle.std.specs.Prelude.{◌≡◌, ℕ, ◌+◌, ◌<◌, ◌^◌, length, slice_index_or, IfNone, IfOk, IfSome, OnErr, OnOk, OnSome};
 ghost use Rattle.doc_tree.specs.cell.Cell.{Cell};
-ghost use Rattle.unit_readers.specs.Readers.{IsReader, Keeps, Loses, newest};
-ghost use Rattle.unit_readers.specs.Readers.{Adds};
+ghost use Rattle.unit_readers.specs.Readers.{Adds, IsReader, Keeps, Loses, newest, readers_added};
 
 use crate::cell_numbers::cell_number;
 use crate::links::{Link, link_at};
@@ -23,7 +22,8 @@ pub struct UnitReaders {
 impl UnitReaders {
     /// No cell has a reader.
     pub fn new(alloc: Global) -> UnitReaders
-        ensures { (cell : Cell) → newest result cell ≡ 0 }
+        ensures none { (cell : Cell) → newest result cell ≡ 0 }
+        ensures empty { readers_added result ≡ 0 }
     {
         UnitReaders {
             heads: Vec::new(alloc),
@@ -32,7 +32,9 @@ impl UnitReaders {
     }
 
     /// How many readers were added, those that were taken since counted too.
-    pub fn len(&self) -> usize {
+    pub fn len(&self) -> usize
+        ensures { result ≡ readers_added self.now }
+    {
         self.links.len()
     }
 
@@ -42,6 +44,8 @@ impl UnitReaders {
     pub fn add(&mut self, cell: Cell, unit: u32) -> Result<(), AllocError>
         ensures added { OnOk result (IsReader self.new cell unit) }
         ensures keeps { Keeps self.old self.new }
+        ensures counted { OnOk result (readers_added self.new ≡ readers_added self.old + 1) }
+        ensures uncounted { OnErr result (readers_added self.new ≡ readers_added self.old) }
     {
         let place = cell_number(cell);
         reach(&mut self.heads, place)?;
@@ -54,6 +58,7 @@ impl UnitReaders {
         ensures unchanged { IfNone result (self.new ≡ self.old) }
         ensures loses { IfSome result (Loses self.old self.new cell) }
         ensures falls { OnSome result (newest self.new cell < newest self.old cell) }
+        ensures counted { readers_added self.new ≡ readers_added self.old }
     {
         let place = cell_number(cell);
         let newest = *self.heads.get(place)?;
