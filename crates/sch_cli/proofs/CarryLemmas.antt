@@ -1,7 +1,8 @@
 -- How the run of a command ends whose stages made a value ready, or were stopped.
-use Rattle.std.proofs.Common.{◌∙◌, ◌≡◌, ◌⊎◌, ⊎_elim, inl, inr, ℕ, ◌+◌, ◌≤◌, Bool, true, false, ◌&&◌, List, [], ◌∷◌, ◌++◌, append_assoc, append-nil, IfErr, IfSome, MatchResult, Option, None, Some, Result, Ok, Err, refl, ap, sym, subst, arith, true≢false}
+use Rattle.std.proofs.Common.{◌∙◌, ◌≡◌, ◌⊎◌, ⊎_elim, inl, inr, ℕ, Bool, true, false, ◌&&◌, List, [], IfErr, IfSome, Option, Result, Ok, Err, refl, ap, sym, subst, arith, true≢false}
 use Rattle.std.proofs.KnownBytes.{Appends-nil}
 use Rattle.sch_io.specs.Files.{Files}
+use Rattle.sch_io.specs.ReadThrough.{ReadsThrough, all_files}
 use Rattle.sch_io.specs.ShelfState.{ShelfState}
 use Rattle.sch_io.specs.SinkLog.{SinkLog}
 use Rattle.sch_io.specs.Wrote.{Appends}
@@ -11,11 +12,11 @@ use Rattle.sch_words.specs.declared.status.Status.TheVariants as status
 use Rattle.sch_stops.specs.declared.stop.Stop.{Stop}
 use Rattle.sch_stops.specs.declared.stop.Stop.TheVariants.{Usage, SchemaRefused, DocumentRefused, ScriptRefused, Missing, ReadFault, WriteFault, Memory}
 use Rattle.sch_cli.specs.Behaviours.{Any, Behaviour, IsEnd, from}
-use Rattle.sch_loading.specs.Reads.{IsLastOf, Named, Reads}
+use Rattle.sch_loading.specs.Reads.{IsLastOf, Named, Reads, extent_of}
 use Rattle.sch_stops.specs.Output.{Output}
 use Rattle.sch_cli.specs.Output.{ended}
 use Rattle.sch_cli.specs.Runs.{Fronted}
-use Rattle.sch_stops.specs.Stops.{ByCause, Names, counted_if, ends_with, is_status, name_in, status_of, stopped_by}
+use Rattle.sch_stops.specs.Stops.{Names, counted_if, ends_with, is_status, status_of, stopped_by}
 use Rattle.sch_loading.specs.Stages.{Stage, Then, goes, halts, unread}
 use Rattle.sch_cli.specs.Steps.{CountsAtMost, CountsBy}
 use Rattle.sch_cli.specs.inner.Carried.{Carried, Concludes, Shows, Visits, WritesBehind, status_of_end}
@@ -83,6 +84,11 @@ evaluated : (evaluates : Bool) (written : Bool) → written ≡ true → (evalua
 evaluated false written is none = refl
 evaluated true written is none = absurd (true≢false (sym is ∙ none))
 
+-- files that were read before it were read to their end
+through_by : {A : Type 0} (old new : ShelfState) (result : Result A Stop) → IfErr result IsOfWriting → ReadsThrough all_files old new → ReadsThrough (extent_of result) old new
+through_by old new (Ok value) writing through = through
+through_by old new (Err stop) writing through = writing.all_read old new through
+
 -- the writing behind the stages
 pub carried : {A B : Type 0} (named : List Named) (stage : Files → Stage A) (value_of : B → A) (outputs : A → Output → Type 0) (texts : A → List ℕ → Type 0) (visits : A → ℕ → Type 0) (evaluates : Bool)
     (old new : ShelfState) (log later : SinkLog) (before after : ℕ) (value : B) (result : Result Shown Stop) →
@@ -103,6 +109,7 @@ carried {A} named stage value_of outputs texts visits evaluates old new log late
   misses = reads.misses ∙ ap (λ (b : Bool). counted_if b old.misses) (sym (no_stop status.Missing result (λ stop writing. writing.missing) writes.writing));
   write_faults = writes.write_faults;
   told = no_name reads.opened result writes.writing;
+  through = through_by old new result writes.writing reads.through;
   untouched = λ none. absurd (true≢false (sym (has_written result writes.writing) ∙ none));
   unevaluated = λ none. writes.unevaluated (evaluated evaluates (may_have_written result) (has_written result writes.writing) none);
   rises = writes.rises;
@@ -150,6 +157,7 @@ stopped_before named stage value_of outputs texts visits evaluates old new log c
       misses = reads.misses;
       write_faults = ap (λ (b : Bool). counted_if b log.faults) (sym reads.no_write);
       told = reads.told;
+      through = reads.through;
       untouched = λ none. refl;
       unevaluated = λ none. refl;
       rises = omega arith;

@@ -1,13 +1,12 @@
 -- How the parts of a run end together.
-use Rattle.std.proofs.Common.{◌∙◌, ◌≡◌, ◌≤◌, ℕ, ◌⊎◌, ⊎_elim, inl, inr, Bool, true, false, List, [], ◌++◌, append_assoc, append-nil, IfErr, IfOk, OnOk, Option, Result, Ok, Err, refl, ap, sym, subst}
+use Rattle.std.proofs.Common.{◌∙◌, ◌≡◌, ◌≤◌, ℕ, ◌⊎◌, ⊎_elim, inr, Bool, false, List, [], ◌++◌, append_assoc, append-nil, IfOk, OnOk, Option, Result, Ok, Err, refl, ap, sym, subst}
 use Rattle.std.proofs.KnownBytes.{Appends-nil, Appends-trans}
+use Rattle.sch_io.proofs.ReadThrough.{one_of_both}
+use Rattle.sch_io.specs.ReadThrough.{all_files}
 use Rattle.sch_io.specs.SinkLog.{SinkLog}
 use Rattle.sch_io.specs.Wrote.{Appends, Wrote}
 use Rattle.sch_io.specs.declared.error.Failed.{Failed}
 use Rattle.doc_tree.specs.Table.{Table}
-use Rattle.sch_model.specs.declared.fault.SchemaError.{SchemaError}
-use Rattle.sch_model.specs.declared.fault.SchemaError.TheVariants as error
-use Rattle.sch_model.specs.declared.fault.SchemaFault.{SchemaFault}
 use Rattle.sch_compiled.specs.declared.plan.Plan.{Plan}
 use Rattle.edit_session.specs.State.{state_text}
 use Rattle.edit_session.specs.Wrote.{WroteState}
@@ -17,17 +16,21 @@ use Rattle.edit_session.specs.declared.state.Shown.{Shown}
 use Rattle.sch_words.specs.declared.status.Status.TheVariants as status
 use Rattle.sch_stops.specs.declared.stop.Stop.{Stop}
 use Rattle.sch_stops.specs.declared.stop.Stop.TheVariants.{WriteFault, Memory}
-use Rattle.sch_loading.specs.Loading.{refused_rule}
 use Rattle.sch_stops.specs.Output.{Output}
 use Rattle.sch_cli.specs.Output.{ended, in_front, line_shown, status_shown}
 use Rattle.sch_cli.specs.Runs.{AppendsFront, Fronted}
-use Rattle.sch_stops.specs.Stops.{ByCause, counted_if, ends_with, stopped_by}
-use Rattle.sch_loading.specs.Stages.{Came, halts, unread}
+use Rattle.sch_stops.specs.Stops.{counted_if, ends_with}
 use Rattle.sch_cli.specs.Steps.{CountsBy}
 use Rattle.sch_cli.specs.inner.Carried.{Concludes, Shows, WritesBehind, status_of_end}
 use Rattle.sch_cli.specs.inner.Writing.{IsOfWriting, WroteText, of_report}
-use Rattle.sch_loading.specs.inner.Refusing.{IsRefusal}
 use Rattle.sch_loading.proofs.PartLemmas.{by_cause}
+
+-- want of memory, and a failed write, are of what is written
+pub memory_writing : IsOfWriting Memory
+memory_writing = record { unnamed = refl; usage = refl; missing = refl; read_fault = refl; writes = refl; all_read = one_of_both all_files }
+
+fault_writing : IsOfWriting WriteFault
+fault_writing = record { unnamed = refl; usage = refl; missing = refl; read_fault = refl; writes = refl; all_read = λ _ _ all. all }
 
 -- Texts that are written
 
@@ -35,7 +38,7 @@ use Rattle.sch_loading.proofs.PartLemmas.{by_cause}
 pub memory_written : {A : Type 0} (log : SinkLog) (text : List ℕ) (result : Result A Stop) (stop : Stop) → result ≡ Err stop → stop ≡ Memory → WroteText {A = A} log log text result
 memory_written {A = A} log text result stop is memory = subst (λ (r : Result A Stop). WroteText {A = A} log log text r) (sym (is ∙ ap Err memory)) (record {
   told = ([], text, refl, Appends-nil log.written);
-  writing = record { unnamed = refl; usage = refl; missing = refl; read_fault = refl; writes = refl };
+  writing = memory_writing;
   faults = refl;
 })
 
@@ -44,7 +47,7 @@ pub failed_written : {A T : Type 0} (old new : SinkLog) (text : List ℕ) (faile
     WroteText {A = A} old new text result
 failed_written {A = A} old new text failed result is wrote = subst (λ (r : Result A Stop). WroteText {A = A} old new text r) (sym is) (record {
   told = wrote.grown;
-  writing = record { unnamed = refl; usage = refl; missing = refl; read_fault = refl; writes = refl };
+  writing = fault_writing;
   faults = wrote.counted;
 })
 
@@ -57,12 +60,12 @@ pub report_stopped : (old new : SinkLog) (plan : Plan) (T : Table) (error : Repo
     WroteState old new plan T (Err error) → WroteText old new (state_text plan T) result
 report_stopped old new plan T report.Failed result stop is says wrote = subst (λ (r : Result Shown Stop). WroteText old new (state_text plan T) r) (sym (is ∙ ap Err says)) (record {
   told = wrote.grown;
-  writing = record { unnamed = refl; usage = refl; missing = refl; read_fault = refl; writes = refl };
+  writing = fault_writing;
   faults = wrote.counted;
 })
 report_stopped old new plan T report.Memory result stop is says wrote = subst (λ (r : Result Shown Stop). WroteText old new (state_text plan T) r) (sym (is ∙ ap Err says)) (record {
   told = wrote.grown;
-  writing = record { unnamed = refl; usage = refl; missing = refl; read_fault = refl; writes = refl };
+  writing = memory_writing;
   faults = wrote.counted;
 })
 

@@ -19,7 +19,9 @@ use Rattle.edit_script.specs.declared.fault.ScriptError.{ScriptError}
 use Rattle.edit_script.specs.declared.fault.ScriptError.TheVariants as script
 use Rattle.edit_script.specs.declared.fault.ScriptKind.{ScriptKind}
 use Rattle.edit_script.specs.declared.limits.TheConstants.{MAX_SCRIPT_BYTES}
-use Rattle.edit_commands.specs.Commands.{IsEdited, command_refusal}
+use Rattle.edit_commands.specs.declared.refusal.ApplyError.{ApplyError}
+use Rattle.edit_commands.specs.declared.refusal.ApplyError.TheVariants as apply
+use Rattle.edit_commands.specs.Commands.{IsEdited, RefusesCommand, command_refusal}
 use Rattle.sch_compiled.specs.declared.plan.Plan.{Plan}
 use Rattle.edit_session.specs.Pairs.{has_too_many_pairs, pair_cap_for}
 use Rattle.edit_session.specs.Standing.{Standing, evaluated_over}
@@ -38,11 +40,11 @@ use Rattle.sch_cli.specs.Runs.{AppendsFront, Fronted}
 use Rattle.sch_stops.specs.Stops.{counted_if, ends_with, of_script, stopped_by}
 use Rattle.sch_cli.specs.Behaviours.{BeginsStates, States, too_many_pairs, tree_under}
 use Rattle.sch_loading.specs.Stages.{Is, goes, halt_if}
-use Rattle.sch_cli.specs.inner.Followers.{Beginning, Ending, Goes, IsLed, IsReady, in_front_of, treed_by}
+use Rattle.sch_cli.specs.inner.Followers.{Beginning, Ending, Goes, IsLed, IsReady, IsUndone, in_front_of, treed_by}
 use Rattle.sch_loading.specs.Reads.{EndsAs}
 use Rattle.sch_cli.specs.inner.Carried.{Concludes, Shows}
 use Rattle.sch_cli.specs.inner.Writing.{IsOfWriting, WroteText}
-use Rattle.sch_cli.proofs.EndLemmas.{concludes_behind}
+use Rattle.sch_cli.proofs.EndLemmas.{concludes_behind, memory_writing}
 use Rattle.sch_loading.proofs.PartLemmas.{by_cause}
 use Rattle.sch_loading.proofs.SchemaLemmas.{passed}
 
@@ -182,7 +184,7 @@ goes_nowhere earlier later log = record {
     is_front = refl;
     out = Appends-nil log.written;
   };
-  writing = record { unnamed = refl; usage = refl; missing = refl; read_fault = refl; writes = refl };
+  writing = memory_writing;
   faults = refl;
 }
 
@@ -216,6 +218,17 @@ command_refused at later command reason old new result cap some wrote plans tree
     led : (result : Result (Unit {0}) Stop) → OnOk result (IsLed (in_front_of command at) later (refused_line at.number reason))
     led (Ok done) = led_refused at later command cap reason some (record { plan_is = plans; tree_is = trees; number_is = numbers; rest_is = scripts }) seen
     led (Err stop) = tt
+
+-- and of one that is not done
+pub command_undone : (at later : Follower) (command : Command) (error : ApplyError) (old new : SinkLog) (result : Result (Unit {0}) Stop) → at.session.tree.pair_cap ≡ pair_cap_for at.session.plan →
+    RefusesCommand at.session.tree command error → IsUndone at.number error old new result →
+    later.session.plan ≡ at.session.plan → later.session.tree.nodes ≡ at.session.tree.nodes → later.number ≡ at.number + 1 → later.script ≡ at.script → later.seen ≡ at.seen →
+    Goes {A = Unit {0}} (in_front_of command at) later old new result
+command_undone at later command (apply.Refused reason) old new result cap some undone plans trees numbers scripts seen =
+    command_refused at later command reason old new result cap some undone.0 plans trees numbers scripts seen
+command_undone at later command apply.Memory old new result cap some undone plans trees numbers scripts seen =
+    subst (λ (r : Result (Unit {0}) Stop). Goes {A = Unit {0}} (in_front_of command at) later old new r) (sym undone.0)
+    (subst (λ (log : SinkLog). Goes {A = Unit {0}} (in_front_of command at) later old log (Err Memory)) (sym undone.1) (goes_nowhere (in_front_of command at) later old))
 
 -- the next place is ready too
 pub ready_after : (at later : Follower) (command : Command) → IsReady (in_front_of command at) → later.session.tree.pair_cap ≡ at.session.tree.pair_cap → later.session.plan ≡ at.session.plan →
@@ -330,8 +343,8 @@ pub script_writing : (error : ScriptError) (stop : Stop) (result : Result Shown 
 script_writing error stop result is says = subst (λ (r : Result Shown Stop). IfErr r IsOfWriting) (sym (is ∙ ap Err says)) (by error)
   where
     by : (error : ScriptError) → IsOfWriting (of_script error)
-    by (script.Fault fault) = record { unnamed = refl; usage = refl; missing = refl; read_fault = refl; writes = refl }
-    by script.Memory = record { unnamed = refl; usage = refl; missing = refl; read_fault = refl; writes = refl }
+    by (script.Fault fault) = record { unnamed = refl; usage = refl; missing = refl; read_fault = refl; writes = refl; all_read = λ _ _ all. all }
+    by script.Memory = memory_writing
 
 pub script_faults : (count : ℕ) (error : ScriptError) (stop : Stop) (result : Result Shown Stop) → result ≡ Err stop → stop ≡ of_script error → count ≡ counted_if (ends_with status.WriteFault result) count
 script_faults count error stop result is says = subst (λ (r : Result Shown Stop). count ≡ counted_if (ends_with status.WriteFault r) count) (sym (is ∙ ap Err says)) (by error)

@@ -1,10 +1,13 @@
 -- How what was carried out ends the run.
 use Rattle.std.proofs.Common.{◌≡◌, ◌↔◌, ℕ, inr, true, false, List, [], ◌∷◌, ◌++◌, append_assoc, append-nil, IfOk, Option, None, Some, MatchOption, Result, Ok, Err, refl, ap, sym, subst, ◌∙◌, arith}
 use Rattle.std.proofs.KnownBytes.{Appends-nil}
+use Rattle.sch_io.proofs.ReadThrough.{nothing_through, one_of_both}
 use Rattle.sch_io.specs.Files.{Files}
+use Rattle.sch_io.specs.ReadThrough.{ReadsThrough}
 use Rattle.sch_io.specs.ShelfState.{ShelfState}
 use Rattle.sch_io.specs.SinkLog.{SinkLog}
-use Rattle.sch_io.specs.Wrote.{Appends}
+use Rattle.sch_io.specs.Wrote.{Appends, Wrote}
+use Rattle.sch_io.specs.declared.error.Failed.{Failed}
 use Rattle.edit_session.specs.declared.state.Shown.{Shown}
 use Rattle.edit_session.specs.declared.state.Shown.TheVariants as shown
 use Rattle.sch_words.specs.declared.command.Command.{Command as Borrowed}
@@ -17,13 +20,17 @@ use Rattle.sch_words.specs.Commands.{Command, command_of, tell}
 use Rattle.sch_words.specs.Commands as commands
 use Rattle.sch_words.specs.Notices.{notice_text}
 use Rattle.sch_stops.specs.Output.{Output}
-use Rattle.sch_cli.specs.Output.{faulted_line, notice_output}
+use Rattle.sch_cli.specs.Output.{faulted_line, line_shown, notice_output}
 use Rattle.sch_cli.specs.Behaviours.{Any, IsEnd, asked_by, behaviour}
-use Rattle.sch_cli.specs.Runs.{Decided, Ends, EndsBy, IsLast, IsLineOf, Tells}
+use Rattle.sch_cli.specs.Runs.{Decided, Ends, EndsBy, IsLast, IsLineOf, Tells, extent_of_status}
+use Rattle.sch_stops.specs.Refusals.{include_text, rule_text, script_fault_line}
+use Rattle.sch_stops.specs.declared.refusal.DocumentRefusal.TheVariants as document
+use Rattle.sch_stops.specs.declared.refusal.SchemaRefusal.TheVariants as schema
+use Rattle.sch_stops.specs.declared.refusal.ScriptRefusal.TheVariants as script
 use Rattle.sch_stops.specs.Stops.{Names, ends_with, is_status, line_of, status_of, stopped_by}
 use Rattle.sch_loading.specs.Stages.{Is, goes, halts, unread}
 use Rattle.sch_cli.specs.inner.Carried.{Carried, Concluded, Concludes, HasStatus, Shows, line_of_end, status_of_end}
-use Rattle.sch_loading.specs.Reads.{IsLastOf}
+use Rattle.sch_loading.specs.Reads.{IsLastOf, extent_of, extent_of_stop}
 use Rattle.sch_cli.specs.inner.Writing.{WroteText}
 use Rattle.sch_cli.proofs.CarryLemmas.{carried}
 use Rattle.sch_cli.proofs.EndLemmas.{text_behind}
@@ -58,6 +65,7 @@ carries_nothing words state log count is = subst (λ (asked : Option Command). C
   misses = refl;
   write_faults = refl;
   told = tt;
+  through = nothing_through state;
   untouched = λ none. refl;
   unevaluated = λ none. refl;
   rises = omega arith;
@@ -107,6 +115,23 @@ pub line_named : (old new : List (List ℕ)) (ends : Status) (result : Result Sh
     IsLineOf old new ends (line_of_end result)
 line_named old new ends result is named = subst (λ (status : Status). IsLineOf old new status (line_of_end result)) (sym is) (line_of_stop old new result named)
 
+-- how far the files were read is what the status says
+through_as : (old new : ShelfState) (result : Result Shown Stop) → ReadsThrough (extent_of result) old new → ReadsThrough (extent_of_status (status_of_end result)) old new
+through_as old new (Ok shown.Clean) through = through
+through_as old new (Ok shown.Findings) through = through
+through_as old new (Ok shown.Fault) through = through
+through_as old new (Err Usage) through = through
+through_as old new (Err (Missing name)) through = through
+through_as old new (Err (ReadFault name)) through = through
+through_as old new (Err WriteFault) through = through
+through_as old new (Err Memory) through = through
+through_as old new (Err (SchemaRefused refusal)) through = one_of_both (extent_of_stop (SchemaRefused refusal)) old new through
+through_as old new (Err (DocumentRefused refusal)) through = one_of_both (extent_of_stop (DocumentRefused refusal)) old new through
+through_as old new (Err (ScriptRefused refusal)) through = one_of_both (extent_of_stop (ScriptRefused refusal)) old new through
+
+pub read_so_far : (old new : ShelfState) (ends : Status) (result : Result Shown Stop) → ends ≡ status_of_end result → ReadsThrough (extent_of result) old new → ReadsThrough (extent_of_status ends) old new
+read_so_far old new ends result is through = subst (λ (status : Status). ReadsThrough (extent_of_status status) old new) (sym is) (through_as old new result through)
+
 -- a run that ends so is not one whose words are refused
 pub not_usage : (result : Result Shown Stop) → ends_with status.Usage result ≡ false → status_of_end result ≡ status.Usage → ⊥
 not_usage (Ok shown.Clean) differs is = cc
@@ -121,6 +146,34 @@ accepted asked command result is differs = (λ ends. absurd (not_usage result di
 
 pub ends_by : (ends : Status) (result : Result Shown Stop) → ends ≡ status_of_end result → HasStatus ends result
 ends_by ends result is = subst (λ (status : Status). HasStatus status result) (sym is) (ends_same result)
+
+-- a line that was written is told
+told_line : (old new : SinkLog) (line : List ℕ) (result : Result (Unit {0}) Failed) → (line ≡ [] → ⊥) → Wrote old new line result → Tells old new line
+told_line old new [] result some wrote = absurd (some refl)
+told_line old new (b ∷ line) result some wrote = (result, wrote)
+
+-- each stop has a line
+has_line : (stop : Stop) → line_of stop ≡ [] → ⊥
+unfolding include_text rule_text script_fault_line
+has_line Usage none = cc
+has_line (SchemaRefused (schema.File name refusal)) none = cc
+has_line (SchemaRefused (schema.Include kind name)) none = cc
+has_line (SchemaRefused (schema.Rule fault location)) none = cc
+has_line (DocumentRefused (document.File refusal)) none = cc
+has_line (DocumentRefused document.TooManyPairs) none = cc
+has_line (ScriptRefused script.TooLarge) none = cc
+has_line (ScriptRefused (script.Faulted fault)) none = cc
+has_line (Missing name) none = cc
+has_line (ReadFault name) none = cc
+has_line WriteFault none = cc
+has_line Memory none = cc
+
+-- and where it was written it is told
+pub told_stop : (old new : SinkLog) (stop : Stop) (result : Result (Unit {0}) Failed) → Wrote old new (line_of stop) result → Tells old new (line_of stop)
+told_stop old new stop result = told_line old new (line_of stop) result (has_line stop)
+
+pub told_fault : (old new : SinkLog) (last : Shown) (result : Result (Unit {0}) Failed) → last ≡ shown.Fault → Wrote old new faulted_line result → Tells old new (line_shown last)
+told_fault old new last result fault wrote = subst (λ (s : Shown). Tells old new (line_shown s)) (sym fault) (result, wrote)
 
 -- an output that was shown is one that is decided
 decided : (is_output : Output → Type 0) (written told : List ℕ → Type 0) (ends : Status) (line : List ℕ) → Shows is_output written ends line → told line → Decided is_output written told ends

@@ -10,7 +10,9 @@ use Rattle.edit_script.specs.Script.{Script, nothing, onto, script_of, stops}
 use Rattle.edit_script.specs.declared.command.Command.{Command as Edit}
 use Rattle.edit_script.specs.declared.fault.ScriptError.{ScriptError}
 use Rattle.edit_script.specs.declared.fault.ScriptError.TheVariants as script
-use Rattle.edit_commands.specs.Commands.{IsEdited, command_refusal}
+use Rattle.edit_commands.specs.Commands.{IsEdited, RefusesCommand, command_refusal}
+use Rattle.edit_commands.specs.declared.refusal.ApplyError.{ApplyError}
+use Rattle.edit_commands.specs.declared.refusal.ApplyError.TheVariants as apply
 use Rattle.sch_compiled.specs.declared.plan.Plan.{Plan}
 use Rattle.edit_costs.specs.Costs.{cost_of}
 use Rattle.edit_costs.specs.Dirty.{units_to_run}
@@ -21,7 +23,6 @@ use Rattle.edit_session.specs.declared.state.Shown.{Shown}
 use Rattle.edit_session.specs.declared.state.Shown.TheVariants.{Clean, Findings, Fault}
 use Rattle.sch_cli.specs.declared.following.Follower.{Follower}
 use Rattle.sch_words.specs.declared.status.Status.{Status}
-use Rattle.sch_words.specs.declared.status.Status.TheVariants as status
 use Rattle.sch_stops.specs.declared.stop.Stop.{Stop}
 use Rattle.sch_stops.specs.declared.stop.Stop.TheVariants.{Usage, SchemaRefused, DocumentRefused, ScriptRefused, Missing, ReadFault, WriteFault, Memory}
 use Rattle.sch_cli.specs.Behaviours.{StatesCost, asked_by}
@@ -30,10 +31,11 @@ use Rattle.sch_cli.specs.Runs.{AppendsFront, Costs, CountsOver, Fronted}
 use Rattle.sch_cli.specs.Steps.{CountsBy, EditsCost, at_a_fault, at_the_end, edit_cost, first_cost, of_edited, of_refused}
 use Rattle.sch_cli.specs.inner.Carried.{Visits, status_of_end}
 use Rattle.sch_cli.specs.inner.Counts.{CostOn, CountsAlong, CountsOn, IsCosted, RoseFor, next_cost}
-use Rattle.sch_cli.specs.inner.Followers.{Beginning, Goes, in_front_of}
+use Rattle.sch_cli.specs.inner.Followers.{Beginning, Goes, IsUndone, in_front_of}
 use Rattle.sch_stops.specs.Stops.{ByCause, of_script}
 use Rattle.sch_cli.specs.inner.Writing.{WroteText}
 use Rattle.sch_cli.proofs.CarryLemmas.{counts_in}
+use Rattle.sch_cli.proofs.EndLemmas.{on_ok}
 use Rattle.sch_cli.proofs.FollowLemmas.{next_command, refusal_under}
 
 -- Faults among what is shown
@@ -134,6 +136,16 @@ costed_refused at later command reason count cap some plans trees scripts seen =
       let same : first ≡ first + 0 = omega arith in
       rose_is first (first + 0) start count later.seen same (subst (RoseFor first start count) (sym seen) was);
 }
+
+-- one that is not done leads no further, or costs none
+pub costed_undone : (at later : Follower) (command : Edit) (error : ApplyError) (old new : SinkLog) (result : Result (Unit {0}) Stop) (count : ℕ) → at.session.tree.pair_cap ≡ pair_cap_for at.session.plan →
+    RefusesCommand at.session.tree command error → IsUndone at.number error old new result →
+    later.session.plan ≡ at.session.plan → later.session.tree.nodes ≡ at.session.tree.nodes → later.script ≡ at.script → later.seen ≡ at.seen →
+    OnOk result (IsCosted (in_front_of command at) later count count)
+costed_undone at later command (apply.Refused reason) old new result count cap some undone plans trees scripts seen =
+    on_ok (IsCosted (in_front_of command at) later count count) result (costed_refused at later command reason count cap some plans trees scripts seen)
+costed_undone at later command apply.Memory old new result count cap some undone plans trees scripts seen =
+    subst (λ (r : Result (Unit {0}) Stop). OnOk r (IsCosted (in_front_of command at) later count count)) (sym undone.0) tt
 
 -- The commands one after another
 

@@ -11,12 +11,11 @@ use Rattle.sch_words.specs.declared.status.Status.TheVariants.{DocumentRefused, 
 use Rattle.sch_words.specs.Commands.{Command, tell, expand, validate, follow, command_of}
 use Rattle.sch_cli.specs.Following.{Begins, Follows}
 use Rattle.sch_loading.specs.Loading.{Expanding, Loading, Planning, Scripting}
-use Rattle.sch_words.specs.Notices.{notice_text}
 use Rattle.sch_stops.specs.Output.{Output, stopped, usage_line}
 use Rattle.sch_cli.specs.Output.{expanded, in_front, notice_output, state}
 use Rattle.sch_stops.specs.Refusals.{document_refused_line}
 use Rattle.sch_loading.specs.Reads.{Named, file, schema_file}
-use Rattle.sch_loading.specs.Stages.{By, Is, Stage, Then, goes, halt_if, halts, unread}
+use Rattle.sch_loading.specs.Stages.{By, Is, Stage, Then, goes, halt_if, halts}
 use Rattle.sch_cli.specs.Steps.{EditsCost, first_cost}
 
 -- A document under a plan, and a script for it

@@ -16,4 +16,5 @@ pub mod Behaviours
 pub mod OneOutput
 pub mod Runs
 pub mod Headline
+pub mod Ran
 pub mod inner

@@ -1,11 +1,10 @@
 -- What `run` promises of its outside, for each status.
-use Rattle.std.specs.Prelude.{◌≡◌, ℕ, ◌⊎◌, ◌==◌, ◌&&◌, Bool, true, false, List, [], ◌∷◌, ◌++◌, Option, None, Some, IfSome, Result, if◌then◌else◌}
-use Rattle.sch_io.specs.Counts.{one_more}
+use Rattle.std.specs.Prelude.{◌≡◌, ℕ, ◌⊎◌, ◌&&◌, Bool, true, false, List, [], ◌∷◌, ◌++◌, Option, None, Some, IfSome, Result}
 use Rattle.sch_io.specs.Files.{Files}
+use Rattle.sch_io.specs.ReadThrough.{Extent, all_files, all_but_last, all_or_but_last}
 use Rattle.sch_io.specs.SinkLog.{SinkLog}
 use Rattle.sch_io.specs.Wrote.{Appends, Wrote}
 use Rattle.sch_io.specs.declared.error.Failed.{Failed}
-use Rattle.sch_words.specs.Status.{code_of}
 use Rattle.sch_words.specs.declared.status.Status.{Status}
 use Rattle.sch_words.specs.declared.status.Status.TheVariants.{Clean, Findings, Usage, SchemaRefused, DocumentRefused, ScriptRefused, Faulted, Missing, ReadFault, WriteFault, Memory}
 use Rattle.sch_stops.specs.declared.refusal.DocumentRefusal.{DocumentRefusal}
@@ -23,8 +22,9 @@ use Rattle.sch_loading.specs.Reads.{Named, Opens}
 abbrev pub AppendsFront : Option (List ℕ) → Option (List ℕ) → List ℕ → Type 0
 AppendsFront old new text = (done left : List ℕ) × (text ≡ done ++ left) × Appends old new done
 
--- the line was written to the error output, or a front of it where a fault of it was counted
+-- the line was written to the error output, or a front of it where a fault of it was counted; where there is none, nothing was asked of it
 abbrev pub Tells : SinkLog → SinkLog → List ℕ → Type 0
+Tells old new [] = new ≡ old
 Tells old new line = (result : Result (Unit {0}) Failed) × Wrote old new line result
 
 -- files were opened, those that the command opens
@@ -104,6 +104,20 @@ IsLineOf old new Missing line = (name : List ℕ) × IsLast name old new × (lin
 IsLineOf old new ReadFault line = (name : List ℕ) × IsLast name old new × (line ≡ read_fault_line name)
 IsLineOf old new WriteFault line = line ≡ write_fault_line
 IsLineOf old new Memory line = line ≡ memory_line
+
+-- how far the files that were opened were read: all to their end, or all but the last one, at which the run was stopped
+abbrev pub extent_of_status : Status → Extent
+extent_of_status Clean = all_files
+extent_of_status Findings = all_files
+extent_of_status Usage = all_files
+extent_of_status SchemaRefused = all_or_but_last
+extent_of_status DocumentRefused = all_or_but_last
+extent_of_status ScriptRefused = all_or_but_last
+extent_of_status Faulted = all_files
+extent_of_status Missing = all_but_last
+extent_of_status ReadFault = all_but_last
+extent_of_status WriteFault = all_files
+extent_of_status Memory = all_or_but_last
 
 -- a run that ends so may have written to the output
 abbrev pub may_write : Status → Bool

@@ -1,6 +1,6 @@
 -- What a run counts: the visits of the evaluation of all units for its first state, and for each accepted edit those of the units that
 -- are new, or whose reads the edit touched.
-use Rattle.std.specs.Prelude.{◌≡◌, ◌⊎◌, ℕ, ◌+◌, ◌≤◌, Option, None, Some}
+use Rattle.std.specs.Prelude.{◌≡◌, ◌⊎◌, ℕ, ◌+◌, ◌≤◌, None, Some}
 use Rattle.doc_tree.specs.Table.{Table}
 use Rattle.doc_tree.specs.declared.refusal.EditRefusal.{EditRefusal}
 use Rattle.edit_script.specs.Script.{Script, nothing, onto, stops}

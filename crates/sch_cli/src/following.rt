@@ -16,7 +16,7 @@ ghost use Rattle.sch_cli.specs.Following.{then_shown};
 ghost use Rattle.sch_stops.specs.Stops.{counted_if, ends_with};
 ghost use Rattle.sch_cli.specs.inner.Carried.{Carried, Concludes};
 ghost use Rattle.sch_cli.specs.inner.Counts.{CountsAlong, CountsOn, IsCosted, RoseFor, next_cost};
-ghost use Rattle.sch_cli.specs.inner.Followers.{Beginning, Ending, Goes, IsReady, in_front_of, scripted_by};
+ghost use Rattle.sch_cli.specs.inner.Followers.{Beginning, Ending, Goes, IsReady, IsUndone, in_front_of, scripted_by};
 ghost use Rattle.sch_cli.specs.inner.Writing.{IsOfWriting, WroteText};
 
 use crate::validation::{load_asked, write_state};
@@ -25,7 +25,7 @@ use edit_commands::ApplyError;
 use edit_script::{Command, ScriptReader};
 use edit_session::{Session, Shown};
 use sch_base::Text;
-use sch_io::{Bytes, Shelf, Sink};
+use sch_io::{Bytes, Failed, Shelf, Sink};
 use sch_loading::read_script;
 use sch_stops::{Stop, write_edit_line, write_refused_line};
 use sch_words::ScriptedValidation;
@@ -163,8 +163,7 @@ impl Follower<'_> {
         self.number += 1;
         match self.session.apply(command) {
             Ok(()) => self.write_edited(number, out, steps),
-            Err(ApplyError::Refused(reason)) => write_refused(number, reason, out),
-            Err(ApplyError::Memory) => Err(Stop::Memory),
+            Err(error) => write_undone(number, error, out),
         }
     }
 
@@ -193,12 +192,25 @@ impl Follower<'_> {
     }
 }
 
+/// Writes the line of a command that is refused; one that finds no memory ends the run.
+fn write_undone<O: Sink>(number: u64, error: ApplyError, out: &mut O) -> Result<(), Stop>
+    ensures { IsUndone number error (O.log out.old) (O.log out.new) result }
+{
+    match error {
+        ApplyError::Refused(reason) => write_refused(number, reason, out),
+        ApplyError::Memory => Err(Stop::Memory),
+    }
+}
+
 /// Writes the line of a refused command.
 fn write_refused<O: Sink>(number: u64, reason: EditRefusal, out: &mut O) -> Result<(), Stop>
-    ensures { WroteText (O.log out.old) (O.log out.new) (refused_line number reason) result }
+    ensures wrote { WroteText (O.log out.old) (O.log out.new) (refused_line number reason) result }
+    ensures memory { ends_with statuses.Memory result ≡ false }
 {
-    write_refused_line(number, reason, out)?;
-    Ok(())
+    match write_refused_line(number, reason, out) {
+        Ok(()) => Ok(()),
+        Err(Failed) => Err(Stop::WriteFault),
+    }
 }
 
 /// What the states so far show, with one more.

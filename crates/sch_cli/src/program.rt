@@ -1,13 +1,15 @@
 //! The program's one call.
 
 ghost use Rattle.std.specs.Prelude.{◌≡◌, ◌≤◌, ◌++◌, ℕ, List, ◌↔◌, None, false};
-ghost use Rattle.sch_io.specs.Wrote.{Appends, Wrote};
+ghost use Rattle.sch_io.specs.ReadThrough.{ReadsThrough};
+ghost use Rattle.sch_io.specs.Wrote.{Appends};
 ghost use Rattle.sch_words.specs.declared.status.Status.TheVariants as statuses;
 ghost use Rattle.sch_cli.specs.Behaviours.{asked_by};
 ghost use Rattle.sch_words.specs.Commands.{command_of};
 ghost use Rattle.sch_cli.specs.Headline.{Headline};
+ghost use Rattle.sch_cli.specs.Output.{line_shown};
 ghost use Rattle.sch_stops.specs.Output.{memory_line};
-ghost use Rattle.sch_cli.specs.Runs.{Tells, IsLineOf, OpensFiles, may_evaluate, may_write};
+ghost use Rattle.sch_cli.specs.Runs.{Tells, IsLineOf, OpensFiles, extent_of_status, may_evaluate, may_write};
 ghost use Rattle.sch_stops.specs.Stops.{counted_if, is_status};
 ghost use Rattle.sch_cli.specs.inner.Carried.{Carried, HasStatus, line_of_end, status_of_end};
 
@@ -16,7 +18,7 @@ use crate::following::follow;
 use crate::notice::write_notice;
 use crate::validation::validate;
 use edit_session::Shown;
-use sch_io::{Failed, Shelf, Sink, write_all};
+use sch_io::{Shelf, Sink, write_all};
 use sch_stops::Stop;
 use sch_words::{Command, Status, Words, command_of};
 use std::alloc::Global;
@@ -41,6 +43,8 @@ pub fn run<S: Shelf, O: Sink, E: Sink, L: Ledger>(
     ensures usage { (result ≡ statuses.Usage) ↔ (command_of words.now ≡ None) }
     // whatever the shelf tells, the files that the words name are opened in their order, up to some one
     ensures opened { OpensFiles (asked_by words.now).named (S.state shelf.old).opened (S.state shelf.new).opened }
+    // and each is read to its end and no further, but for the last one where the run is stopped at it
+    ensures through { ReadsThrough (extent_of_status result) (S.state shelf.old) (S.state shelf.new) }
     // what the shelf holds stays
     ensures held { (S.state shelf.new).files ≡ (S.state shelf.old).files }
     // a fault of the outside is counted exactly where it is told
@@ -90,19 +94,32 @@ fn conclude<E: Sink>(ended: Result<Shown, Stop>, err: &mut E) -> Status
     ensures ends { HasStatus result ended }
     ensures told { Tells (E.log err.old) (E.log err.new) (line_of_end ended) }
 {
-    let status = status_of(&ended);
-    let _ = tell(&ended, err);
-    status
+    tell(&ended, err);
+    status_of(&ended)
 }
 
-/// Writes the line of how a run ended, where it has one.
-fn tell<E: Sink>(ended: &Result<Shown, Stop>, err: &mut E) -> Result<(), Failed>
-    ensures { Wrote (E.log err.old) (E.log err.new) (line_of_end ended.now) result }
+/// Writes the line of how a run ended, where it has one; its failure changes nothing.
+#[tactic(auto, using(crate::proofs::RunLemmas::told_stop))]
+fn tell<E: Sink>(ended: &Result<Shown, Stop>, err: &mut E)
+    ensures { Tells (E.log err.old) (E.log err.new) (line_of_end ended.now) }
 {
     match ended {
-        Ok(Shown::Fault) => write_all(err, b"sch: faulted\n"),
-        Ok(_) => Ok(()),
-        Err(stop) => stop.tell(err),
+        Ok(last) => tell_shown(*last, err),
+        Err(stop) => {
+            let _ = stop.tell(err);
+        }
+    }
+}
+
+/// Writes the line of a run that comes to its end, where a state is a fault; its failure changes nothing.
+fn tell_shown<E: Sink>(last: Shown, err: &mut E)
+    ensures { Tells (E.log err.old) (E.log err.new) (line_shown last) }
+{
+    match last {
+        Shown::Fault => {
+            let _ = write_all(err, b"sch: faulted\n");
+        }
+        Shown::Clean | Shown::Findings => {}
     }
 }
 

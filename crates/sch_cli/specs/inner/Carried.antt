@@ -1,6 +1,7 @@
 -- What the run of a command does to its outside, and how it ends.
-use Rattle.std.specs.Prelude.{◌≡◌, ◌⊎◌, ◌≤◌, ℕ, Bool, true, false, ◌&&◌, List, [], ◌++◌, Some, IfErr, MatchResult, Result, Ok, Err}
+use Rattle.std.specs.Prelude.{◌≡◌, ◌⊎◌, ◌≤◌, ℕ, Bool, false, ◌&&◌, List, [], ◌++◌, Some, IfErr, MatchResult, Result, Ok, Err}
 use Rattle.sch_io.specs.Files.{Files}
+use Rattle.sch_io.specs.ReadThrough.{ReadsThrough}
 use Rattle.sch_io.specs.ShelfState.{ShelfState}
 use Rattle.sch_io.specs.SinkLog.{SinkLog}
 use Rattle.sch_io.specs.Wrote.{Appends}
@@ -9,12 +10,12 @@ use Rattle.sch_words.specs.declared.status.Status.{Status}
 use Rattle.sch_words.specs.declared.status.Status.TheVariants as status
 use Rattle.sch_stops.specs.declared.stop.Stop.{Stop}
 use Rattle.sch_cli.specs.Behaviours.{Behaviour, IsEnd}
-use Rattle.sch_loading.specs.Reads.{IsLastOf, Opens}
+use Rattle.sch_loading.specs.Reads.{IsLastOf, Opens, extent_of}
 use Rattle.sch_stops.specs.Output.{Output}
 use Rattle.sch_cli.specs.Output.{line_shown, status_shown}
 use Rattle.sch_cli.specs.Runs.{Fronted, may_write}
 use Rattle.sch_stops.specs.Stops.{ByCause, Names, counted_if, ends_with, is_status, line_of, status_of}
-use Rattle.sch_loading.specs.Stages.{Stage, goes, unread}
+use Rattle.sch_loading.specs.Stages.{goes, unread}
 use Rattle.sch_cli.specs.Steps.{CountsBy}
 use Rattle.sch_cli.specs.inner.Writing.{IsOfWriting, may_have_written}
 
@@ -64,6 +65,7 @@ pub record Carried (asked : Behaviour) (old new : ShelfState) (log later : SinkL
   pub misses : new.misses ≡ counted_if (ends_with status.Missing result) old.misses
   pub write_faults : later.faults ≡ counted_if (ends_with status.WriteFault result) log.faults
   pub told : Names (IsLastOf opened) result
+  pub through : ReadsThrough (extent_of result) old new
   pub untouched : may_have_written result ≡ false → later ≡ log
   pub unevaluated : (asked.evaluates && may_have_written result) ≡ false → after ≡ before
   pub rises : before ≤ after

@@ -1,7 +1,5 @@
 -- What parts of a run count.
-use Rattle.std.specs.Prelude.{◌≡◌, ℕ, ◌+◌, ◌≤◌, List, Result, Ok, Err}
-use Rattle.doc_tree.specs.Table.{Table}
-use Rattle.sch_compiled.specs.declared.plan.Plan.{Plan}
+use Rattle.std.specs.Prelude.{◌≡◌, ℕ, ◌+◌, ◌≤◌, Result, Ok, Err}
 use Rattle.edit_costs.specs.Costs.{cost_of}
 use Rattle.edit_costs.specs.Dirty.{units_to_run}
 use Rattle.edit_session.specs.Standing.{Standing, since_of}

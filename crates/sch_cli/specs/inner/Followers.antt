@@ -1,15 +1,19 @@
 -- Where the following of a script stands, and how it comes from one place to another.
-use Rattle.std.specs.Prelude.{◌≡◌, ℕ, ◌+◌, ◌<◌, ◌^◌, List, ◌++◌, length}
+use Rattle.std.specs.Prelude.{◌≡◌, ℕ, ◌+◌, ◌<◌, ◌^◌, false, List, ◌++◌, length}
 use Rattle.edit_script.specs.Script.{onto}
 use Rattle.edit_script.specs.declared.command.Command.{Command}
+use Rattle.edit_commands.specs.declared.refusal.ApplyError.{ApplyError}
+use Rattle.edit_commands.specs.declared.refusal.ApplyError.TheVariants as apply
 use Rattle.edit_session.specs.Pairs.{pair_cap_for}
 use Rattle.edit_session.specs.Standing.{evaluated_over}
 use Rattle.sch_io.specs.SinkLog.{SinkLog}
-use Rattle.std.specs.Prelude.{Result, MatchResult, IfErr}
+use Rattle.std.specs.Prelude.{Result, Err, MatchResult, IfErr}
 use Rattle.sch_io.specs.Wrote.{Appends}
 use Rattle.sch_cli.specs.declared.following.Follower.{Follower}
 use Rattle.sch_words.specs.declared.status.Status.TheVariants as status
 use Rattle.sch_stops.specs.declared.stop.Stop.{Stop}
+use Rattle.sch_stops.specs.declared.stop.Stop.TheVariants.{Memory}
+use Rattle.sch_stops.specs.EditLines.{refused_line}
 use Rattle.sch_cli.specs.Following.{Begins, Follows}
 use Rattle.sch_stops.specs.Output.{Output}
 use Rattle.sch_cli.specs.Output.{in_front}
@@ -18,7 +22,7 @@ use Rattle.sch_stops.specs.Stops.{ByCause, counted_if, ends_with}
 use Rattle.edit_session.specs.Standing.{Standing}
 use Rattle.sch_cli.specs.declared.following.Scripted.{Scripted as Borrowed}
 use Rattle.sch_cli.specs.Behaviours.{Scripted, Treed, tree_under}
-use Rattle.sch_cli.specs.inner.Writing.{IsOfWriting}
+use Rattle.sch_cli.specs.inner.Writing.{IsOfWriting, WroteText}
 
 -- what a session is of a document, and with a script
 abbrev pub treed_by : Standing → Treed
@@ -55,3 +59,8 @@ pub record Goes {A : Type 0} (earlier later : Follower) (old new : SinkLog) (res
       (ByCause (λ _. ⊥) (λ _. ⊥) (Fronted (Beginning earlier) (Appends old.written new.written)) (Fronted (Beginning earlier) (Appends old.written new.written)))
   pub writing : IfErr result IsOfWriting
   pub faults : new.faults ≡ counted_if (ends_with status.WriteFault result) old.faults
+
+-- what comes of a command with a number that is not done: the line of one that is refused, which wants no memory; or want of memory
+abbrev pub IsUndone : ℕ → ApplyError → SinkLog → SinkLog → Result (Unit {0}) Stop → Type 0
+IsUndone number (apply.Refused reason) old new result = WroteText old new (refused_line number reason) result × (ends_with status.Memory result ≡ false)
+IsUndone number apply.Memory old new result = (result ≡ Err Memory) × (new ≡ old)

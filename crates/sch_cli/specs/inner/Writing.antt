@@ -1,5 +1,7 @@
 -- What is written, and what may stop the writing.
 use Rattle.std.specs.Prelude.{◌≡◌, ℕ, List, Bool, true, false, Option, None, Result, Ok, Err, MatchResult, IfErr}
+use Rattle.sch_io.specs.ReadThrough.{ReadsThrough, all_files}
+use Rattle.sch_io.specs.ShelfState.{ShelfState}
 use Rattle.sch_io.specs.SinkLog.{SinkLog}
 use Rattle.sch_io.specs.Wrote.{Appends}
 use Rattle.edit_session.specs.declared.state.ReportError.{ReportError}
@@ -8,6 +10,7 @@ use Rattle.sch_words.specs.declared.status.Status.TheVariants as status
 use Rattle.sch_stops.specs.Stops.{ByCause, counted_if, ends_with, is_status, name_in, status_of}
 use Rattle.sch_stops.specs.declared.stop.Stop.{Stop}
 use Rattle.sch_stops.specs.declared.stop.Stop.TheVariants.{WriteFault, Memory}
+use Rattle.sch_loading.specs.Reads.{extent_of_stop}
 use Rattle.sch_cli.specs.Runs.{AppendsFront, may_write}
 
 -- whether a run that ends so may have written to the output
@@ -15,13 +18,14 @@ abbrev pub may_have_written : {A : Type 0} → Result A Stop → Bool
 may_have_written (Ok value) = true
 may_have_written (Err stop) = may_write (status_of stop)
 
--- what a stop tells is of what is written: of the outside only a failed write stops it
+-- what a stop tells is of what is written: of the outside only a failed write stops it, and all files may have been read
 pub record IsOfWriting (stop : Stop) : Type 0 where
   pub unnamed : name_in stop ≡ None
   pub usage : is_status status.Usage (status_of stop) ≡ false
   pub missing : is_status status.Missing (status_of stop) ≡ false
   pub read_fault : is_status status.ReadFault (status_of stop) ≡ false
   pub writes : may_write (status_of stop) ≡ true
+  pub all_read : (old new : ShelfState) → ReadsThrough all_files old new → ReadsThrough (extent_of_stop stop) old new
 
 -- the stop of a run whose state is not written whole
 abbrev pub of_report : ReportError → Stop

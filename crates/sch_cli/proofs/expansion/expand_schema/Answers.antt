@@ -1,11 +1,10 @@
 -- The parts end as the whole.
-use Rattle.std.proofs.Common.{◌∙◌, ◌≡◌, [], ◌∷◌, false, Err, Ok, ap, refl, arith}
+use Rattle.std.proofs.Common.{◌∙◌, ◌≡◌, [], ◌∷◌, false, Err, ap, refl, arith}
 use Rattle.std.proofs.lemmas.Result.{err_from_is_err_and}
 use Rattle.sch_model.specs.declared.flat.FlatSchema.{FlatSchema}
 use Rattle.edit_session.specs.declared.state.Shown.TheVariants as shown
 use Rattle.sch_loading.specs.Reads.{schema_file}
 use Rattle.sch_loading.specs.Loading.{Expanding}
-use Rattle.sch_stops.specs.Output.{Output}
 use Rattle.sch_cli.specs.Output.{expanded}
 use Rattle.sch_loading.specs.Stages.{Is, Then, goes}
 use Rattle.sch_cli.proofs.CarryLemmas.{accepted, carried, refused_early, stopped_before}

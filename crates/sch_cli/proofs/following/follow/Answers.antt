@@ -1,5 +1,5 @@
 -- The parts end as the whole.
-use Rattle.std.proofs.Common.{◌∙◌, ◌≡◌, [], ◌∷◌, true, true≢false, sym, Err, Ok, ap, refl}
+use Rattle.std.proofs.Common.{◌∙◌, [], ◌∷◌, true, true≢false, Err, ap}
 use Rattle.std.proofs.lemmas.Result.{err_from_is_err_and}
 use Rattle.sch_loading.specs.Reads.{file, schema_file}
 use Rattle.sch_cli.specs.Behaviours.{BeginsStates, OpeningAll, States, StatesCost}

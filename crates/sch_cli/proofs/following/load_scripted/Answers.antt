@@ -1,7 +1,6 @@
 -- The document is opened under its plan, and the script is read.
 use Rattle.std.proofs.Common.{◌∙◌, [], ◌∷◌, ℕ, List, Err, Ok, ap, refl}
 use Rattle.std.proofs.lemmas.Result.{err_from_is_err_and}
-use Rattle.edit_session.specs.Standing.{Standing}
 use Rattle.sch_cli.specs.declared.following.Scripted.{Scripted as Borrowed}
 use Rattle.sch_cli.specs.Behaviours.{Opening, OpeningAll, Scripted}
 use Rattle.sch_loading.specs.Reads.{file, schema_file}

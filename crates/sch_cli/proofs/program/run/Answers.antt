@@ -1,9 +1,9 @@
 -- What was carried out is told and counted under its status.
-use Rattle.std.proofs.Common.{◌∙◌, ◌++◌, ◌≡◌, ℕ, List, Bool, ap, refl, sym, ◌&&◌}
+use Rattle.std.proofs.Common.{◌∙◌, Bool, ap, sym, ◌&&◌}
 use Rattle.sch_cli.specs.Behaviours.{asked_by}
 use Rattle.sch_stops.specs.Stops.{counted_if}
 use Rattle.sch_cli.specs.inner.Carried.{line_of_end}
-use Rattle.sch_cli.proofs.RunLemmas.{last_named, line_named, run_ends}
+use Rattle.sch_cli.proofs.RunLemmas.{last_named, line_named, read_so_far, run_ends}
 use Rattle.sch_cli.proofs.StepLemmas.{run_counts}
 use Rattle.sch_cli.proofs.program.run.Goals as goal
 
@@ -27,6 +27,9 @@ returns-clause-line g c =
 
 pub returns-clause-opened : goal.returns-clause-opened
 returns-clause-opened g c = let was = c.carry_out.ensures.carried in record { opened = was.opened; noted = was.noted; which = was.which }
+
+pub returns-clause-through : goal.returns-clause-through
+returns-clause-through g c = read_so_far _ _ c.conclude.result c.carry_out.result c.conclude.ensures.ends.is c.carry_out.ensures.carried.through
 
 pub returns-clause-held : goal.returns-clause-held
 returns-clause-held g c = c.carry_out.ensures.carried.held

@@ -1,5 +1,5 @@
 -- The file is a tree that is not too large for the plan, or the document is refused.
-use Rattle.std.proofs.Common.{◌∙◌, ◌≡◌, [], ◌∷◌, Err, Ok, ap, refl}
+use Rattle.std.proofs.Common.{◌∙◌, [], ◌∷◌, Err, Ok, ap, refl}
 use Rattle.std.proofs.lemmas.Result.{err_from_is_err_and}
 use Rattle.doc_tree.specs.Table.{Contents}
 use Rattle.edit_session.specs.Pairs.{has_too_many_pairs}
@@ -32,7 +32,7 @@ returns-in-Err-TooManyPairs-clause-reads g c =
     let T = c.in_ok-tree.tree.nodes in
     reads_on _ _ (file c.args.name ∷ []) (λ files. Loading files c.args.name) (λ T. Is (halt_if (has_too_many_pairs c.args.plan T) too_many_pairs (tree_under c.args.plan T))) (λ (tree : Contents). tree.nodes) treed_by c.in_ok-tree.tree (Err (DocumentRefused TooManyPairs)) c.in_ok-tree.ensures.reads
     (refl, halted_there (has_too_many_pairs c.args.plan T) too_many_pairs (tree_under c.args.plan T) (rw c.in-Err-TooManyPairs.field-0-is at c.in-Err-TooManyPairs.ensures.refused))
-    (document_inner (DocumentRefused TooManyPairs) TooManyPairs refl)
+    (document_inner (DocumentRefused TooManyPairs) TooManyPairs refl tt)
 
 pub returns-in-Err-Memory-clause-reads : goal.returns-in-Err-Memory-clause-reads
 returns-in-Err-Memory-clause-reads g c =

@@ -1,5 +1,5 @@
 -- The parts end as the whole.
-use Rattle.std.proofs.Common.{◌∙◌, ◌≡◌, [], ◌∷◌, true, true≢false, sym, Err, Ok, ap, refl}
+use Rattle.std.proofs.Common.{◌∙◌, ◌≡◌, [], ◌∷◌, true, true≢false, Err, ap, refl}
 use Rattle.std.proofs.lemmas.Result.{err_from_is_err_and}
 use Rattle.edit_session.specs.State.{shows, state_text}
 use Rattle.sch_cli.specs.Behaviours.{Opening}
