@@ -2,3 +2,10 @@ pub mod MadeLines
 pub mod PlainWalks
 pub mod FlatNames
 pub mod WholeSchemas
+pub mod OneStages
+pub mod ScriptCases
+pub mod Fronts
+pub mod OneCost
+pub mod Ways
+pub mod SomeOutput
+pub mod SomeCost

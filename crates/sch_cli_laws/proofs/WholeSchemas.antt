@@ -45,7 +45,7 @@ use Rattle.sch_loading.specs.Loading.{Compiling, Expanding, Fetching, Flattening
 use Rattle.sch_stops.specs.Output.{Output}
 use Rattle.sch_cli.specs.Output.{expanded, state}
 use Rattle.sch_loading.specs.Stages.{Came, Is, Stage, Then, goes, halt_at, halts, unread}
-use Rattle.sch_loading.proofs.StageLemmas.{GoesThrough, goes-first, goes-on, through}
+use Rattle.sch_loading.proofs.StageLemmas.{goes-first, goes-on, through}
 use Rattle.sch_cli_laws.specs.WholeSchemas.{ExpansionsStay, ExpansionsValidateAlike}
 use Rattle.sch_cli_laws.proofs.FlatNames.{no-include}
 use Rattle.sch_cli_laws.proofs.MadeLines.{included-made}

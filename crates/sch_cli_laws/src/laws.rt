@@ -1,14 +1,20 @@
 //! Laws of the definitions, as calls that do nothing.
 
+ghost use Rattle.sch_cli_laws.specs.Decided.{BegunIsFront, OneCost};
+ghost use Rattle.sch_cli_laws.specs.Ended.{SomeCost, SomeOutput};
 ghost use Rattle.sch_cli_laws.specs.WholeSchemas.{WholeSchemasStay};
 
+use edit_command_laws::{edits_keep_trees, edits_make_trees, one_edit, scripts_are_well_formed};
+use name_scopes::one_tree;
 use name_scopes_laws::documents_have_trees;
 use sch_flat_laws::{
     expansion_is_accepted_again, expansions_are_documents, flat_texts_have_no_fault,
     scoped_trees_are_made,
 };
 use sch_include::one_inclusion;
-use sch_plan_laws::plans_need_no_places;
+use sch_include_laws::each_inclusion_ends;
+use sch_plan::one_plan;
+use sch_plan_laws::{each_phase_is_compiled, plans_need_no_places};
 
 /// What an expansion writes needs no other file and stands for the schema that was expanded: its own expansion writes the same
 /// bytes, and documents have the same reports by it.
@@ -23,3 +29,40 @@ pub fn whole_schemas_stay()
     flat_texts_have_no_fault();
     plans_need_no_places();
 }
+
+/// A text that a run comes to write is a front of the bytes of its output.
+pub fn begun_is_front()
+    ensures { BegunIsFront }
+{
+    one_tree();
+    one_inclusion();
+    one_plan();
+    one_edit();
+}
+
+/// The words and the files have one count of visits at most.
+pub fn one_cost()
+    ensures { OneCost }
+{
+    one_tree();
+    one_inclusion();
+    one_plan();
+    one_edit();
+}
+
+/// Words and files have an output: each stage of a run goes on, or halts it.
+pub fn some_output()
+    ensures { SomeOutput }
+{
+    documents_have_trees();
+    each_inclusion_ends();
+    each_phase_is_compiled();
+    edits_make_trees();
+    edits_keep_trees();
+    scripts_are_well_formed();
+}
+
+/// A run that comes to its end has visits.
+pub fn some_cost()
+    ensures { SomeCost }
+{}

@@ -3,4 +3,4 @@
 
 mod laws;
 
-pub use laws::whole_schemas_stay;
+pub use laws::{begun_is_front, one_cost, some_cost, some_output, whole_schemas_stay};

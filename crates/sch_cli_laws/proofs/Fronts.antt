@@ -1,0 +1,129 @@
+-- A text that a run comes to write is a front of the bytes of its output.
+use Rattle.std.proofs.Common.{◌≡◌, ◌⊎◌, inl, inr, ⊎_elim, ℕ, ◌+◌, List, [], ◌++◌, Option, None, Some, refl, sym, ap, ◌∙◌, subst, append-nil, append_assoc}
+use Rattle.sch_io.specs.Files.{Files}
+use Rattle.doc_tree.specs.Table.{Table}
+use Rattle.edit_command_laws.specs.OneEdit.{OneEdit}
+use Rattle.edit_script.specs.Script.{Script, script_of}
+use Rattle.edit_session.specs.State.{shows, state_text}
+use Rattle.edit_session.specs.declared.state.Shown.{Shown}
+use Rattle.name_scopes.specs.ScopedTree.{OneTree}
+use Rattle.sch_compiled.specs.declared.plan.Plan.{Plan}
+use Rattle.sch_include.specs.Included.{OneInclusion}
+use Rattle.sch_plan.specs.OnePlan.{OnePlan}
+use Rattle.sch_words.specs.Commands.{Command, tell, expand, validate, follow, command_of}
+use Rattle.sch_words.specs.declared.status.Status.TheVariants.{Usage}
+use Rattle.sch_stops.specs.EditLines.{edit_line, refused_line}
+use Rattle.sch_stops.specs.Output.{Output, stopped, usage_line}
+use Rattle.sch_loading.specs.Loading.{Expanding}
+use Rattle.sch_loading.specs.Stages.{Came, Is, Onward, Stage, Then, goes, halts, unread}
+use Rattle.sch_loading.proofs.StageLemmas.{Single, one-is, one-then, through}
+use Rattle.sch_cli.specs.Behaviours.{Any, BeginsStates, IsEnd, Opening, OpeningAll, States, behaviour}
+use Rattle.sch_cli.specs.Following.{Begins, Follows, edited, nothing_yet, refused, then_shown}
+use Rattle.sch_cli.specs.Output.{expanded, in_front, notice_output, state}
+use Rattle.sch_cli.proofs.OneOutput.{one-expanding}
+use Rattle.sch_cli_laws.specs.Decided.{BegunIsFront}
+use Rattle.sch_cli_laws.proofs.OneStages.{one-opening, one-opening-all}
+use Rattle.sch_cli_laws.proofs.ScriptCases.{WritesEdited, WritesRefused, follows-onto, refused-or-none, refused-same}
+
+-- the text is a front of the output's bytes
+abbrev IsFront : List ℕ → Output → Type 0
+IsFront text output = (rest : List ℕ) × (output.out ≡ text ++ rest)
+
+-- the same line in front of both
+front-behind : (line text : List ℕ) (output later : Output) → output ≡ in_front line later → IsFront text later → IsFront (line ++ text) output
+front-behind line text output later is front =
+    (front.0, ap (λ (o : Output). o.out) is ∙ ap (λ (out : List ℕ). line ++ out) front.1 ∙ sym (append_assoc line text front.0))
+
+-- the first commands of a script write a front of what all of them write
+module _ (one_edit : OneEdit) (plan : Plan) where
+  begins-front : (T : Table) (number : ℕ) (script : Script) (text : List ℕ) → Begins plan T number script text →
+      (seen : Shown) (output : Output) → Follows plan T number seen script output → IsFront text output
+  begins-front T number _ _ (nothing_yet _ _ script) seen output follows = (output.out, refl)
+  begins-front T number _ _ (refused _ _ command reason rest text some begins) seen output follows =
+      by (begins-front T (number + 1) rest text begins) (follows-onto plan T number seen command rest output follows)
+    where
+      by : ((s : Shown) (o : Output) → Follows plan T (number + 1) s rest o → IsFront text o) → WritesRefused plan T number seen command rest output ⊎ WritesEdited plan T number seen command rest output →
+          IsFront (refused_line number reason ++ text) output
+      by later (inl found) =
+          let line : refused_line number found.reason ≡ refused_line number reason = ap (refused_line number) (refused-same found.refused some) in
+          front-behind (refused_line number reason) text output found.later (found.is ∙ ap (λ (l : List ℕ). in_front l found.later) line)
+          (later seen found.later found.follows)
+      by later (inr found) = absurd (refused-or-none some found.free)
+  begins-front T number _ _ (edited _ U _ command rest text none makes begins) seen output follows =
+      by (begins-front U (number + 1) rest text begins) (follows-onto plan T number seen command rest output follows)
+    where
+      by : ((s : Shown) (o : Output) → Follows plan U (number + 1) s rest o → IsFront text o) → WritesRefused plan T number seen command rest output ⊎ WritesEdited plan T number seen command rest output →
+          IsFront ((edit_line number ++ state_text plan U) ++ text) output
+      by later (inl found) = absurd (refused-or-none found.refused none)
+      by later (inr found) =
+          let trees : found.made ≡ U = one_edit T found.made U command found.makes makes in
+          let line : edit_line number ++ state_text plan found.made ≡ edit_line number ++ state_text plan U = ap (λ (X : Table). edit_line number ++ state_text plan X) trees in
+          front-behind (edit_line number ++ state_text plan U) text output found.later (found.is ∙ ap (λ (l : List ℕ). in_front l found.later) line)
+          (later (then_shown seen (shows plan U)) found.later
+          (subst (λ (X : Table). Follows plan X (number + 1) (then_shown seen (shows plan X)) rest found.later) trees found.follows))
+
+  states-front : (T : Table) (bytes text : List ℕ) (output : Output) → BeginsStates plan T bytes text → States plan T bytes output → IsFront text output
+  states-front T bytes text output begun all =
+      subst (λ (t : List ℕ). IsFront t output) (sym begun.2)
+      (front-behind (state_text plan T) begun.0 output all.0 all.2 (begins-front T 1 (script_of bytes) begun.0 begun.1 (shows plan T) all.0 all.1))
+
+goes-same : {A : Type 0} (a b : A) → goes a ≡ goes b → a ≡ b
+goes-same a b h = cc
+
+-- stages that make a value ready, of which a text begins to be written
+module _ {A : Type 0} (ready : Stage A) (one : Single ready) (outputs : A → Output → Type 0) (texts : A → List ℕ → Type 0)
+    (front : (value : A) (text : List ℕ) (output : Output) → texts value text → outputs value output → IsFront text output) where
+  -- a halt comes of the stages alone
+  halted : (opened : List (List ℕ)) (output : Output) → Then ready (λ value. Any (outputs value)) opened (halts output) → (before : List (List ℕ)) × ready before (halts output)
+  halted opened output stages = by stages.between stages.begins stages.goes_on
+    where
+      by : (between : Came A) → ready stages.before between → Onward (λ value. Any (outputs value)) between stages.after (halts output) → (before : List (List ℕ)) × ready before (halts output)
+      by (goes value) begins on = absurd (let clash : halts output ≡ goes on.1 = on.3 in cc)
+      by (halts found) begins on =
+          let same : halts output ≡ halts found = on.1 in
+          let is : found ≡ output = cc in
+          (stages.before, subst (λ (o : Output). ready stages.before (halts o)) is begins)
+      by (unread name) begins on = absurd (let clash : halts output ≡ unread name = on.1 in cc)
+
+  begun-front : (opened others : List (List ℕ)) (text : List ℕ) (output : Output) → Then ready (λ value. Any (texts value)) opened (goes text) → IsEnd (Then ready (λ value. Any (outputs value))) others output → IsFront text output
+  begun-front opened others text output begun end =
+      let first = through ready (λ value. Any (texts value)) opened text begun in
+      let is : text ≡ first.goes_on.1 = goes-same text first.goes_on.1 first.goes_on.3 in
+      ⊎_elim
+      (λ (all : Then ready (λ value. Any (outputs value)) others (goes output)).
+      let last = through ready (λ value. Any (outputs value)) others output all in
+      let same : first.value ≡ last.value = goes-same first.value last.value (one first.before last.before (goes first.value) (goes last.value) first.begins last.begins tt tt).1 in
+      let whole : output ≡ last.goes_on.1 = goes-same output last.goes_on.1 last.goes_on.3 in
+      front first.value text output (subst (texts first.value) (sym is) first.goes_on.2)
+      (subst (λ (value : A). outputs value output) (sym same) (subst (outputs last.value) (sym whole) last.goes_on.2)))
+      (λ (stop : Then ready (λ value. Any (outputs value)) others (halts output)).
+      let last = halted others output stop in
+      absurd (let clash : goes first.value ≡ halts output = (one first.before last.0 (goes first.value) (halts output) first.begins last.1 tt tt).1 in cc))
+      end
+
+-- an output that is written whole
+written-front : (ready : Stage Output) → Single ready → (opened others : List (List ℕ)) (text : List ℕ) (output : Output) →
+    Then ready (λ written. Any (λ text. text ≡ written.out)) opened (goes text) → IsEnd (Then ready (λ written. Any (λ output. output ≡ written))) others output → IsFront text output
+written-front ready one =
+    begun-front ready one (λ written output. output ≡ written) (λ written text. text ≡ written.out)
+    (λ written text output is whole. ([], ap (λ (o : Output). o.out) whole ∙ sym is ∙ sym (append-nil text)))
+
+module _ (one_tree : OneTree) (one_inclusion : OneInclusion) (one_plan : OnePlan) (one_edit : OneEdit) (files : Files) where
+  asked-front : (asked : Option Command) (opened others : List (List ℕ)) (text : List ℕ) (output : Output) → (behaviour asked).begins files opened (goes text) → IsEnd ((behaviour asked).ends files) others output → IsFront text output
+  asked-front None = written-front (Is (halts (stopped Usage usage_line))) (one-is (halts (stopped Usage usage_line)))
+  asked-front (Some (tell notice)) = written-front (Is (goes (notice_output notice))) (one-is (goes (notice_output notice)))
+  asked-front (Some (expand schema)) =
+      written-front (Then (Expanding files schema) (λ flat. Is (goes (expanded flat))))
+      (one-then (Expanding files schema) (λ flat. Is (goes (expanded flat))) (one-expanding one_tree one_inclusion one_plan one_edit files schema) (λ flat. one-is (goes (expanded flat))))
+  asked-front (Some (validate phase schema document)) =
+      begun-front (Opening files phase schema document) (one-opening one_tree one_inclusion one_plan one_edit files phase schema document)
+      (λ at output. output ≡ state at.plan at.tree) (λ at text. text ≡ state_text at.plan at.tree)
+      (λ at text output is whole. ([], ap (λ (o : Output). o.out) whole ∙ sym is ∙ sym (append-nil text)))
+  asked-front (Some (follow phase schema document script)) =
+      begun-front (OpeningAll files phase schema document script) (one-opening-all one_tree one_inclusion one_plan one_edit files phase schema document script)
+      (λ at. States at.treed.plan at.treed.tree at.script) (λ at. BeginsStates at.treed.plan at.treed.tree at.script)
+      (λ at. states-front one_edit at.treed.plan at.treed.tree at.script)
+
+pub begun-is-front : OneTree → OneInclusion → OnePlan → OneEdit → BegunIsFront
+begun-is-front one_tree one_inclusion one_plan one_edit words files opened text output begun found =
+    asked-front one_tree one_inclusion one_plan one_edit files (command_of words) opened found.0 text output begun found.1
