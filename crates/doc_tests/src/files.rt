@@ -41,6 +41,8 @@ pub enum Call {
     Fail,
     File,
     Full,
+    /// How many bytes are moved at once.
+    Most,
     Open,
     Pieces,
     Put,
@@ -52,11 +54,12 @@ pub enum Call {
 }
 
 /// The calls by their words.
-const CALLS: [(&str, Call); 12] = [
+const CALLS: [(&str, Call); 13] = [
     ("all", Call::All),
     ("fail", Call::Fail),
     ("file", Call::File),
     ("full", Call::Full),
+    ("most", Call::Most),
     ("open", Call::Open),
     ("pieces", Call::Pieces),
     ("put", Call::Put),
@@ -111,6 +114,7 @@ impl Files<'_> {
         match named(&CALLS, word)? {
             Call::Put => put(alloc, &mut self.shelf, rest),
             Call::Fail => fail_shelf(alloc, &mut self.shelf, rest),
+            Call::Most => shorten_reads(alloc, &mut self.shelf, rest),
             Call::Open => opened(alloc, &mut self.shelf, rest),
             Call::Read => piece(alloc, &mut self.shelf),
             Call::All => content(alloc, &mut self.shelf, rest),
@@ -125,6 +129,7 @@ impl Files<'_> {
         let (word, rest) = first_word(call);
         match named(&CALLS, word)? {
             Call::Fail => fail_sink(alloc, &mut self.sink, rest),
+            Call::Most => shorten_writes(alloc, &mut self.sink, rest),
             Call::All => all_written(alloc, &mut self.sink, rest.as_bytes()),
             Call::Pieces => pieces_written(alloc, &mut self.sink, &[rest, "", rest]),
             Call::Write => taken(alloc, &mut self.sink, rest.as_bytes()),
@@ -155,6 +160,26 @@ fn fail_shelf(alloc: Global, shelf: &mut MemoryShelf, call: &str) -> Result<Stri
 /// What planning a fault of a sink comes to.
 fn fail_sink(alloc: Global, sink: &mut MemorySink, call: &str) -> Result<String, Fail> {
     told(alloc, sink.fail_at(number(call)? as u64))
+}
+
+/// Lets reads of a shelf give at most so many bytes.
+fn shorten_reads(alloc: Global, shelf: &mut MemoryShelf, most: &str) -> Result<String, Fail> {
+    let most = number(most)?;
+    if most == 0 {
+        return Err("no read gives nothing".into());
+    }
+    shelf.read_at_most(most);
+    copy(alloc, "done")
+}
+
+/// Lets writes to a sink take at most so many bytes.
+fn shorten_writes(alloc: Global, sink: &mut MemorySink, most: &str) -> Result<String, Fail> {
+    let most = number(most)?;
+    if most == 0 {
+        return Err("no write takes nothing".into());
+    }
+    sink.take_at_most(most);
+    copy(alloc, "done")
 }
 
 /// The next two bytes of the open file.

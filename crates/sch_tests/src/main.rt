@@ -5,7 +5,9 @@ mod pairs;
 mod plans;
 mod runs;
 mod schemas;
+mod settings;
 mod sinks;
+mod turns;
 
 use pairs::Pairs;
 use runs::Runs;

@@ -2,6 +2,7 @@
 
 ghost use Rattle.std.specs.Prelude.{◌≡◌, ◌<◌};
 
+use crate::settings::{ROOM, Setting};
 use sch_cli::{Words, run};
 use sch_io::{MemoryShelf, MemorySink};
 use std::alloc::{AllocError, Global};
@@ -9,39 +10,6 @@ use std::str;
 use std::sync::ledger::{Blank, Ledger};
 use std::test::Fail;
 use xp_outcome::Steps;
-
-/// How many bytes a sink holds, of which a run with its output told writes fewer.
-const ROOM: usize = 1_048_576;
-
-/// What is told of a run: the output, which has room for that many bytes, or how many steps were taken.
-#[derive(Clone, Copy)]
-pub struct Telling {
-    room: usize,
-    are_steps: bool,
-}
-
-impl Telling {
-    /// The output is told.
-    pub fn of_output() -> Telling {
-        Telling::within(65_536)
-    }
-
-    /// The output is told, which has room for that many bytes.
-    pub fn within(room: usize) -> Telling {
-        Telling {
-            room,
-            are_steps: false,
-        }
-    }
-
-    /// The steps are told.
-    pub fn of_steps() -> Telling {
-        Telling {
-            room: ROOM,
-            are_steps: true,
-        }
-    }
-}
 
 /// The output and the error output of a run.
 #[derive(Drop)]
@@ -52,9 +20,14 @@ struct Sinks {
 
 impl Sinks {
     /// Sinks to which nothing was written.
-    fn new(alloc: Global, room: usize) -> Result<Sinks, AllocError> {
-        let out = MemorySink::with_room(alloc, room)?;
-        match MemorySink::with_room(alloc, ROOM) {
+    fn new(alloc: Global, setting: Setting) -> Result<Sinks, AllocError> {
+        let out = sink_of(
+            alloc,
+            setting.room,
+            setting.most_written,
+            setting.failing_write,
+        )?;
+        match sink_of(alloc, ROOM, setting.most_written, setting.failing_line) {
             Ok(err) => Ok(Sinks { out, err }),
             Err(error) => {
                 drop(out);
@@ -71,19 +44,39 @@ impl Sinks {
     }
 }
 
+/// A sink with so much room to which nothing was written: how many bytes a write takes at most, and which write fails.
+fn sink_of(
+    alloc: Global,
+    room: usize,
+    most: usize,
+    failing: u64,
+) -> Result<MemorySink, AllocError> {
+    let mut sink = MemorySink::with_room(alloc, room)?;
+    if most > 0 {
+        sink.take_at_most(most);
+    }
+    match sink.fail_at(failing) {
+        Ok(()) => Ok(sink),
+        Err(error) => {
+            drop(sink);
+            Err(error)
+        }
+    }
+}
+
 /// How words end over a shelf by a count over the ledger of the blank: the status, and the outputs or the steps.
 pub fn tell<L: Ledger>(
     alloc: Global,
     words: &Words,
     shelf: &mut MemoryShelf,
-    telling: Telling,
+    setting: Setting,
     blank: Blank,
 ) -> Result<String, Fail>
     requires name { blank.name ≡ L.name }
     requires parts { blank.parts ≡ L.parts }
     requires some { 0 < L.parts }
 {
-    let mut sinks = Sinks::new(alloc, telling.room)?;
+    let mut sinks = Sinks::new(alloc, setting)?;
     let mut steps: Steps<L> = Steps::start(blank);
     let ends = run(
         alloc,
@@ -93,7 +86,7 @@ pub fn tell<L: Ledger>(
         &mut sinks.err,
         &mut steps,
     );
-    let told = if telling.are_steps {
+    let told = if setting.are_steps {
         told_steps(alloc, ends.code(), steps.taken())
     } else {
         sinks.told(alloc, ends.code())

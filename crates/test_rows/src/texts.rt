@@ -35,11 +35,11 @@ fn meant(c: char) -> char {
     }
 }
 
-/// A text in which each second part between stars is a count and what is repeated: `a*3 b*c` is `abbbc`.
+/// A text in which each second part between crosses is a count and what is repeated: `a×3 b×c` is `abbbc`.
 pub fn repeated(alloc: Global, text: &str) -> Result<String, Fail> {
     let mut whole = String::new(alloc);
     let mut is_repeated = false;
-    for part in text.split('*') {
+    for part in text.split('×') {
         append(&mut whole, part, is_repeated)?;
         is_repeated = !is_repeated;
     }
