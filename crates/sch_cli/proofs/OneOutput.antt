@@ -171,10 +171,10 @@ module _ (one_tree : OneTree) (one_inclusion : OneInclusion) (one_plan : OnePlan
   one-treeing plan document = one-then (Loading files document) (λ T. Is (halt_if (has_too_many_pairs plan T) too_many_pairs (tree_under plan T)))
       (one-loading document) (λ T. one-is (halt_if (has_too_many_pairs plan T) too_many_pairs (tree_under plan T)))
 
-  one-opening : (phase schema document : List ℕ) → Single (Opening files phase schema document)
+  pub one-opening : (phase schema document : List ℕ) → Single (Opening files phase schema document)
   one-opening phase schema document = one-then (Planning files phase schema) (λ plan. Treeing files plan document) (one-planning phase schema) (λ plan. one-treeing plan document)
 
-  one-opening-all : (phase schema document script : List ℕ) → Single (OpeningAll files phase schema document script)
+  pub one-opening-all : (phase schema document script : List ℕ) → Single (OpeningAll files phase schema document script)
   one-opening-all phase schema document script =
       one-then (Opening files phase schema document) (λ treed. Then (Scripting files script) (λ bytes. Is (goes (record { treed = treed; script = bytes }))))
       (one-opening phase schema document) (λ treed. one-then (Scripting files script) (λ bytes. Is (goes (record { treed = treed; script = bytes })))

@@ -20,9 +20,8 @@ use Rattle.sch_loading.proofs.StageLemmas.{Single, one-is, one-then, through}
 use Rattle.sch_cli.specs.Behaviours.{Any, BeginsStates, IsEnd, Opening, OpeningAll, States, behaviour}
 use Rattle.sch_cli.specs.Following.{Begins, Follows, edited, nothing_yet, refused, then_shown}
 use Rattle.sch_cli.specs.Output.{expanded, in_front, notice_output, state}
-use Rattle.sch_cli.proofs.OneOutput.{one-expanding}
+use Rattle.sch_cli.proofs.OneOutput.{one-expanding, one-opening, one-opening-all}
 use Rattle.sch_cli_laws.specs.Decided.{BegunIsFront}
-use Rattle.sch_cli_laws.proofs.OneStages.{one-opening, one-opening-all}
 use Rattle.sch_cli_laws.proofs.ScriptCases.{WritesEdited, WritesRefused, follows-onto, refused-or-none, refused-same}
 
 -- the text is a front of the output's bytes

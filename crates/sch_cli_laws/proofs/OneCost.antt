@@ -18,9 +18,8 @@ use Rattle.sch_loading.proofs.StageLemmas.{Single, one-by, one-is, one-then}
 use Rattle.sch_cli.specs.Behaviours.{Any, Opening, OpeningAll, StatesCost, behaviour}
 use Rattle.sch_cli.specs.Output.{expanded, notice_output}
 use Rattle.sch_cli.specs.Steps.{EditsCost, at_a_fault, at_the_end, edit_cost, first_cost, of_edited, of_refused}
-use Rattle.sch_cli.proofs.OneOutput.{one-expanding}
+use Rattle.sch_cli.proofs.OneOutput.{one-expanding, one-opening, one-opening-all}
 use Rattle.sch_cli_laws.specs.Decided.{OneCost}
-use Rattle.sch_cli_laws.proofs.OneStages.{one-opening, one-opening-all}
 use Rattle.sch_cli_laws.proofs.ScriptCases.{CostsEdited, CostsRefused, costs-nothing, costs-onto, costs-stops, refused-or-none}
 
 module _ (one_edit : OneEdit) (plan : Plan) where
