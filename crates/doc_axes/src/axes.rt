@@ -3,6 +3,7 @@
 ghost use Rattle.std.specs.Prelude.{◌≡◌, ◌∷◌, ◌++◌, true, IfOk, OnOk};
 ghost use Rattle.doc_tree.specs.Table.{is_live, kids_of};
 ghost use Rattle.doc_tree.specs.Walks.{ancestors};
+ghost use Rattle.doc_tree.specs.declared.axes.Axis.TheVariants as axes;
 ghost use Rattle.doc_axes.specs.Axes.{axis_nodes, kids_beside};
 ghost use Rattle.doc_axes.specs.Plain.{plain_below};
 ghost use Rattle.doc_axes.specs.inner.Found.{found_on};
@@ -48,14 +49,11 @@ pub(crate) fn push_axis(
         Axis::AncestorOrSelf => push_upwards(tree, list, n),
         Axis::Attribute => list.push_all(tree.attrs(n)),
         Axis::Child => list.push_all(tree.kids(n)),
-        Axis::Descendant => push_each_plain(tree, list, tree.kids(n)),
+        Axis::Descendant => push_below(tree, list, n),
         Axis::DescendantOrSelf => push_downwards(tree, list, n),
         Axis::Following => push_following(tree, list, n),
         Axis::FollowingSibling => list.push_all(kids_behind(kids_beside(tree, n), n)),
-        Axis::Parent => match tree.parent(n) {
-            Some(parent) => list.push(parent),
-            None => Ok(()),
-        },
+        Axis::Parent => push_parent(tree, list, n),
         Axis::Preceding => push_preceding(tree, list, n),
         Axis::PrecedingSibling => list.push_all(kids_before(kids_beside(tree, n), n)),
         Axis::SelfNode => list.push(n),
@@ -74,9 +72,27 @@ fn push_upwards(tree: &Tree, list: &mut NodeList, n: NodeId) -> Result<(), Alloc
 fn push_downwards(tree: &Tree, list: &mut NodeList, n: NodeId) -> Result<(), AllocError>
     ensures { OnOk result (list.new ≡ list.old ++ n ∷ plain_below tree.now.nodes (kids_of tree.now.nodes n)) }
 {
-    axes_by_cells(tree);
     list.push(n)?;
+    push_below(tree, list, n)
+}
+
+/// Puts all below a node but attributes at the end of the list.
+fn push_below(tree: &Tree, list: &mut NodeList, n: NodeId) -> Result<(), AllocError>
+    ensures { OnOk result (list.new ≡ list.old ++ plain_below tree.now.nodes (kids_of tree.now.nodes n)) }
+{
+    axes_by_cells(tree);
     push_each_plain(tree, list, tree.kids(n))
+}
+
+/// Puts the node's parent, where it has one, at the end of the list.
+fn push_parent(tree: &Tree, list: &mut NodeList, n: NodeId) -> Result<(), AllocError>
+    ensures { OnOk result (list.new ≡ list.old ++ axis_nodes tree.now.nodes axes.Parent n) }
+{
+    axes_by_cells(tree);
+    match tree.parent(n) {
+        Some(parent) => list.push(parent),
+        None => Ok(()),
+    }
 }
 
 /// The kids of the node's parent, none for an attribute and for the root.

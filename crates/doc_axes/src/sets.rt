@@ -1,6 +1,6 @@
 //! Node-sets in document order.
 
-ghost use Rattle.std.specs.Prelude.{◌≡◌, ◌∷◌, ◌++◌, ◌<◌, true, length, IfOk, OnOk};
+ghost use Rattle.std.specs.Prelude.{◌≡◌, ◌∷◌, ◌++◌, ◌+◌, ◌<◌, true, length, IfOk, IfSome, MatchOption, OnOk};
 ghost use Rattle.doc_tree.specs.Table.{is_live};
 ghost use Rattle.doc_axes.specs.Sets.{in_order, IsNodeSet, union};
 
@@ -12,7 +12,7 @@ use std::alloc::{AllocError, Global};
 ///
 /// Where they come in order, the list itself is handed back: it costs a comparison for each node and takes no memory.
 /// Otherwise it costs about k log k comparisons at most for k nodes, and at most k log k numbers are copied; a comparison
-/// costs the depth of the two nodes.
+/// costs constant time.
 pub fn into_document_order(
     alloc: Global,
     tree: &Tree,
@@ -173,25 +173,55 @@ fn push_merged(
     requires b_set { IsNodeSet tree.now.nodes b.now }
     ensures { OnOk result (list.new ≡ list.old ++ union tree.now.nodes a.now b.now) }
 {
-    tree.laws();
     let mut rest_a = a;
     let mut rest_b = b;
-    while let (Some((x, behind_x)), Some((y, behind_y))) = (
-        rest_a.split_first(),
-        rest_b.split_first(),
-    ) {
-        if *x == *y {
-            list.push(*x)?;
-            (rest_a, rest_b) = (behind_x, behind_y);
-        } else if tree.is_before(*x, *y) {
-            list.push(*x)?;
-            rest_a = behind_x;
-        } else {
-            list.push(*y)?;
-            rest_b = behind_y;
-        }
+    while let Some(next) = first_of_both(tree, rest_a, rest_b) {
+        list.push(next.node)?;
+        rest_a = next.behind_a;
+        rest_b = next.behind_b;
     }
     list.push_all(rest_a)?;
     list.push_all(rest_b)?;
     Ok(())
+}
+
+/// The first node of the union of two node-sets, and what is left of each set behind it.
+#[derive(Clone, Copy)]
+struct FirstOfBoth<'n> {
+    node: NodeId,
+    behind_a: &'n [NodeId],
+    behind_b: &'n [NodeId],
+}
+
+/// The first node of the union of two node-sets, None where one of them is used up. Costs a comparison.
+fn first_of_both<'n>(tree: &Tree, a: &'n [NodeId], b: &'n [NodeId]) -> Option<FirstOfBoth<'n>>
+    requires a_set { IsNodeSet tree.now.nodes a.now }
+    requires b_set { IsNodeSet tree.now.nodes b.now }
+    ensures first { MatchOption result (union tree.now.nodes a.now b.now ≡ a.now ++ b.now)
+        (λ next. union tree.now.nodes a.now b.now ≡ next.node ∷ union tree.now.nodes next.behind_a.now next.behind_b.now) }
+    ensures sets { IfSome result (λ next. IsNodeSet tree.now.nodes next.behind_a.now × IsNodeSet tree.now.nodes next.behind_b.now) }
+    ensures fewer { IfSome result (λ next. length next.behind_a.now + length next.behind_b.now < length a.now + length b.now) }
+{
+    tree.laws();
+    let (x, behind_x) = a.split_first()?;
+    let (y, behind_y) = b.split_first()?;
+    if *x == *y {
+        Some(FirstOfBoth {
+            node: *x,
+            behind_a: behind_x,
+            behind_b: behind_y,
+        })
+    } else if tree.is_before(*x, *y) {
+        Some(FirstOfBoth {
+            node: *x,
+            behind_a: behind_x,
+            behind_b: b,
+        })
+    } else {
+        Some(FirstOfBoth {
+            node: *y,
+            behind_a: a,
+            behind_b: behind_y,
+        })
+    }
 }

@@ -6,7 +6,7 @@ ghost use Rattle.xp_tree.specs.View.{tree_of};
 ghost use Rattle.sch_plan.specs.Expressions.{expression, match_pattern, path, pattern_typed_in, short_expression, short_pattern, typed_in};
 ghost use Rattle.sch_phases.specs.Walk.{Answers};
 
-use crate::faults::{broken, syntax_fault, type_fault};
+use crate::faults::{broken, refusal, syntax_fault, type_fault};
 use doc_tree::NodeId;
 use sch_base::MAX_EXPRESSION_BYTES;
 use sch_model::SchemaError;
@@ -138,9 +138,9 @@ pub(crate) fn path(alloc: Global, env: &Env, node: NodeId, text: &str) -> Result
     ensures { Answers (path env.now node text.now) result }
 {
     let expr = expression(alloc, env, node, text)?;
-    if expr.ty() != ValueType::NodeSet {
-        let fault = broken(alloc, 27, node, "NodeSetWanted 0")?;
-        return Err(SchemaError::Fault(fault));
+    if expr.ty() == ValueType::NodeSet {
+        return Ok(expr);
     }
-    Ok(expr)
+    drop(expr);
+    Err(refusal(alloc, 27, node, "NodeSetWanted 0"))
 }

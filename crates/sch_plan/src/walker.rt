@@ -79,13 +79,24 @@ impl Walker {
         ensures { Answers (one_assertion (found_in self.now.diagnostics.entries) self.now.seen its.now) (asserted its.now result) }
     {
         let test = self.seen.expression(its.node, its.test.as_str())?;
-        let diagnostics = self.named_diagnostics(its.diagnostics.as_slice())?;
-        let message = self.seen.message(self.alloc, its.message.as_slice())?;
-        Ok(AssertionParts {
-            test,
-            diagnostics,
-            message,
-        })
+        match self.named_diagnostics(its.diagnostics.as_slice()) {
+            Ok(diagnostics) => match self.seen.message(self.alloc, its.message.as_slice()) {
+                Ok(message) => Ok(AssertionParts {
+                    test,
+                    diagnostics,
+                    message,
+                }),
+                Err(error) => {
+                    drop(diagnostics);
+                    drop(test);
+                    Err(error)
+                }
+            },
+            Err(error) => {
+                drop(test);
+                Err(error)
+            }
+        }
     }
 
     /// An assertion. Its texts are moved, but for those of its message.

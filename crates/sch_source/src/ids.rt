@@ -14,12 +14,25 @@ pub(crate) fn ids_in(alloc: Global, text: &str) -> Result<TextList, AllocError>
     ensures { IfOk result (λ ids. ids ≡ ids_in text.now) }
 {
     let mut ids = ItemList::new(alloc);
+    match push_ids(alloc, &mut ids, text) {
+        Ok(()) => Ok(ids),
+        Err(error) => {
+            drop(ids);
+            Err(error)
+        }
+    }
+}
+
+/// Puts the ids of a list at the end of a list that is empty.
+fn push_ids(alloc: Global, ids: &mut TextList, text: &str) -> Result<(), AllocError>
+    requires { ids.old ≡ [] }
+    ensures { OnOk result (ids.new ≡ ids_in text.now) }
+{
     let mut current = String::new(alloc);
     for c in text.chars() {
-        push_character(alloc, &mut ids, &mut current, c)?;
+        push_character(alloc, ids, &mut current, c)?;
     }
-    end_id(alloc, &mut ids, &mut current)?;
-    Ok(ids)
+    end_id(alloc, ids, &mut current)
 }
 
 /// Reads a character: whitespace ends the id at the end, another character belongs to it.

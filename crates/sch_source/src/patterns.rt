@@ -4,24 +4,42 @@ ghost use Rattle.std.specs.Prelude.{◌≡◌, ◌∷◌, [], ◌++◌, codes, I
 ghost use Rattle.std.specs.List.{flat_map};
 ghost use Rattle.doc_tree.specs.Table.{kids_of};
 ghost use Rattle.sch_model.specs.declared.raw.RawItem.TheVariants as item;
-ghost use Rattle.sch_rules.specs.Attributes.{said_text};
+ghost use Rattle.sch_rules.specs.Attributes.{said, said_text};
 ghost use Rattle.sch_rules.specs.declared.word.Word.TheVariants as word;
-ghost use Rattle.sch_rules.specs.RawSchema.{assertion_of, diagnostic_of, diagnostics_at, item_at, let_of, pattern_of, read_if, read_kids, rule_of};
+ghost use Rattle.sch_rules.specs.RawSchema.{assertion_of, diagnostic_of, diagnostics_at, ids_in, item_at, let_of, pattern_of, read_if, read_kids, rule_of};
 ghost use Rattle.sch_source.specs.Counts.{Counts, Stands};
 
 use crate::ids::ids_in;
 use crate::source::Source;
+use crate::values::put;
 use crate::words::is_word;
 use doc_tree::NodeId;
-use sch_base::ItemList;
+use sch_base::{ItemList, Text};
 use sch_model::{
     Assertion, Diagnostic, DiagnosticList, RawItem, RawItemList, RawPattern, RawPatternList,
-    RawRule, RawRuleList,
+    RawRule, RawRuleList, TextList,
 };
 use sch_rules::Word;
 use std::alloc::AllocError;
 
 impl Source<'_> {
+    /// Reads the labels of a rule or an assertion into their places.
+    fn read_labels(
+        &self,
+        id: &mut Option<Text>,
+        role: &mut Option<Text>,
+        flag: &mut Option<Text>,
+        n: NodeId,
+    ) -> Result<(), AllocError>
+        ensures id { OnOk result (id.new ≡ said self.now.tree.now.nodes n (codes "id")) }
+        ensures role { OnOk result (role.new ≡ said self.now.tree.now.nodes n (codes "role")) }
+        ensures flag { OnOk result (flag.new ≡ said self.now.tree.now.nodes n (codes "flag")) }
+    {
+        self.read_optional(id, n, "id")?;
+        self.read_optional(role, n, "role")?;
+        self.read_optional(flag, n, "flag")
+    }
+
     /// An assert, or a report.
     fn assertion(&self, report: bool, n: NodeId) -> Result<Assertion, AllocError>
         requires { Stands self.now.tree.now.nodes n }
@@ -47,16 +65,26 @@ impl Source<'_> {
         }
     }
 
+    /// The ids of the diagnostics that an assertion names.
+    fn diagnostic_ids(&self, n: NodeId) -> Result<TextList, AllocError>
+        ensures { IfOk result (λ ids. ids ≡ ids_in (said_text self.now.tree.now.nodes n (codes "diagnostics"))) }
+    {
+        ids_in(self.alloc, self.said_text(n, "diagnostics"))
+    }
+
     /// Reads what an assertion says besides its test.
     fn read_assertion(&self, assertion: &mut Assertion, n: NodeId) -> Result<(), AllocError>
         requires { Stands self.now.tree.now.nodes n }
         ensures { OnOk result (assertion.new ≡ record (assertion_of self.now.tree.now.nodes assertion.old.report n) { node = assertion.old.node; test = assertion.old.test }) }
     {
-        assertion.id = self.optional(n, "id")?;
-        assertion.role = self.optional(n, "role")?;
-        assertion.flag = self.optional(n, "flag")?;
-        assertion.diagnostics = ids_in(self.alloc, self.said_text(n, "diagnostics"))?;
-        assertion.message = self.message(n)?;
+        self.read_labels(
+            &mut assertion.id,
+            &mut assertion.role,
+            &mut assertion.flag,
+            n,
+        )?;
+        put(&mut assertion.diagnostics, self.diagnostic_ids(n)?);
+        put(&mut assertion.message, self.message(n)?);
         Ok(())
     }
 
@@ -145,11 +173,9 @@ impl Source<'_> {
         requires { Counts self.now.tree.now.nodes n }
         ensures { OnOk result (rule.new ≡ record (rule_of self.now.tree.now.nodes n) { node = rule.old.node; is_abstract = rule.old.is_abstract }) }
     {
-        rule.id = self.optional(n, "id")?;
-        rule.context = self.optional(n, "context")?;
-        rule.role = self.optional(n, "role")?;
-        rule.flag = self.optional(n, "flag")?;
-        rule.items = self.items(n)?;
+        self.read_labels(&mut rule.id, &mut rule.role, &mut rule.flag, n)?;
+        self.read_optional(&mut rule.context, n, "context")?;
+        put(&mut rule.items, self.items(n)?);
         Ok(())
     }
 
@@ -181,11 +207,19 @@ impl Source<'_> {
         requires { Counts self.now.tree.now.nodes n }
         ensures { OnOk result (pattern.new ≡ record (pattern_of self.now.tree.now.nodes n) { node = pattern.old.node; is_abstract = pattern.old.is_abstract }) }
     {
-        pattern.id = self.optional(n, "id")?;
-        pattern.is_a = self.optional(n, "is-a")?;
-        pattern.params = self.params(n)?;
-        pattern.lets = self.lets(n)?;
-        pattern.rules = self.rules(n)?;
+        self.read_optional(&mut pattern.id, n, "id")?;
+        self.read_optional(&mut pattern.is_a, n, "is-a")?;
+        self.read_held(pattern, n)
+    }
+
+    /// Reads what a pattern holds.
+    fn read_held(&self, pattern: &mut RawPattern, n: NodeId) -> Result<(), AllocError>
+        requires { Counts self.now.tree.now.nodes n }
+        ensures { OnOk result (pattern.new ≡ record (pattern_of self.now.tree.now.nodes n) { node = pattern.old.node; is_abstract = pattern.old.is_abstract; id = pattern.old.id; is_a = pattern.old.is_a }) }
+    {
+        put(&mut pattern.params, self.params(n)?);
+        put(&mut pattern.lets, self.lets(n)?);
+        put(&mut pattern.rules, self.rules(n)?);
         Ok(())
     }
 

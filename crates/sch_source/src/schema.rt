@@ -10,6 +10,7 @@ ghost use Rattle.sch_rules.specs.Words.{is_word};
 ghost use Rattle.sch_source.specs.Counts.{Counts};
 
 use crate::source::Source;
+use crate::values::put;
 use crate::words::is_word;
 use doc_tree::NodeId;
 use sch_base::{ItemList, Text};
@@ -67,11 +68,19 @@ impl Source<'_> {
         requires { Counts self.now.tree.now.nodes n }
         ensures { OnOk result (raw.new ≡ record (schema_of self.now.tree.now.nodes n) { head = raw.old.head }) }
     {
-        raw.ns = self.ns_list(n)?;
-        raw.lets = self.lets(n)?;
-        raw.phases = self.phases(n)?;
-        raw.patterns = self.patterns(n)?;
-        raw.diagnostics = self.diagnostics(n)?;
+        self.read_declarations(raw, n)?;
+        put(&mut raw.patterns, self.patterns(n)?);
+        put(&mut raw.diagnostics, self.diagnostics(n)?);
+        Ok(())
+    }
+
+    /// Reads the prefixes, the lets and the phases of a schema.
+    fn read_declarations(&self, raw: &mut RawSchema, n: NodeId) -> Result<(), AllocError>
+        ensures { OnOk result (raw.new ≡ record (schema_of self.now.tree.now.nodes n) { head = raw.old.head; patterns = raw.old.patterns; diagnostics = raw.old.diagnostics }) }
+    {
+        put(&mut raw.ns, self.ns_list(n)?);
+        put(&mut raw.lets, self.lets(n)?);
+        put(&mut raw.phases, self.phases(n)?);
         Ok(())
     }
 
@@ -80,15 +89,30 @@ impl Source<'_> {
         requires { Counts self.now.tree.now.nodes n }
         ensures { IfOk result (λ head. head ≡ head_of self.now.tree.now.nodes n) }
     {
-        let schema_version = self.optional(n, "schemaVersion")?;
-        let default_phase = self.optional(n, "defaultPhase")?;
-        let title = self.title_text(n)?;
-        Ok(Head {
+        let mut head = Head {
             node: n,
-            schema_version,
-            default_phase,
-            title,
-        })
+            schema_version: None,
+            default_phase: None,
+            title: None,
+        };
+        match self.read_head(&mut head, n) {
+            Ok(()) => Ok(head),
+            Err(error) => {
+                drop(head);
+                Err(error)
+            }
+        }
+    }
+
+    /// Reads what the schema says of itself.
+    fn read_head(&self, head: &mut Head, n: NodeId) -> Result<(), AllocError>
+        requires { Counts self.now.tree.now.nodes n }
+        ensures { OnOk result (head.new ≡ record (head_of self.now.tree.now.nodes n) { node = head.old.node }) }
+    {
+        self.read_optional(&mut head.schema_version, n, "schemaVersion")?;
+        self.read_optional(&mut head.default_phase, n, "defaultPhase")?;
+        put(&mut head.title, self.title_text(n)?);
+        Ok(())
     }
 
     /// The text of the schema's title, where there is one.

@@ -15,6 +15,15 @@ use sch_model::{
 use sch_rules::Word;
 use std::alloc::AllocError;
 
+/// Puts a value into a place, and lets go what stood there.
+///
+/// An assignment does the same, but spells out the parts of the old value, of which each proof would have to speak.
+pub(crate) fn put<T: Drop>(place: &mut T, value: T)
+    ensures { place.new ≡ value }
+{
+    *place = value;
+}
+
 impl Source<'_> {
     /// The value of an attribute, which is empty where it is missing.
     pub(crate) fn text(&self, n: NodeId, name: &str) -> Result<Text, AllocError>
@@ -31,6 +40,19 @@ impl Source<'_> {
             Some(value) => Ok(Some(Text::copy(self.alloc, value)?)),
             None => Ok(None),
         }
+    }
+
+    /// Reads the value of an attribute into a place.
+    pub(crate) fn read_optional(
+        &self,
+        place: &mut Option<Text>,
+        n: NodeId,
+        name: &str,
+    ) -> Result<(), AllocError>
+        ensures { OnOk result (place.new ≡ said self.now.tree.now.nodes n name.now) }
+    {
+        *place = self.optional(n, name)?;
+        Ok(())
     }
 
     /// A prefix and its namespace.

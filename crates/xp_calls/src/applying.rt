@@ -1,6 +1,8 @@
 //! The application of functions (XPath 1.0, section 4; XSLT 1.0, section 12.4).
 
 ghost use Rattle.std.specs.Prelude.{◌≡◌, ℕ, [], ◌∷◌, length};
+ghost use Rattle.xp_typed_tree.specs.WellTyped.{result_type};
+ghost use Rattle.xp_typed_tree.specs.declared.value_type.ValueType.TheVariants as types;
 ghost use Rattle.xp_outcome.specs.Evaluation.{bind, done};
 ghost use Rattle.xp_outcome.specs.Running.{Ran};
 ghost use Rattle.xp_meaning.specs.Results.{shown};
@@ -25,7 +27,7 @@ use std::alloc::Global;
 use std::sync::ledger::Ledger;
 use xp_meaning::Context;
 use xp_outcome::{Recorder, Steps};
-use xp_typed_tree::Function;
+use xp_typed_tree::{Function, ValueType};
 use xp_values::{EvalError, Num, Value, normalize_space, string_length};
 
 impl Caller<'_> {
@@ -42,35 +44,87 @@ impl Caller<'_> {
     ) -> Result<Value, EvalError>
         ensures { Ran (applied self.now.tree.now.nodes function at.now args.now) (shown result) reads.old reads.new steps.old steps.new }
     {
-        let alloc = self.alloc;
+        match function.result_type() {
+            ValueType::NodeSet => node_set_of(self.alloc, at.current),
+            ValueType::Truth => self.truth_given(function, at, args, reads),
+            ValueType::Number => self.number_given(function, at, args, reads, steps),
+            ValueType::Chars => self.text_given(function, at, args, reads, steps),
+        }
+    }
+
+    /// `apply` of a function that gives a boolean.
+    fn truth_given(
+        &self,
+        function: Function,
+        at: &Context,
+        args: &[Value],
+        reads: &mut Recorder,
+    ) -> Result<Value, EvalError>
+        requires { result_type function ≡ types.Truth }
+        ensures { (count : ℕ) → Ran (applied self.now.tree.now.nodes function at.now args.now) (shown result) reads.old reads.new count count }
+    {
         match function {
-            Function::Last => Ok(counted(at.size)),
-            Function::Position => Ok(counted(at.position)),
-            Function::Current => node_set_of(alloc, at.current),
-            Function::Count => Ok(count(args)),
-            Function::Sum => self.sum(args, reads, steps),
-            Function::LocalName => self.local_name(at, args),
-            Function::NamespaceUri => self.namespace_uri(at, args),
-            Function::Name => self.name(at, args),
-            Function::String => self.string(at, args, reads, steps),
-            Function::Number => self.number(at, args, reads, steps),
             Function::Boolean => Ok(Value::Truth(truth_at(args, 0))),
             Function::Not => Ok(Value::Truth(!truth_at(args, 0))),
             Function::True => Ok(Value::Truth(true)),
             Function::False => Ok(Value::Truth(false)),
-            Function::Concat => concat(alloc, args),
             Function::StartsWith => Ok(starts_with(args)),
             Function::Contains => Ok(contains(args)),
-            Function::SubstringBefore => substring_before(alloc, args),
-            Function::SubstringAfter => substring_after(alloc, args),
-            Function::Substring => substring(alloc, args),
-            Function::StringLength => self.length_of(at, args, reads, steps),
-            Function::NormalizeSpace => self.normalize(at, args, reads, steps),
-            Function::Translate => translate(alloc, args),
             Function::Lang => self.is_in_language(at, args, reads),
+            _ => unreachable!(),
+        }
+    }
+
+    /// `apply` of a function that gives a number.
+    fn number_given<L: Ledger>(
+        &self,
+        function: Function,
+        at: &Context,
+        args: &[Value],
+        reads: &mut Recorder,
+        steps: &mut Steps<L>,
+    ) -> Result<Value, EvalError>
+        requires { result_type function ≡ types.Number }
+        ensures { Ran (applied self.now.tree.now.nodes function at.now args.now) (shown result) reads.old reads.new steps.old steps.new }
+    {
+        match function {
+            Function::Last => Ok(counted(at.size)),
+            Function::Position => Ok(counted(at.position)),
+            Function::Count => Ok(count(args)),
+            Function::Sum => self.sum(args, reads, steps),
+            Function::Number => self.number(at, args, reads, steps),
+            Function::StringLength => self.length_of(at, args, reads, steps),
             Function::Floor | Function::Ceiling | Function::Round => {
                 Ok(Value::Number(number_at(args, 0)))
             }
+            _ => unreachable!(),
+        }
+    }
+
+    /// `apply` of a function that gives a text.
+    fn text_given<L: Ledger>(
+        &self,
+        function: Function,
+        at: &Context,
+        args: &[Value],
+        reads: &mut Recorder,
+        steps: &mut Steps<L>,
+    ) -> Result<Value, EvalError>
+        requires { result_type function ≡ types.Chars }
+        ensures { Ran (applied self.now.tree.now.nodes function at.now args.now) (shown result) reads.old reads.new steps.old steps.new }
+    {
+        match function {
+            Function::LocalName => self.local_name(at, args),
+            Function::NamespaceUri => self.namespace_uri(at, args),
+            Function::Name => self.name(at, args),
+            Function::String => self.string(at, args, reads, steps),
+            Function::Concat => concat(self.alloc, args),
+            Function::SubstringBefore => substring_before(self.alloc, args),
+            Function::SubstringAfter => substring_after(self.alloc, args),
+            Function::Substring => substring(self.alloc, args),
+            Function::NormalizeSpace => self.normalize(at, args, reads, steps),
+            Function::Translate => translate(self.alloc, args),
+            _ => unreachable!(),
         }
     }
 

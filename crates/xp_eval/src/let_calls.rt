@@ -3,6 +3,9 @@
 ghost use Rattle.std.specs.Prelude.{[], ◌∷◌};
 ghost use Rattle.xp_outcome.specs.Evaluation.{bind, given};
 ghost use Rattle.xp_outcome.specs.Running.{Ran};
+ghost use Rattle.xp_outcome.specs.Slots.{in_slot};
+ghost use Rattle.xp_values.specs.declared.values.Value.TheVariants as value_kinds;
+ghost use Rattle.xp_meaning.specs.Evaluation.{slot_value};
 ghost use Rattle.xp_meaning.specs.Functions.{applied};
 ghost use Rattle.xp_meaning.specs.Results.{shown};
 ghost use Rattle.xp_eval.specs.inner.Wants.{lone_let};
@@ -29,12 +32,23 @@ impl Evaluator<'_> {
     {
         steps.tick();
         reads.add_let(slot)?;
+        self.call_on_slot(function, slot, at, reads, steps)
+    }
+
+    /// What a function gives for the value that a slot holds, and for no nodes where there is no such slot.
+    fn call_on_slot<L: Ledger>(
+        &self,
+        function: Function,
+        slot: u32,
+        at: &Context,
+        reads: &mut Recorder,
+        steps: &mut Steps<L>,
+    ) -> Result<Value, EvalError>
+        ensures { Ran (bind (slot_value (in_slot self.now.lets.now slot)) (λ v. applied self.now.caller.tree.now.nodes function at.now (v ∷ []))) (shown result) reads.old reads.new steps.old steps.new }
+    {
         match self.lets.get(slot) {
             Some(held) => self.call_on_held(function, held, at, reads, steps),
-            None => {
-                let none = Value::NodeSet(ItemList::new(self.caller.alloc));
-                self.call_on(function, &none, at, reads, steps)
-            }
+            None => self.call_on_no_nodes(function, at, reads, steps),
         }
     }
 
@@ -53,6 +67,20 @@ impl Evaluator<'_> {
             Ok(value) => self.call_on(function, value, at, reads, steps),
             Err(fault) => Err(EvalError::Fault(*fault)),
         }
+    }
+
+    /// What a function gives for no nodes.
+    fn call_on_no_nodes<L: Ledger>(
+        &self,
+        function: Function,
+        at: &Context,
+        reads: &mut Recorder,
+        steps: &mut Steps<L>,
+    ) -> Result<Value, EvalError>
+        ensures { Ran (applied self.now.caller.tree.now.nodes function at.now (value_kinds.NodeSet [] ∷ [])) (shown result) reads.old reads.new steps.old steps.new }
+    {
+        let none = Value::NodeSet(ItemList::new(self.caller.alloc));
+        self.call_on(function, &none, at, reads, steps)
     }
 
     /// What a function gives for a value as its lone argument.

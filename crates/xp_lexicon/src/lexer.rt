@@ -1,6 +1,6 @@
 //! Texts as lists of tokens.
 
-ghost use Rattle.std.specs.Prelude.{◌<◌, ◌^◌, length, IfOk, MatchOption};
+ghost use Rattle.std.specs.Prelude.{◌≡◌, ◌<◌, ◌^◌, ◌++◌, ◌∷◌, [], length, IfOk, MatchOption, OnOk};
 ghost use Rattle.xp_lexicon.specs.Lexicon.{Tokenized};
 ghost use Rattle.xp_lexicon.specs.inner.Scanning.{ReadAt, NoToken};
 
@@ -43,6 +43,18 @@ fn take_token(behind_operand: bool, text: &str) -> Option<Taken>
     }
 }
 
+/// Puts a token at the end of the list.
+fn push_token<'a>(
+    tokens: &mut Vec<Placed<'a>>,
+    offset: u32,
+    token: Token<'a>,
+) -> Result<(), AllocError>
+    ensures { OnOk result (tokens.new.items ≡ tokens.old.items ++ record { offset = offset; token = token.entry } ∷ []) }
+{
+    tokens.push(Placed { offset, token })?;
+    Ok(())
+}
+
 /// The tokens of the text (XPath 1.0, section 3.7).
 ///
 /// The time grows with the text's length.
@@ -64,8 +76,7 @@ pub fn tokenize<'a>(alloc: Global, text: &'a str) -> Result<Lexed<'a>, AllocErro
         };
         behind_operand = ends_operand(&taken.token);
         rest = after_run(Class::Whitespace, taken.rest);
-        let token = taken.token;
-        tokens.push(Placed { offset, token })?;
+        push_token(&mut tokens, offset, taken.token)?;
     }
     Ok(Lexed {
         tokens,

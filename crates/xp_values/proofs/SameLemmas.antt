@@ -15,8 +15,12 @@ same_nodes : (xs ys : List ℕ) → NodeSet xs ≡ NodeSet ys → xs ≡ ys
 unfolding nodes_in
 same_nodes xs ys h = ap nodes_in h
 
-pub node_sets_same : (xs ys : List ℕ) (same : Bool) (v w : Value) → same ≡ pointwise nat_eq xs ys → v ≡ NodeSet xs → w ≡ NodeSet ys →
+pub node_sets_same : (xs ys : List ℕ) (same : Bool) (v w : Value) → (same ≡ true → xs ≡ ys) × (xs ≡ ys → same ≡ true) → v ≡ NodeSet xs → w ≡ NodeSet ys →
     (same ≡ true → v ≡ w) × (v ≡ w → same ≡ true)
-node_sets_same xs ys true v w is left right = (λ _. left ∙ ap NodeSet (same_text xs ys is) ∙ sym right, λ _. refl)
-node_sets_same xs ys false v w is left right =
-    (λ h. absurd (cc), λ h. absurd (other_text xs ys is (same_nodes xs ys (sym left ∙ h ∙ right))))
+node_sets_same xs ys same v w is left right =
+    (λ h. left ∙ ap NodeSet (is.0 h) ∙ sym right, λ h. is.1 (same_nodes xs ys (sym left ∙ h ∙ right)))
+
+-- lists that are compared item by item
+pub lists_same : (xs ys : List ℕ) (same : Bool) → same ≡ pointwise nat_eq xs ys → (same ≡ true → xs ≡ ys) × (xs ≡ ys → same ≡ true)
+lists_same xs ys true is = (λ _. same_text xs ys is, λ _. refl)
+lists_same xs ys false is = (λ h. absurd (cc), λ h. absurd (other_text xs ys is h))

@@ -28,7 +28,7 @@ loop-rest-preserved c =
     let reading = c.loop-rest.invariant.1 in
     let shorter = ends_shorter c.args.text.now c.loop-rest.rest.now reading.left in (
       c.after_run-rest-in-loop-rest.utf8,
-      rw (c.in_ok-push.ensures.items, c.ends_operand-behind_operand.ensures)
+      rw (c.in_ok-push_token.ensures, c.ends_operand-behind_operand.ensures)
           (gone_on c.args.text.now c.loop-rest.rest.now c.in-Some.taken.rest.now c.after_run-rest-in-loop-rest.result.now c.loop-rest.tokens.items
           c.loop-rest.behind_operand (length c.args.text.now - length c.loop-rest.rest.now) c.in-Some.taken.token reading c.in-Some.ensures
           c.after_run-rest-in-loop-rest.ensures (omega arith)),
