@@ -7,7 +7,7 @@ use Rattle.std.proofs.lemmas.List.Elements.{filter-append}
 use Rattle.doc_table.specs.Growth.{with_node, with_link, leaf}
 use Rattle.doc_table.specs.inner.Sound.{Formed}
 use Rattle.doc_table.proofs.Appending.{holder-live}
-use Rattle.doc_table.proofs.Forests.{no_kids}
+use Rattle.doc_table.proofs.Forests.{formed-of, no_kids}
 use Rattle.doc_table.proofs.Growing.{attributes-parent, content-kept, entry-new, kids-parent, length-grown, links-kept, live-kept, new-dead, old-number, parent-kept}
 use Rattle.doc_table.proofs.ListLemmas.{append-empty_left}
 use Rattle.doc_table.proofs.TreeLaws.{well-formed, ordered, ways-up}
@@ -151,11 +151,11 @@ module _ (T : Table) (a n : ℕ) (t : Formed T) (is : kind_of T a ≡ Some Attri
   removed-is = ap (removed_from T a) up ∙ ap (clear.cut T a n) alone
 
   formed-less : Formed less
-  formed-less = subst Formed removed-is (go T a t (record {
+  formed-less = subst Formed removed-is (formed-of (removed T a) (go T a form (record {
     lives = parent-has T a n up;
     below_root = λ e. absurd (let root : kind_of T a ≡ Some Root = ap (kind_of T) e ∙ form.root_kind in cc);
     apart = λ before behind p e. absurd (no_kid p (rw e (In-mem a (before ++ (a ∷ behind)) (omega (arith, occurs-append a before (a ∷ behind), occurs-head a behind)))));
-  }))
+  })))
 
   owner-live : is_live T n ≡ true
   owner-live = (ways-up T t).parent_live a n up
@@ -251,8 +251,11 @@ loss-formed go T a n t is up = subst Formed (sym (removed-is T a n t is up go)) 
 
 pub attributes-leave : GainsKeepTrees → RemovalsKeepTrees → AttributesLeave
 attributes-leave gains go = record {
-  gain = λ T n name value t may.
+  gain = λ T n name value form may.
       subst (λ U. Agree T U (touched_attributes n)) (sym (gained-is T n name value))
-      (gain-leaves T n name value t (subst Formed (gained-is T n name value) (gains T n name value t may)) (holder-live T n (ap holds_kids may.under)));
-  loss = λ T a n t is up. subst (λ U. Agree T U (touched_attributes n)) (sym (removed-is T a n t is up go)) (loss-leaves T a n t is up go);
+      (gain-leaves T n name value (formed-of T form) (subst Formed (gained-is T n name value) (formed-of (gained T n name value) (gains T n name value form may)))
+      (holder-live T n (ap holds_kids may.under)));
+  loss = λ T a n form is up.
+      let t : Formed T = formed-of T form in
+      subst (λ U. Agree T U (touched_attributes n)) (sym (removed-is T a n t is up go)) (loss-leaves T a n t is up go);
 }

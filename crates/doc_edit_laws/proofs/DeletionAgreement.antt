@@ -2,6 +2,7 @@
 use Rattle.std.proofs.Common.{◌≡◌, ◌≢◌, ℕ, ◌≤◌, suc, Bool, true, false, ◌&&◌, ◌||◌, List, [], ◌∷◌, ◌++◌, Option, None, Some, refl, sym, ap, ◌∙◌, subst, ⊎_elim, true≢false, arith, eqb, eq-eqb, eqb-true}
 use Rattle.std.specs.Prelude.{if◌then◌else◌}
 use Rattle.doc_table.specs.inner.Sound.{Formed}
+use Rattle.doc_table.proofs.Forests.{formed-of}
 use Rattle.doc_table.proofs.TreeLaws.{well-formed, ordered, ways-up}
 use Rattle.doc_table.proofs.Ways.{parent-has}
 use Rattle.doc_tree.specs.cell.Cell.{Cell}
@@ -16,7 +17,7 @@ use Rattle.doc_tree.specs.Walks.{above, below}
 use Rattle.doc_tree.proofs.ListLemmas.{In, In-mem, mem-In, In-cons, occurs-append, occurs-head, occurs-same}
 use Rattle.doc_tree.proofs.OrderLemmas.{nested}
 use Rattle.doc_edit_laws.specs.Agreement.{Agree}
-use Rattle.doc_edits.specs.Changes.{Meeting, deleted_by, kids_beside, meeting, removed, removed_from, said, saying, with_text}
+use Rattle.doc_edits.specs.Changes.{deleted, Meeting, deleted_by, kids_beside, meeting, removed, removed_from, said, saying, with_text}
 use Rattle.doc_edits.specs.Keeping.{DeletionsKeepTrees}
 use Rattle.doc_edits.proofs.ClearLemmas.{cut}
 use Rattle.doc_edits.proofs.PruneLemmas.{cut_at, none-in}
@@ -193,7 +194,7 @@ module _ (T : Table) (n p : ℕ) (formed : Formed T) (kid : can_be_kid (kind_of 
   by-meeting (Some texts) some after = met-apart texts (met T n (kids_of T p) texts (form.kids_once p n) some) (value_of T texts.left ++ value_of T texts.right) after
 
 pub deletions-leave : DeletionsKeepTrees → DeletionsLeave
-deletions-leave trees T n p formed kid up =
+deletions-leave trees T n p form kid up =
     subst (λ o. Formed (deleted_by T n (meeting T n (kids_beside T o))) → Agree T (deleted_by T n (meeting T n (kids_beside T o))) (touched_deletion T n p)) (sym up)
-    (by-meeting T n p formed kid up (meeting T n (kids_of T p)) refl)
-    (trees T n formed)
+    (by-meeting T n p (formed-of T form) kid up (meeting T n (kids_of T p)) refl)
+    (formed-of (deleted T n) (trees T n form))

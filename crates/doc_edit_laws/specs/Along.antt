@@ -1,9 +1,9 @@
 -- Edits one after another: the tree that they make, and the cells that they touch.
 use Rattle.std.specs.Prelude.{◌≡◌, ℕ, Bool, true, false, ◌||◌, List, Some}
-use Rattle.doc_table.specs.inner.Sound.{Formed}
 use Rattle.doc_tree.specs.cell.Cell.{Cell}
 use Rattle.doc_tree.specs.kind.Kind.TheVariants.{Attribute}
 use Rattle.doc_tree.specs.Kinds.{can_be_kid}
+use Rattle.doc_tree.specs.Laws.{WellFormed}
 use Rattle.doc_tree.specs.Table.{Name, Table, kind_of, parent_of}
 use Rattle.doc_edit_laws.specs.Agreement.{Agree, IsTree}
 use Rattle.doc_edits.specs.Changes.{deleted, gained, inserted, removed, said}
@@ -16,7 +16,7 @@ pub data Edit (T : Table) : Table → (Cell → Bool) → Type 0 where
   gains : (n : ℕ) (name : Name) (value : List ℕ) → MayGain T n name value → Edit T (gained T n name value) (touched_attributes n)
   loses : (a n : ℕ) → kind_of T a ≡ Some Attribute → parent_of T a ≡ Some n → Edit T (removed T a) (touched_attributes n)
   deletes : (n p : ℕ) → can_be_kid (kind_of T n) ≡ true → parent_of T n ≡ Some p → Edit T (deleted T n) (touched_deletion T n p)
-  inserts : (p before : ℕ) (P : Table) → Formed P → MayTake T p before P → Edit T (inserted T p before P) (touched_kids T p)
+  inserts : (p before : ℕ) (P : Table) → WellFormed P → MayTake T p before P → Edit T (inserted T p before P) (touched_kids T p)
 
 -- edits one after another touch what each of them touches
 pub data Edits (T : Table) : Table → (Cell → Bool) → Type 0 where
@@ -25,10 +25,9 @@ pub data Edits (T : Table) : Table → (Cell → Bool) → Type 0 where
 
 -- a tree stays a tree, and outside the touched cells it stays as it was
 pub record Left (T U : Table) (touched : Cell → Bool) : Type 0 where
-  pub formed : Formed U
   pub before : IsTree T
   pub after : IsTree U
   pub agree : Agree T U touched
 
 abbrev pub EditsLeave : Type 0
-EditsLeave = (T U : Table) (touched : Cell → Bool) → Formed T → Edits T U touched → Left T U touched
+EditsLeave = (T U : Table) (touched : Cell → Bool) → WellFormed T → Edits T U touched → Left T U touched

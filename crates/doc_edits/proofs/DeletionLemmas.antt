@@ -13,9 +13,10 @@ use Rattle.doc_table.proofs.ListLemmas.{In, In-mem, mem-In, occurs-append, occur
 use Rattle.doc_table.proofs.Counts.{text-count}
 use Rattle.doc_table.proofs.Fitting.{texts-kept}
 use Rattle.doc_table.proofs.TreeLaws.{well-formed, ordered}
-use Rattle.doc_edits.specs.Changes.{Meeting, meeting, kids_beside, without, removed, removed_from, deleted_by, said}
+use Rattle.doc_table.proofs.Forests.{formed-of}
+use Rattle.doc_edits.specs.Changes.{Meeting, deleted, deleted_by, kids_beside, meeting, removed, removed_from, said, without}
 use Rattle.doc_edits.specs.Fitting.{MaySay}
-use Rattle.doc_edits.specs.Keeping.{SayingsKeepTrees, DeletionsKeepTrees}
+use Rattle.doc_edits.specs.Keeping.{SayingsKeepTrees}
 use Rattle.doc_edits.proofs.ClearLemmas.{cut, cut-sum, cut-sum_one, without-split}
 use Rattle.doc_edits.proofs.PruneLemmas.{cut_at}
 use Rattle.doc_edits.proofs.RemovalLemmas.{texts-without, remaining, out-beside, kids-owner, same-content, same-parent, formed-left}
@@ -254,7 +255,8 @@ module _ (T : Table) (n p l r : ℕ) (front back : List ℕ) (formed : Formed T)
 
   merged : SayingsKeepTrees → Formed (said (removed (removed T r) n) l (value_of T l ++ value_of T r))
   merged sayings =
-      subst (λ U. Formed (said U l (value_of T l ++ value_of T r))) (sym is-second) (sayings second l (value_of T l ++ value_of T r) second-formed may-say)
+      subst (λ U. Formed (said U l (value_of T l ++ value_of T r))) (sym is-second)
+      (formed-of (said second l (value_of T l ++ value_of T r)) (sayings second l (value_of T l ++ value_of T r) (well-formed second second-formed) may-say))
 
 -- where no texts meet, the others stay apart
 pub lone-apart : (T : Table) (n p : ℕ) → Formed T → meeting T n (kids_of T p) ≡ None → TextsApart T (without n (kids_of T p))
@@ -265,7 +267,7 @@ lone-apart T n p formed none =
     (omega (arith, subst (λ xs. occurs n xs ≤ 1) e (form.kids_once p n), occurs-append n before (n ∷ behind), occurs-head n behind))
     (subst (TextsApart T) e (form.texts_apart p)) (sym (ap (meeting T n) e) ∙ none))
 
-pub deletions-keep-trees : SayingsKeepTrees → DeletionsKeepTrees
+pub deletions-keep-trees : SayingsKeepTrees → (T : Table) (n : ℕ) → Formed T → Formed (deleted T n)
 deletions-keep-trees sayings T n formed = by (parent_of T n) refl
   where
     by_meeting : (p : ℕ) → parent_of T n ≡ Some p → (o : Option Meeting) → meeting T n (kids_of T p) ≡ o → Formed (deleted_by T n o)

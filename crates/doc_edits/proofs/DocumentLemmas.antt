@@ -14,7 +14,8 @@ use Rattle.doc_table.specs.inner.Kept.{place_in}
 use Rattle.doc_table.specs.inner.Sound.{Formed}
 use Rattle.doc_table.proofs.Appending.{holder-live}
 use Rattle.doc_table.proofs.ListLemmas.{In, In-mem, eq_or, occurs-head}
-use Rattle.doc_table.proofs.TreeLaws.{ordered, ways-up}
+use Rattle.doc_table.proofs.TreeLaws.{ordered, ways-up, well-formed}
+use Rattle.doc_table.proofs.Forests.{formed-of}
 use Rattle.doc_table.proofs.Ways.{parent-has}
 use Rattle.doc_edits.specs.Changes.{Meeting, meeting, kids_beside, without, removed, deleted, deleted_by, said, gained, nodes_in, given_number, inserted}
 use Rattle.doc_edits.specs.Fitting.{MayTake}
@@ -188,7 +189,7 @@ module _ (T : Table) (n : ℕ) (doc : is_document T ≡ true) (other : parent_of
 
 document-deleted : DeletionsKeepTrees → (T : Table) (n : ℕ) → Formed T → is_document T ≡ true → (parent_of T n ≡ Some 0 → is_element (kind_of T n) ≡ false)
     → is_document (deleted T n) ≡ true
-document-deleted deletions T n formed doc other = by (meeting T n (kids_beside T (parent_of T n))) refl (deletions T n formed)
+document-deleted deletions T n formed doc other = by (meeting T n (kids_beside T (parent_of T n))) refl (formed-of (deleted T n) (deletions T n (well-formed T formed)))
   where
     by : (o : Option Meeting) → meeting T n (kids_beside T (parent_of T n)) ≡ o → Formed (deleted_by T n o) → is_document (deleted_by T n o) ≡ true
     by None e after = document-removed T n doc other after
@@ -245,7 +246,7 @@ module _ (T P : Table) (p before : ℕ) (t : Formed T) (f : Formed P) (doc : is_
 pub edits-keep-documents : DeletionsKeepTrees → EditsKeepDocuments
 edits-keep-documents deletions = record {
   saying = λ T n new doc. document-same T (said T n new) (said-kids new T n 0) (λ k h. said-kind new T n k) doc;
-  deletion = document-deleted deletions;
-  gain = λ T n name value formed doc. document-gained T n name value formed doc;
-  insertion = λ T p before P t f doc may none. document-inserted T P p before t f doc may none;
+  deletion = λ T n form doc other. document-deleted deletions T n (formed-of T form) doc other;
+  gain = λ T n name value form doc. document-gained T n name value (formed-of T form) doc;
+  insertion = λ T p before P form piece doc may none. document-inserted T P p before (formed-of T form) (formed-of P piece) doc may none;
 }

@@ -19,7 +19,6 @@ use Rattle.doc_table.proofs.TreeLaws.{ways-up}
 use Rattle.doc_table.proofs.Ways.{In-live, place-of}
 use Rattle.doc_edits.specs.Changes.{with_attribute, gained}
 use Rattle.doc_edits.specs.Fitting.{MayGain}
-use Rattle.doc_edits.specs.Keeping.{GainsKeepTrees}
 use Rattle.doc_edits.proofs.TableLemmas.{fits-kept}
 
 -- the table with one node more
@@ -193,13 +192,11 @@ module _ (T : Table) (n : ℕ) (name : Name) (value : List ℕ) (s : Formed T) (
       ∙ ap (λ k. k + length value) (sum-set text_in T n (with_link (attribute name value) (length T)) refl (λ node. refl))
 
   -- the element is a node of the forest, neither the root nor an attribute
-  forest-gained : (G : Forest) × Whole grown G
-  forest-gained =
+  pub node-place : NodePlace s.forest n
+  node-place =
       ⊎_elim (λ (e : n ≡ 0). absurd (let root : kind_of T n ≡ Some Root = ap (kind_of T) e ∙ s.root_kind in let kind : kind_of T n ≡ Some Element = may.under in cc))
       (λ (place : Place s.forest n). ⊎_elim
-      (λ (at : NodePlace s.forest n).
-      let r : (G : Forest) × Whole grown G =
-      (plug at.path (tree n (at.ats ++ length T ∷ []) at.kids at.rest), whole-gained T at.path n name value at.ats at.kids at.rest (subst (Whole T) (sym at.at) s.whole)) in r)
+      (λ (at : NodePlace s.forest n). at)
       (λ (at : AttributePlace s.forest n).
       let v : Whole T (plug at.path (tree at.node at.ats at.kids at.rest)) = subst (Whole T) (sym at.at) s.whole in
       let listed : mem n (attrs_of T at.node) ≡ true = rw (opened T at.path (tree at.node at.ats at.kids at.rest) v.root v.shows).1.0.attributes (In-mem n at.ats at.among) in
@@ -207,6 +204,11 @@ module _ (T : Table) (n : ℕ) (name : Name) (value : List ℕ) (s : Formed T) (
       let other : kind_of T n ≡ Some Element = may.under in absurd (cc))
       place)
       (place-of T s.forest s.whole n live)
+
+  forest-gained : (G : Forest) × Whole grown G
+  forest-gained =
+      let at : NodePlace s.forest n = node-place in
+      (plug at.path (tree n (at.ats ++ length T ∷ []) at.kids at.rest), whole-gained T at.path n name value at.ats at.kids at.rest (subst (Whole T) (sym at.at) s.whole))
 
   pub formed-gained : Formed grown
   formed-gained = record {
@@ -219,5 +221,5 @@ module _ (T : Table) (n : ℕ) (name : Name) (value : List ℕ) (s : Formed T) (
     little_text = omega (arith, held, text-count T s.forest s.whole, may.little);
   }
 
-pub gains-keep-trees : GainsKeepTrees
+pub gains-keep-trees : (T : Table) (n : ℕ) (name : Name) (value : List ℕ) → Formed T → MayGain T n name value → Formed (gained T n name value)
 gains-keep-trees T n name value s may = subst Formed (sym (gained-with_node T n name value)) (formed-gained T n name value s may)

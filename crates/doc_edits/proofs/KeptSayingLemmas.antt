@@ -1,22 +1,23 @@
 -- The kept nodes, one of which says another text.
-use Rattle.std.proofs.Common.{◌≡◌, ℕ, ◌+◌, ◌-◌, ◌≤◌, suc, zero, List, [], ◌∷◌, length, get_or, set, Option, None, Some, true, refl, sym, ap, ◌∙◌, subst, arith}
+use Rattle.std.proofs.Common.{◌≡◌, ℕ, ◌+◌, ◌-◌, ◌*◌, ◌≤◌, suc, zero, List, [], ◌∷◌, length, length-set, get_or, set, Option, None, Some, true, refl, sym, ap, ◌∙◌, subst, arith}
 use Rattle.std.proofs.lemmas.List.{map-set}
 use Rattle.doc_table.specs.declared.node.Node.{Node}
 use Rattle.doc_table.specs.declared.node.NodeContent.{NodeContent}
 use Rattle.doc_table.specs.declared.node.NodeContent.TheVariants as kept
-use Rattle.doc_table.specs.Lists.{mem}
+use Rattle.doc_table.specs.Lists.{Rise}
 use Rattle.doc_table.specs.Table.{Table, Name, value_of, is_live}
-use Rattle.doc_table.specs.Walks.{ancestors}
-use Rattle.doc_table.specs.inner.Kept.{depth_at, place_at, place_in, IsPlace, NameIsBelow, NamesAreBelow}
+use Rattle.doc_table.specs.Walks.{ancestors, order}
+use Rattle.doc_table.specs.declared.ranks.TheConstants.{RANK_STEP}
+use Rattle.doc_table.specs.inner.Kept.{depth_at, rank_at, ranks_of, NameIsBelow, NamesAreBelow}
 use Rattle.doc_table.specs.inner.Parts.{Parts, IsSound, table_of}
 use Rattle.doc_table.specs.inner.Sound.{Sound}
 use Rattle.doc_table.specs.inner.Views.{content_seen, node_seen, table_seen}
 use Rattle.doc_table.proofs.Counts.{sum-set}
-use Rattle.doc_table.proofs.SoundLemmas.{seen-entry, number-set}
+use Rattle.doc_table.proofs.SoundLemmas.{seen-entry, number-set, ranks-same}
 use Rattle.doc_edits.specs.Changes.{saying, with_text, said}
 use Rattle.doc_edits.specs.Fitting.{MaySay}
 use Rattle.doc_edits.specs.inner.KeptSayings.{content_saying, kept_saying_at}
-use Rattle.doc_edits.proofs.RecontentLemmas.{same-live, same-links, same-ancestors}
+use Rattle.doc_edits.proofs.RecontentLemmas.{same-live, same-ancestors, same-order}
 use Rattle.doc_edits.proofs.SayingLemmas.{saying-keeps, held-less, held-said, sayings-keep-trees}
 
 content-said : (names : List Name) (new : List ℕ) (c : NodeContent) → content_seen names (content_saying new c) ≡ saying new (content_seen names c)
@@ -51,9 +52,9 @@ depth-kept : (new : List ℕ) (o : Option Node) → depth_at (kept_saying_at new
 depth-kept new None = refl
 depth-kept new (Some node) = refl
 
-place-kept : (new : List ℕ) (o : Option Node) → place_at (kept_saying_at new o) ≡ place_at o
-place-kept new None = refl
-place-kept new (Some node) = refl
+rank-kept : (new : List ℕ) (o : Option Node) → rank_at (kept_saying_at new o) ≡ rank_at o
+rank-kept new None = refl
+rank-kept new (Some node) = refl
 
 module _ (names : List Name) (nodes : List (Option Node)) (n : ℕ) (new : List ℕ) where
   table-said : table_seen names (set nodes n (kept_saying_at new (get_or nodes n None))) ≡ said (table_seen names nodes) n new
@@ -69,20 +70,14 @@ module _ (names : List Name) (nodes : List (Option Node)) (n : ℕ) (new : List 
       let depths : (m : ℕ) → is_live (said T n new) m ≡ true → depth_at (get_or (set nodes n (kept_saying_at new (get_or nodes n None))) m None) ≡ length (ancestors (said T n new) m) =
       λ m h. number-set depth_at nodes n m _ (depth-kept new (get_or nodes n None))
       ∙ (s.depths m (sym (same-live (saying new) (saying-keeps new) T n m) ∙ h) ∙ ap length (sym (same-ancestors (saying new) (saying-keeps new) T n m))) in
-      let places : (m : ℕ) → IsPlace (said T n new) m (place_at (get_or (set nodes n (kept_saying_at new (get_or nodes n None))) m None)) =
-      λ m. subst (IsPlace (said T n new) m) (sym (number-set place_at nodes n m _ (place-kept new (get_or nodes n None)))) (record {
-        among_attributes = λ p h.
-            let same = (same-links (saying new) (saying-keeps new) T n p).attributes in
-            (s.places m).among_attributes p (ap (mem m) (sym same) ∙ h) ∙ ap (place_in m) (sym same);
-        among_kids = λ p h.
-            let same = (same-links (saying new) (saying-keeps new) T n p).kids in
-            (s.places m).among_kids p (ap (mem m) (sym same) ∙ h) ∙ ap (place_in m) (sym same);
-      }) in
+      let ranks : Rise 0 (ranks_of (set nodes n (kept_saying_at new (get_or nodes n None))) (order (said T n new))) (RANK_STEP * length (set nodes n (kept_saying_at new (get_or nodes n None)))) =
+      rw (same-order (saying new) (saying-keeps new) T n s.formed.forest s.formed.whole, length-set nodes n (kept_saying_at new (get_or nodes n None)))
+      (ranks-same nodes n (kept_saying_at new (get_or nodes n None)) (order T) 0 (RANK_STEP * length nodes) (rank-kept new (get_or nodes n None)) s.ranks) in
       record {
         formed = rw table-said (sayings-keep-trees T n new s.formed may);
         known = names-kept (length names) new nodes n s.known;
         depths = rw table-said depths;
-        places = rw table-said places;
+        ranks = rw table-said ranks;
         live_is = rw table-said (s.live_is ∙ sym (sum-set (λ _. 1) T n (with_text new) refl (λ node. refl)));
         bytes_is = rw table-said (omega (arith, s.bytes_is, held-said T n new may.lives may.has_text, held-less T n may.lives));
       }

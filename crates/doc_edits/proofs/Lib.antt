@@ -27,3 +27,6 @@ pub mod InsertedSumLemmas
 pub mod InsertedSoundLemmas
 pub mod InsertedLemmas
 pub mod NamingLemmas
+pub mod RankingLemmas
+pub mod SeamLemmas
+pub mod SpreadLemmas

@@ -1,21 +1,19 @@
 -- The texts that meet by the place of the node between them, and the steps of a deletion.
-use Rattle.std.proofs.Common.{◌≡◌, ◌≢◌, ℕ, ◌+◌, ◌-◌, ◌<◌, ◌≤◌, zero, suc, true, false, ◌&&◌, ◌⊎◌, List, [], ◌∷◌, ◌++◌, length, get_or, Option, None, Some, is_some, refl, sym, ap, ap₂, ◌∙◌, subst, inl, inr, ⊎_elim, true≢false, arith, eq-eqb, length-append}
+use Rattle.std.proofs.Common.{◌≡◌, ◌≢◌, ℕ, ◌+◌, ◌-◌, ◌<◌, ◌≤◌, zero, suc, true, false, ◌&&◌, ◌⊎◌, List, [], ◌∷◌, ◌++◌, length, take, drop, get_or, Option, None, Some, is_some, refl, sym, ap, ap₂, ◌∙◌, subst, inl, inr, ⊎_elim, true≢false, arith, eq-eqb, length-append}
 use Rattle.std.specs.Prelude.{if◌then◌else◌}
+use Rattle.std.proofs.lemmas.List.{length-take-le}
 use Rattle.doc_table.specs.Kinds.{can_be_kid, is_text}
 use Rattle.doc_table.specs.Laws.{TextsApart, WellFormed}
 use Rattle.doc_table.specs.Lists.{mem, occurs}
 use Rattle.doc_table.specs.Table.{Table, Facts, entry_at, content_at, kind_at, parent_of, attrs_of, kids_of, kind_of, value_of}
-use Rattle.doc_table.specs.inner.Kept.{place_in, IsPlace}
 use Rattle.doc_table.specs.inner.Sound.{Formed}
-use Rattle.doc_table.proofs.ListLemmas.{In-mem, mem-In, mem-append, occurs-append, occurs-head, occurs-same}
-use Rattle.doc_table.proofs.Siblings.{place_in-back, place_in-head}
+use Rattle.doc_table.proofs.ListLemmas.{In, In-mem, mem-In, mem-append, occurs-append, occurs-head, occurs-same}
 use Rattle.doc_table.proofs.TreeLaws.{ways-up, well-formed}
 use Rattle.doc_table.proofs.Ways.{parent-has}
 use Rattle.doc_edits.specs.Changes.{Meeting, kids_beside, meeting, removed, without}
 use Rattle.doc_edits.specs.Fitting.{MayGo, MaySay}
 use Rattle.doc_edits.proofs.ClearLemmas.{without-split}
 use Rattle.doc_edits.proofs.DeletionLemmas.{Met, met, meeting-on, lone-apart, up-right, first, first-apart, first-formed, first-up, is-first, is-second, second-apart, may-say}
-use Rattle.doc_edits.proofs.RemovalLemmas.{Split, split_at}
 
 -- two numbers, if both are texts
 abbrev pub pair_of : Table → ℕ → ℕ → Option Meeting
@@ -61,37 +59,37 @@ get-behind [] n r back (suc (suc i)) e = absurd (omega (arith, e))
 get-behind (x ∷ front) n r back zero e = absurd (omega (arith, e))
 get-behind (x ∷ front) n r back (suc i) e = get-behind front n r back i (omega (arith, e))
 
--- a kid by its kept place
-module _ (T : Table) (n p place : ℕ) (formed : Formed T) (up : parent_of T n ≡ Some p) (kid : can_be_kid (kind_of T n) ≡ true) (at : IsPlace T n place) where
-  form : WellFormed T
-  form = well-formed T formed
+-- a kid hangs among the kids
+pub kid-listed : (T : Table) (n p : ℕ) → Formed T → parent_of T n ≡ Some p → can_be_kid (kind_of T n) ≡ true → In n (kids_of T p)
+kid-listed T n p formed up kid =
+    let form : WellFormed T = well-formed T formed in
+    mem-In n (kids_of T p) (⊎_elim
+    (λ (h : mem n (attrs_of T p) ≡ true). absurd (true≢false (sym kid ∙ ap can_be_kid (form.attribute_kind p n h))))
+    (λ (h : mem n (kids_of T p) ≡ true). h)
+    (mem-append n (attrs_of T p) (kids_of T p) (form.is_listed n p up)))
 
-  listed : mem n (kids_of T p) ≡ true
-  listed =
-      ⊎_elim
-      (λ (h : mem n (attrs_of T p) ≡ true). absurd (true≢false (sym kid ∙ ap can_be_kid (form.attribute_kind p n h))))
-      (λ (h : mem n (kids_of T p) ≡ true). h)
-      (mem-append n (attrs_of T p) (kids_of T p) (form.is_listed n p up))
+-- a kid by its place
+module _ (T : Table) (n p place : ℕ) (formed : Formed T) (short : place < length (kids_of T p)) (is : kids_of T p ≡ take place (kids_of T p) ++ n ∷ drop (suc place) (kids_of T p)) where
+  abbrev front : List ℕ
+  front = take place (kids_of T p)
 
-  parts : Split n (kids_of T p)
-  parts = split_at n (kids_of T p) (mem-In n (kids_of T p) listed)
+  abbrev back : List ℕ
+  back = drop (suc place) (kids_of T p)
 
-  not-beside : occurs n parts.front + occurs n parts.back ≡ 0
+  not-beside : occurs n front + occurs n back ≡ 0
   not-beside =
-      omega (arith, form.kids_once p n, ap (occurs n) parts.is, occurs-append n parts.front (n ∷ parts.back), occurs-same n parts.back)
+      omega (arith, (well-formed T formed).kids_once p n, ap (occurs n) is, occurs-append n front (n ∷ back), occurs-same n back)
 
-  here : place ≡ length parts.front
-  here =
-      at.among_kids p listed
-      ∙ (ap (place_in n) parts.is ∙ omega (arith, not-beside, place_in-back n parts.front (n ∷ parts.back) (omega (arith, not-beside)), place_in-head n n parts.back refl))
+  here : place ≡ length front
+  here = sym (length-take-le place (kids_of T p) (omega (arith, short)))
 
   pub none-beside : (place ≡ 0) ⊎ (length (kids_of T p) ≤ place + 1) → meeting T n (kids_of T p) ≡ None
-  none-beside edge = ap (meeting T n) parts.is ∙ by parts.front parts.back not-beside (cases edge)
+  none-beside edge = ap (meeting T n) is ∙ by front back not-beside (cases edge)
     where
-      cases : (place ≡ 0) ⊎ (length (kids_of T p) ≤ place + 1) → (length parts.front ≡ 0) ⊎ (length parts.back ≡ 0)
+      cases : (place ≡ 0) ⊎ (length (kids_of T p) ≤ place + 1) → (length front ≡ 0) ⊎ (length back ≡ 0)
       cases e =
           ⊎_elim (λ (h : place ≡ 0). inl (sym here ∙ h))
-          (λ (h : length (kids_of T p) ≤ place + 1). inr (omega (arith, h, here, ap length parts.is, length-append parts.front (n ∷ parts.back)))) e
+          (λ (h : length (kids_of T p) ≤ place + 1). inr (omega (arith, h, here, ap length is, length-append front (n ∷ back)))) e
 
       by : (front back : List ℕ) → occurs n front + occurs n back ≡ 0 → (length front ≡ 0) ⊎ (length back ≡ 0) → meeting T n (front ++ n ∷ back) ≡ None
       by [] back once e = meet-none T n n back (omega (arith, once))
@@ -102,7 +100,7 @@ module _ (T : Table) (n p place : ℕ) (formed : Formed T) (up : parent_of T n �
   pub pair-beside : (l r : ℕ) → 0 < place → place + 1 < length (kids_of T p) → l ≡ get_or (kids_of T p) (place - 1) 0 → r ≡ get_or (kids_of T p) (place + 1) 0 →
       meeting T n (kids_of T p) ≡ pair_of T l r
   pair-beside l r some more left_is right_is =
-      by parts.front parts.back (kids_of T p) parts.is not-beside here (omega (arith, more, here, ap length parts.is, length-append parts.front (n ∷ parts.back))) left_is right_is
+      by front back (kids_of T p) is not-beside here (omega (arith, more, here, ap length is, length-append front (n ∷ back))) left_is right_is
     where
       by : (front back xs : List ℕ) → xs ≡ front ++ n ∷ back → occurs n front + occurs n back ≡ 0 → place ≡ length front → 0 < length back
           → l ≡ get_or xs (place - 1) 0 → r ≡ get_or xs (place + 1) 0 → meeting T n xs ≡ pair_of T l r

@@ -24,6 +24,11 @@ place-short n (x ∷ xs) h =
     (λ (ne : n ≢ x). omega (arith, place-tail n x xs ne, place-short n xs (In-tail n x xs ne h)))
     (eq_or n x)
 
+pub place-most : (n : ℕ) (xs : List ℕ) → place_in n xs ≤ length xs
+place-most n [] = omega arith
+place-most n (x ∷ xs) =
+    ⊎_elim (λ (e : n ≡ x). omega (arith, place-head n x xs e)) (λ (ne : n ≢ x). omega (arith, place-tail n x xs ne, place-most n xs)) (eq_or n x)
+
 -- two numbers have two places
 pub place-one : (a b : ℕ) (xs : List ℕ) → In a xs → In b xs → place_in a xs ≡ place_in b xs → a ≡ b
 place-one a b [] ha hb e = absurd (omega arith)

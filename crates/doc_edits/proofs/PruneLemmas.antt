@@ -1,17 +1,18 @@
 -- The forest of a table without a node and all below it.
-use Rattle.std.proofs.Common.{◌≡◌, ◌≢◌, ℕ, ◌+◌, ◌≤◌, zero, suc, true, List, [], ◌∷◌, ◌++◌, Some, None, refl, sym, ap, ◌∙◌, subst, ⊎_elim, true≢false, arith}
+use Rattle.std.proofs.Common.{◌≡◌, ◌≢◌, ℕ, ◌+◌, ◌≤◌, zero, suc, true, List, [], ◌∷◌, ◌++◌, Some, None, refl, sym, ap, ◌∙◌, subst, ⊎_elim, true≢false, arith, append_assoc}
 use Rattle.doc_table.specs.Lists.{occurs, Distinct}
 use Rattle.doc_table.specs.Table.{Table, parent_of, kids_of, attrs_of, is_live}
-use Rattle.doc_table.specs.Walks.{below}
+use Rattle.doc_table.specs.Walks.{below, order}
 use Rattle.doc_table.specs.Kinds.{can_be_kid}
 use Rattle.doc_table.specs.Laws.{WellFormed, Ordered}
 use Rattle.doc_table.specs.inner.Forest.{Forest, bare, tree, tops, flat, Shows, ShowsAttributes, Whole, alive}
 use Rattle.doc_table.specs.inner.Sound.{Formed}
 use Rattle.doc_table.proofs.ListLemmas.{In, In-mem, In-cons, In-append, occurs-append, occurs-head, occurs-other, occurs-same, eq_or}
-use Rattle.doc_table.proofs.Paths.{Path, under, plug, owner, around, elders, opened, frame-kids, occurs-plug, size-plug, SameLinks, attributes-kept, shows-kept, replaced}
+use Rattle.doc_table.proofs.Paths.{Path, under, plug, owner, around, elders, lead, tail, flat-plug, opened, frame-kids, occurs-plug, size-plug, SameLinks, attributes-kept, shows-kept, replaced}
 use Rattle.doc_table.proofs.Places.{NodePlace, AttributePlace, Place, attribute-parent, alive-one}
 use Rattle.doc_table.proofs.Ways.{place-of, parent-has}
 use Rattle.doc_table.proofs.Growing.{owner-live}
+use Rattle.doc_table.proofs.Telling.{order-flat}
 use Rattle.doc_table.proofs.TreeLaws.{well-formed, ordered, below-node}
 use Rattle.doc_edits.specs.Changes.{without}
 use Rattle.doc_edits.proofs.ClearLemmas.{cut, cut-length, links-other, kids-parent, attributes-parent, parent-kept, alive-cut, without-none, without-split, without-other, without-gone, without-was, without-head, without-tail, without-length}
@@ -155,10 +156,32 @@ not-both {T = T} form n p q h k =
     true≢false
     (sym (form.kid_kind p n (In-mem n (kids_of T p) h)) ∙ ap can_be_kid (form.attribute_kind q n (In-mem n (attrs_of T q) k)))
 
+-- a list splits where a number stands
+pub record Split (n : ℕ) (xs : List ℕ) : Type 0 where
+  pub front : List ℕ
+  pub back : List ℕ
+  pub is : xs ≡ front ++ n ∷ back
+
+pub split_at : (n : ℕ) (xs : List ℕ) → In n xs → Split n xs
+split_at n [] h = absurd (omega arith)
+split_at n (x ∷ xs) h =
+    ⊎_elim (λ (e : n ≡ x). let r : Split n (x ∷ xs) = record { front = []; back = xs; is = ap (λ k. k ∷ xs) (sym e) } in r)
+    (λ (g : In n xs). let s : Split n xs = split_at n xs g in let r : Split n (x ∷ xs) = record { front = x ∷ s.front; back = s.back; is = ap (λ l. x ∷ l) s.is } in r)
+    (In-cons n x xs h)
+
+-- document order without a part in the middle
+pub record Parted (before after : List ℕ) : Type 0 where
+  pub front : List ℕ
+  pub gone : List ℕ
+  pub back : List ℕ
+  pub was : before ≡ front ++ (gone ++ back)
+  pub is : after ≡ front ++ back
+
 -- a table without a node and all below it: it shows a forest, and what stays hangs from what stays
 pub record Cut (T : Table) (n p : ℕ) : Type 0 where
   pub forest : Forest
   pub whole : Whole (cut T n p (below T n)) forest
+  pub order_parts : Parted (order T) (order (cut T n p (below T n)))
   pub apart : occurs p (below T n) ≡ 0
   pub within : (k q : ℕ) → In k (below T n) → k ≢ n → parent_of T k ≡ Some q → In q (below T n)
 
@@ -178,10 +201,19 @@ module _ (T : Table) (n p : ℕ) (formed : Formed T) (up : parent_of T n ≡ Som
       let listed : In n (kids_of T (owner at.path)) =
       rw (frame-kids T at.path (n ∷ tops at.rest) o.0) (omega (arith, occurs-append n (elders at.path) (n ∷ tops at.rest), occurs-head n (tops at.rest))) in
       let gone : inside T at.path n at.ats at.kids at.rest w ≡ below T n = sym (below-node T at.path n at.ats at.kids at.rest w) in
+      let left : Whole (cut T n (owner at.path) (below T n)) (plug at.path at.rest) =
+      subst (λ g. Whole (cut T n (owner at.path) g) (plug at.path at.rest)) gone
+      (node-whole T at.path n at.ats at.kids at.rest w (form.kids_once (owner at.path)) (none-in (occurs n (attrs_of T (owner at.path))) (λ k. not-both form n (owner at.path) (owner at.path) listed k))) in
       subst (Cut T n) same (record {
         forest = plug at.path at.rest;
-        whole = subst (λ g. Whole (cut T n (owner at.path) g) (plug at.path at.rest)) gone
-            (node-whole T at.path n at.ats at.kids at.rest w (form.kids_once (owner at.path)) (none-in (occurs n (attrs_of T (owner at.path))) (λ k. not-both form n (owner at.path) (owner at.path) listed k)));
+        whole = left;
+        order_parts = record {
+          front = 0 ∷ lead at.path;
+          gone = n ∷ (at.ats ++ flat at.kids);
+          back = flat at.rest ++ tail at.path;
+          was = order-flat T (plug at.path (tree n at.ats at.kids at.rest)) w ∙ ap (λ l. 0 ∷ l) (flat-plug at.path (tree n at.ats at.kids at.rest) ∙ ap (λ l. lead at.path ++ l) (simp append_assoc));
+          is = order-flat (cut T n (owner at.path) (below T n)) (plug at.path at.rest) left ∙ ap (λ l. 0 ∷ l) (flat-plug at.path at.rest);
+        };
         apart = subst (λ g. occurs (owner at.path) g ≡ 0) gone (node-apart T at.path n at.ats at.kids at.rest w);
         within = λ k q. subst (λ g. In k g → k ≢ n → parent_of T k ≡ Some q → In q g) gone (node-within T at.path n at.ats at.kids at.rest w k q);
       })
@@ -194,10 +226,28 @@ module _ (T : Table) (n p : ℕ) (formed : Formed T) (up : parent_of T n ≡ Som
       let same : at.node ≡ p = (cc) in
       let listed : In n (attrs_of T at.node) = subst (In n) (sym o.1.0.attributes) at.among in
       let gone : n ∷ [] ≡ below T n = sym (ord.below_attribute at.node n (In-mem n (attrs_of T at.node) listed)) in
+      let left : Whole (cut T n at.node (below T n)) (plug at.path (tree at.node (without n at.ats) at.kids at.rest)) =
+      subst (λ g. Whole (cut T n at.node g) (plug at.path (tree at.node (without n at.ats) at.kids at.rest))) gone
+      (attribute-whole T at.path at.node at.ats at.kids at.rest n at.among w (none-in (occurs n (kids_of T at.node)) (λ k. not-both form n at.node at.node k listed))) in
+      let parts : Split n at.ats = split_at n at.ats at.among in
+      let once : occurs n parts.front + occurs n (n ∷ parts.back) ≤ 1 =
+      omega (arith, attribute-count T at.path at.node at.ats at.kids at.rest n at.among w n, alive-one T n, ap (occurs n) parts.is, occurs-append n parts.front (n ∷ parts.back)) in
+      let less : without n at.ats ≡ parts.front ++ parts.back =
+      ap (without n) parts.is ∙ without-split n parts.front parts.back (omega (arith, once, occurs-same n parts.back)) (omega (arith, once, occurs-same n parts.back)) in
       subst (Cut T n) same (record {
         forest = plug at.path (tree at.node (without n at.ats) at.kids at.rest);
-        whole = subst (λ g. Whole (cut T n at.node g) (plug at.path (tree at.node (without n at.ats) at.kids at.rest))) gone
-            (attribute-whole T at.path at.node at.ats at.kids at.rest n at.among w (none-in (occurs n (kids_of T at.node)) (λ k. not-both form n at.node at.node k listed)));
+        whole = left;
+        order_parts = record {
+          front = 0 ∷ (lead at.path ++ (at.node ∷ parts.front));
+          gone = n ∷ [];
+          back = parts.back ++ (flat at.kids ++ (flat at.rest ++ tail at.path));
+          was = order-flat T (plug at.path (tree at.node at.ats at.kids at.rest)) w
+              ∙ ap (λ l. 0 ∷ l) (flat-plug at.path (tree at.node at.ats at.kids at.rest)
+              ∙ (ap (λ l. lead at.path ++ ((at.node ∷ (l ++ (flat at.kids ++ flat at.rest))) ++ tail at.path)) parts.is ∙ simp append_assoc));
+          is = order-flat (cut T n at.node (below T n)) (plug at.path (tree at.node (without n at.ats) at.kids at.rest)) left
+              ∙ ap (λ l. 0 ∷ l) (flat-plug at.path (tree at.node (without n at.ats) at.kids at.rest)
+              ∙ (ap (λ l. lead at.path ++ ((at.node ∷ (l ++ (flat at.kids ++ flat at.rest))) ++ tail at.path)) less ∙ simp append_assoc));
+        };
         apart = subst (λ g. occurs at.node g ≡ 0) gone (attribute-apart T at.path at.node at.ats at.kids at.rest n at.among w);
         within = λ k q h ne. absurd (let g : In k (n ∷ []) = subst (In k) (sym gone) h in omega (arith, occurs-other k n [] ne));
       })

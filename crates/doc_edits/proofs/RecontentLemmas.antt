@@ -3,12 +3,13 @@ use Rattle.std.proofs.Common.{◌≡◌, ◌≢◌, ℕ, ◌≤◌, suc, zero, c
 use Rattle.doc_table.specs.declared.kind.Kind.TheVariants.{Text}
 use Rattle.doc_table.specs.declared.limits.TheConstants.{MAX_LIVE_TEXT_BYTES}
 use Rattle.doc_table.specs.Table.{Table, Facts, Content, parent_at, kids_at, attrs_at, content_at, kind_at, name_at, value_at, expanded_in, kind_in, name_in, parent_of, kind_of, value_of, expanded_of, is_live}
-use Rattle.doc_table.specs.Walks.{climb, ancestors}
+use Rattle.doc_table.specs.Walks.{climb, ancestors, order}
 use Rattle.doc_table.specs.inner.Forest.{Forest, Whole}
 use Rattle.doc_table.specs.inner.Sound.{Fits, Formed, count_live, text_held}
 use Rattle.doc_table.proofs.ListLemmas.{eq_or}
 use Rattle.doc_table.proofs.Paths.{SameLinks, shows-kept}
 use Rattle.doc_table.proofs.Counts.{sum-set}
+use Rattle.doc_table.proofs.Telling.{order-flat}
 use Rattle.doc_edits.specs.Changes.{changed_at}
 use Rattle.doc_edits.proofs.TableLemmas.{changed-length, changed-other, changed-word, fits-kept}
 
@@ -88,6 +89,9 @@ module _ (change : Content → Content) (keeps : KeepsLabel change) where
       once = λ m. w.once m ∙ ap (λ b. cond b 1 0) (sym (same-live m));
       few = rw (changed-length T n (recontent change)) w.few;
     }
+
+    pub same-order : (B : Forest) → Whole T B → order (recontented change T n) ≡ order T
+    same-order B w = order-flat (recontented change T n) B (same-whole B w) ∙ sym (order-flat T B w)
 
     module _ (some : kind_of T n ≡ Some Text → value_of (recontented change T n) n ≢ []) where
       text-kept : (m : ℕ) → Fits T m → kind_of T m ≡ Some Text → value_of (recontented change T n) m ≢ []

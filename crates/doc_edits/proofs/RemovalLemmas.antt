@@ -7,27 +7,14 @@ use Rattle.doc_table.specs.Kinds.{can_be_kid, holds_kids}
 use Rattle.doc_table.specs.Laws.{TextsApart, WellFormed, HasWaysUp}
 use Rattle.doc_table.specs.inner.Forest.{flat}
 use Rattle.doc_table.specs.inner.Sound.{Fits, Formed, text_in}
-use Rattle.doc_table.proofs.ListLemmas.{In, In-mem, mem-In, In-cons, occurs-append, occurs-head, occurs-same, eq_or}
+use Rattle.doc_table.proofs.ListLemmas.{In-mem, mem-In, occurs-append, occurs-head, occurs-same, eq_or}
 use Rattle.doc_table.proofs.Ways.{In-live, parent-live}
 use Rattle.doc_table.proofs.Fitting.{texts-kept}
 use Rattle.doc_table.proofs.TreeLaws.{well-formed, ways-up}
-use Rattle.doc_edits.specs.Changes.{without, removed_from}
-use Rattle.doc_edits.specs.Keeping.{RemovalsKeepTrees}
+use Rattle.doc_edits.specs.Fitting.{MayGo}
+use Rattle.doc_edits.specs.Changes.{removed, removed_from, without}
 use Rattle.doc_edits.proofs.ClearLemmas.{cut, cut-length, cut-sum, entry-gone, links-other, kids-parent, attributes-parent, parent-kept, content-kept, without-none, without-split, without-was}
-use Rattle.doc_edits.proofs.PruneLemmas.{Cut, cut_at, none-in}
-
--- a list splits where a number stands
-pub record Split (n : ℕ) (xs : List ℕ) : Type 0 where
-  pub front : List ℕ
-  pub back : List ℕ
-  pub is : xs ≡ front ++ n ∷ back
-
-pub split_at : (n : ℕ) (xs : List ℕ) → In n xs → Split n xs
-split_at n [] h = absurd (omega arith)
-split_at n (x ∷ xs) h =
-    ⊎_elim (λ (e : n ≡ x). let r : Split n (x ∷ xs) = record { front = []; back = xs; is = ap (λ k. k ∷ xs) (sym e) } in r)
-    (λ (g : In n xs). let s : Split n xs = split_at n xs g in let r : Split n (x ∷ xs) = record { front = x ∷ s.front; back = s.back; is = ap (λ l. x ∷ l) s.is } in r)
-    (In-cons n x xs h)
+use Rattle.doc_edits.proofs.PruneLemmas.{Cut, Split, split_at, cut_at, none-in}
 
 -- texts stay apart without a number of the list
 pub texts-without : (T : Table) (n : ℕ) (xs : List ℕ) → Distinct xs → TextsApart T xs
@@ -210,7 +197,7 @@ module _ (T : Table) (n p : ℕ) (formed : Formed T) (up : parent_of T n ≡ Som
     little_text = omega (arith, cut-sum T n p (below T n) text_in (λ node. refl), formed.little_text);
   }
 
-pub removals-keep-trees : RemovalsKeepTrees
+pub removals-keep-trees : (T : Table) (n : ℕ) → Formed T → MayGo T n → Formed (removed T n)
 removals-keep-trees T n formed go =
     let up = (ways-up T formed).has_parent n go.lives go.below_root in
     let form : WellFormed T = well-formed T formed in

@@ -2,11 +2,11 @@
 use Rattle.std.proofs.Common.{◌≡◌, ℕ, ◌+◌, ◌≤◌, true, false, List, [], ◌∷◌, length, Option, None, Some, is_some, refl, sym, ap, ◌∙◌, true≢false, arith}
 use Rattle.doc_table.specs.Table.{Table, Facts, Content, root, element, attribute, text, comment, instruction, entry_at, content_at, kind_at, value_at, value_in, kind_in, name_in, kind_of, value_of, is_live}
 use Rattle.doc_table.specs.Kinds.{holds_kids}
-use Rattle.doc_table.specs.inner.Sound.{table_sum, text_in, text_held}
+use Rattle.doc_table.specs.inner.Sound.{Formed, table_sum, text_in, text_held}
 use Rattle.doc_table.proofs.Counts.{text-count}
 use Rattle.doc_table.proofs.Ways.{live-below}
 use Rattle.doc_edits.specs.Changes.{saying, with_text, said}
-use Rattle.doc_edits.specs.Keeping.{SayingsKeepTrees}
+use Rattle.doc_edits.specs.Fitting.{MaySay}
 use Rattle.doc_edits.proofs.TableLemmas.{changed-here, sum-replaced}
 use Rattle.doc_edits.proofs.RecontentLemmas.{KeepsLabel, formed-recontented}
 
@@ -65,7 +65,7 @@ module _ (T : Table) (n : ℕ) (new : List ℕ) (lives : is_live T n ≡ true) (
       entry-held (with_text new (entry_at T n)) ∙ ap length (new-value (entry_at T n) lives has_text) in
       omega (arith, sum-replaced text_in T n (with_text new (entry_at T n)) (live-below T n lives))
 
-pub sayings-keep-trees : SayingsKeepTrees
+pub sayings-keep-trees : (T : Table) (n : ℕ) (new : List ℕ) → Formed T → MaySay T n new → Formed (said T n new)
 sayings-keep-trees T n new s may =
     formed-recontented (saying new) (saying-keeps new) T n
     (λ h empty. may.some h (sym (value-said T n new may.lives may.has_text) ∙ empty)) s

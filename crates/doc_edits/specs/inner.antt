@@ -2,3 +2,4 @@ pub mod KeptSayings
 pub mod Removing
 pub mod Copies
 pub mod Grafts
+pub mod Ranking

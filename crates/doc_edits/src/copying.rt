@@ -1,6 +1,6 @@
 //! Copies of the nodes of a piece.
 
-ghost use Rattle.std.specs.Prelude.{◌≡◌, ◌+◌, ◌<◌, ◌^◌, ℕ, None, Some, IfOk, length, map, slice_index_or, true};
+ghost use Rattle.std.specs.Prelude.{◌≡◌, ◌+◌, ◌<◌, ◌≤◌, ◌^◌, ℕ, None, Some, IfOk, length, map, slice_index_or, true};
 ghost use Rattle.doc_names.specs.Name.{numbered};
 ghost use Rattle.doc_table.specs.Lists.{mem};
 ghost use Rattle.doc_table.specs.declared.node.NodeContent.TheVariants.{Element};
@@ -8,23 +8,26 @@ ghost use Rattle.doc_table.specs.inner.Kept.{NameIsBelow, depth_at, place_in};
 ghost use Rattle.doc_table.specs.inner.Views.{content_seen};
 ghost use Rattle.doc_edits.specs.Changes.{given_parent};
 ghost use Rattle.doc_edits.specs.Keeping.{NamesGrow};
-ghost use Rattle.doc_edits.specs.inner.Copies.{AreCopies, IsCopy, number_in, place_given};
+ghost use Rattle.doc_edits.specs.inner.Copies.{AreCopies, IsCopy, number_in, rank_given};
 
+use crate::ranking::Spread;
 use doc_names::{NameId, NameTable};
 use doc_table::{Bare, Decl, Node, NodeContent, NodeId, NodeList, node_at};
 use sch_base::{ItemList, Text};
 use std::alloc::{AllocError, Global};
 
-/// Where the nodes of a piece come: the number that each gets, and the node under which the piece comes, with the number
-/// of its ancestors and of the kids before the piece.
+/// Where the nodes of a piece come: the number that each gets, the node under which the piece comes, with the number of its
+/// ancestors, and their ranks.
 pub(crate) struct Placement {
     /// By number in the piece.
     pub(crate) numbers: Vec<NodeId>,
     /// What stands for the number of no node of the piece.
     pub(crate) past: NodeId,
+    /// The first number.
+    pub(crate) first: usize,
     pub(crate) parent: NodeId,
     pub(crate) depth: u32,
-    pub(crate) before: u32,
+    pub(crate) spread: Spread,
 }
 
 /// One call lets it go, wherever its owner ends.
@@ -33,9 +36,10 @@ impl Drop for Placement {
         let Placement {
             numbers,
             past: _,
+            first: _,
             parent: _,
             depth: _,
-            before: _,
+            spread: _,
         } = self;
         drop(numbers);
     }
@@ -198,26 +202,27 @@ impl Placement {
         Some(self.number_of(n))
     }
 
-    /// The place of a copy among its siblings.
-    fn place_of(&self, parent: Option<NodeId>, place: u32) -> u32
-        ensures { result ≡ place_given self.now.before parent place }
+    /// The rank of the copy of a node.
+    fn rank_of(&self, n: NodeId) -> u64
+        requires number { self.now.first ≤ number_in self.now n }
+        requires small { rank_given self.now n < 2 ^ 64 }
+        ensures { result ≡ rank_given self.now n }
     {
-        match parent {
-            Some(n) if n.index() == 0 => self.before,
-            _ => place,
-        }
+        let place = self.number_of(n).index() - self.first;
+        self.spread.first + place as u64 * self.spread.step
     }
 
-    /// Copies a node.
+    /// Copies a node, with this rank.
     fn copy_node(
         &self,
         names: &mut NameTable,
         alloc: Global,
         from: &NameTable,
         node: &Node,
+        rank: u64,
     ) -> Result<Node, AllocError>
         requires { self.now.depth + node.now.depth < 2 ^ 32 }
-        ensures copied { IfOk result (λ copy. IsCopy names.new from.now self.now (Some node.now) (Some copy)) }
+        ensures copied { IfOk result (λ copy. IsCopy names.new from.now self.now rank (Some node.now) (Some copy)) }
         ensures grown { NamesGrow names.old names.new }
     {
         let content = copy_content(names, alloc, from, &node.content)?;
@@ -226,7 +231,7 @@ impl Placement {
         Ok(Node {
             parent: self.parent_of(node.parent),
             depth: self.depth + node.depth,
-            place: self.place_of(node.parent, node.place),
+            rank,
             kids,
             attributes,
             content,
@@ -241,13 +246,16 @@ impl Placement {
         piece: &Bare,
         n: NodeId,
     ) -> Result<Option<Node>, AllocError>
-        requires { self.now.depth + depth_at (slice_index_or piece.now.nodes n None) < 2 ^ 32 }
-        ensures copied { IfOk result (λ copy. IsCopy names.new piece.now.names self.now (slice_index_or piece.now.nodes n None) copy) }
+        requires depth { self.now.depth + depth_at (slice_index_or piece.now.nodes n None) < 2 ^ 32 }
+        requires number { self.now.first ≤ number_in self.now n }
+        requires rank { rank_given self.now n < 2 ^ 64 }
+        ensures copied { IfOk result (λ copy. IsCopy names.new piece.now.names self.now (rank_given self.now n) (slice_index_or piece.now.nodes n None) copy) }
         ensures grown { NamesGrow names.old names.new }
     {
         match node_at(piece.nodes.as_slice(), n) {
             Some(node) => {
-                let copy = self.copy_node(names, alloc, &piece.names, node)?;
+                let rank = self.rank_of(n);
+                let copy = self.copy_node(names, alloc, &piece.names, node, rank)?;
                 Ok(Some(copy))
             }
             None => Ok(None),
@@ -262,7 +270,9 @@ impl Placement {
         piece: &Bare,
         nodes: &[NodeId],
     ) -> Result<Vec<Option<Node>>, AllocError>
-        requires { (n : ℕ) → self.now.depth + depth_at (slice_index_or piece.now.nodes n None) < 2 ^ 32 }
+        requires depths { (n : ℕ) → self.now.depth + depth_at (slice_index_or piece.now.nodes n None) < 2 ^ 32 }
+        requires numbers { (n : ℕ) → self.now.first ≤ number_in self.now n }
+        requires ranks { (n : ℕ) → rank_given self.now n < 2 ^ 64 }
         ensures copied { IfOk result (λ copies. AreCopies names.new piece.now.names self.now piece.now.nodes nodes.now copies.items) }
         ensures grown { NamesGrow names.old names.new }
     {

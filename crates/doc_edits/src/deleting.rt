@@ -6,7 +6,7 @@ ghost use Rattle.doc_table.specs.Table.{kind_of, parent_of, value_of};
 ghost use Rattle.doc_table.specs.inner.Parts.{IsSound, table_of};
 ghost use Rattle.doc_edits.specs.Changes.{deleted, kids_beside, meeting};
 
-use crate::removing::remove;
+use crate::removing::{place_of, remove};
 use crate::saying::put_text;
 use doc_table::{Bare, Kind, NodeId};
 use sch_base::Text;
@@ -15,7 +15,7 @@ use std::alloc::AllocError;
 /// Deletes a node with all below it; of two texts that meet then the left one says both, and the right one is gone.
 ///
 /// Memory is wanted only where two texts meet, and then nothing has changed after want of it. Costs the nodes below it,
-/// the siblings behind it, and the copying of two texts that meet.
+/// a look at its siblings, and the copying of two texts that meet.
 #[tactic(auto, using(crate::proofs::MeetingLemmas::lone_goes))]
 pub fn delete(bare: &mut Bare, n: NodeId) -> Result<(), AllocError>
     requires sound { IsSound bare.old }
@@ -45,7 +45,8 @@ fn texts_beside(bare: &Bare, n: NodeId) -> Option<(NodeId, NodeId)>
         (λ texts. meeting (table_of bare.now) n (kids_beside (table_of bare.now) (parent_of (table_of bare.now) n)) ≡ Some (record { left = texts.0; right = texts.1 })) }
 {
     let kids = bare.kids(bare.parent(n)?);
-    let (left, right) = neighbours(kids, bare.place(n))?;
+    let place = place_of(kids, n)?;
+    let (left, right) = neighbours(kids, place)?;
     if are_texts(bare, left, right) {
         Some((left, right))
     } else {
@@ -54,11 +55,11 @@ fn texts_beside(bare: &Bare, n: NodeId) -> Option<(NodeId, NodeId)>
 }
 
 /// What stands before and behind a place of a list.
-fn neighbours(list: &[NodeId], place: u32) -> Option<(NodeId, NodeId)>
+fn neighbours(list: &[NodeId], place: usize) -> Option<(NodeId, NodeId)>
+    requires { place < length list.now }
     ensures { MatchOption result ((place ≡ 0) ⊎ (length list.now ≤ place + 1))
         (λ pair. (0 < place) × (place + 1 < length list.now) × (pair.0 ≡ slice_index list.now (place - 1)) × (pair.1 ≡ slice_index list.now (place + 1))) }
 {
-    let place = place as usize;
     if place == 0 || place + 1 >= list.len() {
         return None;
     }

@@ -7,9 +7,10 @@ ghost use Rattle.doc_edits.specs.Changes.{gained};
 ghost use Rattle.doc_edits.specs.Fitting.{MayGain};
 ghost use Rattle.doc_edits.specs.Keeping.{NamesGrow};
 
+use crate::ranking::spread_at;
+use crate::reranking::settle;
 use doc_names::NameId;
-use doc_table::{Bare, Node, NodeContent, NodeId, attach};
-use sch_base::{ItemList, Text};
+use doc_table::{Bare, Label, NodeId};
 use std::alloc::AllocError;
 
 /// Gives an element one attribute more, the last one, which takes the next number; its name is numbered where it is new.
@@ -56,19 +57,8 @@ fn gain_named(bare: &mut Bare, n: NodeId, name: NameId, value: &str) -> Result<N
     ensures unchanged { OnErr result (bare.new ≡ bare.old) }
 {
     let depth = bare.depth_under(n);
-    let place = bare.next_place(n, true);
-    let text = Text::copy(bare.alloc, value)?;
-    let number = bare.next_number();
-    let added = Node {
-        parent: Some(n),
-        depth,
-        place,
-        kids: ItemList::new(bare.alloc),
-        attributes: ItemList::new(bare.alloc),
-        content: NodeContent::Attribute(name, text),
-    };
-    attach(&mut bare.nodes, n, number, true, added)?;
-    bare.live += 1;
-    bare.text_bytes += value.len();
+    let spread = spread_at(bare, n, 0, 1);
+    let number = bare.grow(n, depth, spread.first, &Label::Attribute(name), value)?;
+    settle(bare, spread);
     Ok(number)
 }

@@ -1,17 +1,18 @@
 //! A piece under a node.
 
-ghost use Rattle.std.specs.Prelude.{◌≡◌, ◌+◌, ◌<◌, ◌≤◌, ◌^◌, IfOk, None, OnErr, OnOk, drop, length, slice_index_or, slice_set, vec_capacity, vec_len};
-ghost use Rattle.doc_table.specs.Table.{kids_of};
+ghost use Rattle.std.specs.Prelude.{◌≡◌, ◌+◌, ◌*◌, ◌<◌, ◌≤◌, ◌^◌, IfOk, None, OnErr, OnOk, length, slice_index_or, slice_set, true, vec_capacity, vec_len};
+ghost use Rattle.doc_table.specs.declared.limits.TheConstants.{MAX_NODE_NUMBERS};
+ghost use Rattle.doc_table.specs.Table.{is_live};
 ghost use Rattle.doc_table.specs.inner.Parts.{IsSound, table_of};
 ghost use Rattle.doc_edits.specs.Changes.{inserted, nodes_in};
 ghost use Rattle.doc_edits.specs.Fitting.{MayTake};
 ghost use Rattle.doc_edits.specs.Keeping.{NamesGrow};
 ghost use Rattle.doc_edits.specs.inner.Copies.{IsCopied, IsPlacement};
 ghost use Rattle.doc_edits.specs.inner.Grafts.{grafted, kept_kid, kept_kids};
-ghost use Rattle.doc_edits.specs.inner.Removing.{placed};
 
 use crate::copying::{Placement, numbers_for};
-use crate::removing::renumber;
+use crate::ranking::{Spread, spread_at};
+use crate::reranking::settle;
 use doc_table::{Bare, Node, NodeId, NodeList};
 use sch_base::ItemList;
 use std::alloc::{AllocError, Global};
@@ -20,7 +21,7 @@ use std::alloc::{AllocError, Global};
 /// next numbers in document order; the kid's number is answered.
 ///
 /// After want of memory nothing has changed, names included. Costs the nodes of the piece, the siblings behind it, and the
-/// copying of the piece's texts.
+/// copying of the piece's texts; where ranks run out beside it, the nodes of the tree.
 pub fn insert(
     bare: &mut Bare,
     parent: NodeId,
@@ -65,29 +66,14 @@ fn put_piece(
     ensures kept { OnErr result (bare.new ≡ record bare.old { names = bare.new.names }) }
 {
     let first = bare.next_number();
-    let behind = kids_behind(bare, parent, before)?;
-    let copies = copy_piece(bare, parent, before, piece)?;
-    let count = copies.len() as u32;
-    graft(
-        &mut bare.nodes,
-        parent,
-        before,
-        first,
-        copies,
-        behind.as_slice(),
-    )?;
+    let count = piece.live_nodes() - 1;
+    let spread = spread_at(bare, parent, before, count);
+    let copies = copy_piece(bare, parent, spread, piece)?;
+    graft(&mut bare.nodes, parent, before, first, copies)?;
     bare.live += count;
     bare.text_bytes += piece.text_bytes;
+    settle(bare, spread);
     Ok(first)
-}
-
-/// The kids of a node behind so many.
-fn kids_behind(bare: &Bare, parent: NodeId, before: usize) -> Result<NodeList, AllocError>
-    requires { before ≤ length (kids_of (table_of bare.now) parent) }
-    ensures { IfOk result (λ list. list ≡ drop before (kids_of (table_of bare.now) parent)) }
-{
-    let kids = bare.kids(parent);
-    ItemList::copy_of(bare.alloc, &kids[before..])
 }
 
 /// The nodes of a piece in document order.
@@ -102,39 +88,42 @@ fn nodes_of(alloc: Global, piece: &Bare) -> Result<NodeList, AllocError>
     Ok(list)
 }
 
-/// Copies the nodes of a piece, in document order, for their place under a node behind so many of its kids. Of the table
-/// only the names change.
+/// Copies the nodes of a piece, in document order, for their place under a node, with these ranks. Of the table only the
+/// names change.
 fn copy_piece(
     bare: &mut Bare,
     parent: NodeId,
-    before: usize,
+    spread: Spread,
     piece: &Bare,
 ) -> Result<Vec<Option<Node>>, AllocError>
     requires sound { IsSound bare.old }
     requires piece { IsSound piece.now }
-    requires may { MayTake (table_of bare.old) parent before (table_of piece.now) }
-    ensures copied { IfOk result (λ copies. IsCopied bare.new.names (table_of bare.old) parent before piece.now copies.items) }
+    requires parent { is_live (table_of bare.old) parent ≡ true }
+    requires few { length (table_of bare.old) + length (nodes_in (table_of piece.now)) ≤ MAX_NODE_NUMBERS }
+    requires ranks { spread.first + length (nodes_in (table_of piece.now)) * spread.step < 2 ^ 64 }
+    ensures copied { IfOk result (λ copies. IsCopied bare.new.names (table_of bare.old) parent spread piece.now copies.items) }
     ensures kept { bare.new ≡ record bare.old { names = bare.new.names } }
     ensures grown { NamesGrow bare.old.names bare.new.names }
 {
     let nodes = nodes_of(bare.alloc, piece)?;
-    let places = place_piece(bare, parent, before, piece, nodes.as_slice())?;
+    let places = place_piece(bare, parent, spread, piece, nodes.as_slice())?;
     places.copy_all(&mut bare.names, bare.alloc, piece, nodes.as_slice())
 }
 
-/// Gives each node of a piece its number.
+/// Gives each node of a piece its number and its rank.
 fn place_piece(
     bare: &Bare,
     parent: NodeId,
-    before: usize,
+    spread: Spread,
     piece: &Bare,
     nodes: &[NodeId],
 ) -> Result<Placement, AllocError>
     requires sound { IsSound bare.now }
     requires piece { IsSound piece.now }
-    requires may { MayTake (table_of bare.now) parent before (table_of piece.now) }
+    requires parent { is_live (table_of bare.now) parent ≡ true }
+    requires few { length (table_of bare.now) + length (nodes_in (table_of piece.now)) ≤ MAX_NODE_NUMBERS }
     requires nodes { nodes.now ≡ nodes_in (table_of piece.now) }
-    ensures { IfOk result (IsPlacement (table_of bare.now) parent before (table_of piece.now)) }
+    ensures { IfOk result (IsPlacement (table_of bare.now) parent spread (table_of piece.now)) }
 {
     let first = bare.nodes.len();
     let numbers = numbers_for(bare.alloc, piece.nodes.len(), nodes, first)?;
@@ -142,36 +131,32 @@ fn place_piece(
     Ok(Placement {
         numbers,
         past: NodeId::from_number((first + nodes.len()) as u32),
+        first,
         parent,
         depth,
-        before: before as u32,
+        spread,
     })
 }
 
-/// Puts copies behind all nodes, and the first of them among the kids of a node; the kids behind it get the next places.
-/// What needs memory comes first.
+/// Puts copies behind all nodes, and the first of them among the kids of a node. What needs memory comes first.
 fn graft(
     nodes: &mut Vec<Option<Node>>,
     parent: NodeId,
     before: usize,
     first: NodeId,
     mut copies: Vec<Option<Node>>,
-    behind: &[NodeId],
 ) -> Result<(), AllocError>
     requires parent { parent < vec_len nodes.old }
     requires among { before ≤ length (kept_kids (slice_index_or nodes.old.items parent None)) }
-    requires few { before + length behind.now + 1 < 2 ^ 32 }
-    ensures grafted { OnOk result (nodes.new.items ≡ placed (before + 1) behind.now (grafted parent before first copies.items nodes.old.items)) }
+    ensures grafted { OnOk result (nodes.new.items ≡ grafted parent before first copies.items nodes.old.items) }
     ensures unchanged { OnErr result (nodes.new.items ≡ nodes.old.items) }
 {
     nodes.reserve(copies.len())?;
     link_at(nodes, parent, before, first)?;
     match nodes.append(&mut copies) {
-        Ok(()) => {}
+        Ok(()) => Ok(()),
         Err(_) => unreachable!(),
     }
-    renumber(nodes, behind, before as u32 + 1);
-    Ok(())
 }
 
 /// Puts a number among the kids of a node, behind so many.

@@ -6,7 +6,9 @@ mod deleting;
 mod gaining;
 mod inserting;
 mod laws;
+mod ranking;
 mod removing;
+mod reranking;
 mod saying;
 
 pub use deleting::delete;

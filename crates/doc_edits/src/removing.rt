@@ -1,19 +1,18 @@
 //! Taking nodes out of a table.
 
-ghost use Rattle.std.specs.Prelude.{◌≡◌, ◌+◌, ◌<◌, ◌≤◌, ◌^◌, length, Some, None, IfSome, slice_index_or, slice_set};
-ghost use Rattle.doc_table.specs.Kinds.{is_kind};
-ghost use Rattle.doc_table.specs.Table.{kind_of};
-ghost use Rattle.doc_table.specs.declared.kind.Kind.TheVariants.{Attribute};
+ghost use Rattle.std.specs.Prelude.{◌≡◌, ◌+◌, ◌<◌, ◌≤◌, ◌∷◌, ◌++◌, suc, None, IfSome, MatchOption, drop, length, slice_index_or, slice_set, take, vec_len};
+ghost use Rattle.doc_table.specs.Lists.{Distinct, occurs};
 ghost use Rattle.doc_table.specs.inner.Parts.{IsSound, table_of};
-ghost use Rattle.doc_edits.specs.Changes.{removed};
+ghost use Rattle.doc_edits.specs.Changes.{removed, without};
 ghost use Rattle.doc_edits.specs.Fitting.{MayGo};
-ghost use Rattle.doc_edits.specs.inner.Removing.{Clears, Counted, emptied, placed, siblings_at, siblings_in, unlinked, unlinked_at, with_place};
+ghost use Rattle.doc_edits.specs.inner.Grafts.{kept_kids};
+ghost use Rattle.doc_edits.specs.inner.Removing.{Clears, Counted, emptied, kept_attributes, kept_without};
 
-use doc_table::{Bare, Kind, Node, NodeId};
+use doc_table::{Bare, Node, NodeId, NodeList};
 
 /// Takes a node, or an attribute, out of the table with all below it. Takes no memory.
 ///
-/// Costs the nodes below it, and the siblings behind it.
+/// Costs the nodes below it, and a look at its siblings.
 pub fn remove(bare: &mut Bare, n: NodeId)
     requires sound { IsSound bare.old }
     requires may { MayGo (table_of bare.old) n }
@@ -23,18 +22,9 @@ pub fn remove(bare: &mut Bare, n: NodeId)
     ensures cap { bare.new.pair_cap ≡ bare.old.pair_cap }
 {
     if let Some(parent) = bare.parent(n) {
-        let place = bare.place(n) as usize;
-        let is_attribute = is_attribute(bare, n);
-        unlink(&mut bare.nodes, parent, place, is_attribute);
+        unlink(&mut bare.nodes, parent, n);
         clear(bare, n);
     }
-}
-
-/// Whether the node is an attribute.
-fn is_attribute(bare: &Bare, n: NodeId) -> bool
-    ensures { result ≡ is_kind Attribute (kind_of (table_of bare.now) n) }
-{
-    matches!(bare.kind_of(n), Some(Kind::Attribute))
 }
 
 /// Takes the node at a number out.
@@ -49,73 +39,40 @@ fn take_node(nodes: &mut Vec<Option<Node>>, n: NodeId) -> Option<Node>
     }
 }
 
-/// Puts a node at a number.
-fn put_node(nodes: &mut Vec<Option<Node>>, n: NodeId, node: Node)
-    ensures { nodes.new.items ≡ slice_set nodes.old.items n (Some node) }
+/// Takes a number out of a list, in which it stands once at most.
+fn take_out(list: &mut NodeList, n: NodeId)
+    requires { Distinct list.old }
+    ensures { list.new ≡ without n list.old }
 {
-    if n.index() < nodes.len() {
-        nodes[n.index()] = Some(node);
+    if let Some(place) = place_of(list.as_slice(), n) {
+        list.remove(place);
     }
 }
 
-/// Sets a node's place among its siblings.
-fn set_place(nodes: &mut Vec<Option<Node>>, n: NodeId, place: u32)
-    ensures { nodes.new.items ≡ slice_set nodes.old.items n (with_place place (slice_index_or nodes.old.items n None)) }
+/// The first place of a number in a list.
+pub(crate) fn place_of(list: &[NodeId], n: NodeId) -> Option<usize>
+    ensures { MatchOption result (occurs n list.now ≡ 0)
+        (λ place. (place < length list.now) × (list.now ≡ take place list.now ++ n ∷ drop (suc place) list.now) × (occurs n (take place list.now) ≡ 0)) }
 {
-    if n.index() < nodes.len() {
-        let slot = &mut nodes[n.index()];
-        if let Some(node) = slot {
-            node.place = place;
+    for (place, m) in list.iter().enumerate() {
+        if *m == n {
+            return Some(place);
         }
     }
+    None
 }
 
-/// Sets the places of nodes, one behind the other.
-pub(crate) fn renumber(nodes: &mut Vec<Option<Node>>, behind: &[NodeId], first: u32)
-    requires { first + length behind.now < 2 ^ 32 }
-    ensures { nodes.new.items ≡ placed first behind.now nodes.old.items }
+/// Takes a number out of the attributes and the kids of a node.
+fn unlink(nodes: &mut Vec<Option<Node>>, parent: NodeId, n: NodeId)
+    requires parent { parent < vec_len nodes.old }
+    requires kids { Distinct (kept_kids (slice_index_or nodes.old.items parent None)) }
+    requires attributes { Distinct (kept_attributes (slice_index_or nodes.old.items parent None)) }
+    ensures { nodes.new.items ≡ slice_set nodes.old.items parent (kept_without n (slice_index_or nodes.old.items parent None)) }
 {
-    let mut place = first;
-    for n in behind {
-        set_place(nodes, *n, place);
-        place += 1;
-    }
-}
-
-/// The attributes of a node, or else its kids.
-fn siblings(node: &Node, attributes: bool) -> &[NodeId]
-    ensures { result.now ≡ siblings_in attributes node.now }
-{
-    if attributes {
-        node.attributes.as_slice()
-    } else {
-        node.kids.as_slice()
-    }
-}
-
-/// Takes the number at a place out of the attributes of a node, or else of its kids.
-fn drop_link(node: &mut Node, place: usize, is_attribute: bool)
-    requires { place < length (siblings_in is_attribute node.old) }
-    ensures { node.new ≡ unlinked place is_attribute node.old }
-{
-    if is_attribute {
-        node.attributes.remove(place);
-    } else {
-        node.kids.remove(place);
-    }
-}
-
-/// Takes the number at a place out of the attributes of a node, or else of its kids; those behind it move up.
-fn unlink(nodes: &mut Vec<Option<Node>>, parent: NodeId, place: usize, is_attribute: bool)
-    requires linked { place < length (siblings_at is_attribute (slice_index_or nodes.old.items parent None)) }
-    requires few { length (siblings_at is_attribute (slice_index_or nodes.old.items parent None)) < 2 ^ 32 }
-    ensures { nodes.new.items ≡ unlinked_at parent place is_attribute nodes.old.items }
-{
-    if let Some(mut node) = take_node(nodes, parent) {
-        drop_link(&mut node, place, is_attribute);
-        let behind = &siblings(&node, is_attribute)[place..];
-        renumber(nodes, behind, place as u32);
-        put_node(nodes, parent, node);
+    let slot = &mut nodes[parent.index()];
+    if let Some(node) = slot {
+        take_out(&mut node.attributes, n);
+        take_out(&mut node.kids, n);
     }
 }
 

@@ -8,7 +8,7 @@ ghost use Rattle.doc_tree.specs.kind.Kind.{Kind};
 ghost use Rattle.doc_locations.specs.Locations.{has_kind, place_among};
 ghost use Rattle.doc_locations.specs.inner.Places.{count_for, HasPlace, HoldsSome, AreBelow, AreLive, ArePlaced};
 
-use doc_tree::{Kind, MAX_NODE_NUMBERS, NodeId, Tree};
+use doc_tree::{Kind, NodeId, Tree};
 use std::alloc::{AllocError, Global};
 
 /// How many kinds of nodes there are.
@@ -28,17 +28,9 @@ pub(crate) fn places_on_ways(
     if nodes.is_empty() {
         return Ok(Vec::new(alloc));
     }
-    let mut places = vec![in alloc; 0; numbers_made(tree)]?;
+    let mut places = vec![in alloc; 0; tree.numbers_made() as usize]?;
     count_ways(places.as_mut_slice(), tree, nodes);
     Ok(places)
-}
-
-/// How many nodes the tree has numbered.
-fn numbers_made(tree: &Tree) -> usize
-    ensures { result ≡ length tree.now.nodes }
-{
-    tree.laws();
-    (MAX_NODE_NUMBERS - tree.numbers_left()) as usize
 }
 
 /// Counts the places on the ways up from the nodes.
@@ -63,7 +55,7 @@ fn count_way(places: &mut [usize], tree: &Tree, n: NodeId)
         return;
     }
     if let Some(parent) = tree.parent(n) {
-        if !matches!(tree.kind_of(n), Some(Kind::Attribute)) {
+        if !tree.is_kind(n, Kind::Attribute) {
             count_kids_of(places, tree, parent);
         }
         count_way(places, tree, parent);
@@ -114,7 +106,7 @@ fn place_among(tree: &Tree, kids: &[NodeId], n: NodeId, kind: Kind) -> usize
 {
     let mut place = 0;
     for kid in kids {
-        if is_of_kind(tree, *kid, kind) {
+        if tree.is_kind(*kid, kind) {
             place += 1;
         }
         if *kid == n {
@@ -122,16 +114,6 @@ fn place_among(tree: &Tree, kids: &[NodeId], n: NodeId, kind: Kind) -> usize
         }
     }
     place
-}
-
-/// Whether a node is of the kind.
-fn is_of_kind(tree: &Tree, n: NodeId, kind: Kind) -> bool
-    ensures { result ≡ has_kind tree.now.nodes kind n }
-{
-    match tree.kind_of(n) {
-        Some(found) => found == kind,
-        None => false,
-    }
 }
 
 /// Writes the place of each of the kids at its number.

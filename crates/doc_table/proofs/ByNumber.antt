@@ -1,14 +1,31 @@
 -- Where the numbers are in document order, after a number stand just the greater ones.
-use Rattle.std.proofs.Common.{◌≡◌, ◌≢◌, ℕ, ◌<◌, ◌≤◌, suc, zero, Bool, true, false, cond, ◌||◌, List, [], ◌∷◌, ◌++◌, length, refl, sym, ap, ap₂, ◌∙◌, ⊎_elim, true≢false, arith, eqb, ltb, eq-eqb, ne_eqb}
+use Rattle.std.proofs.Common.{◌≡◌, ◌≢◌, ℕ, ◌<◌, ◌≤◌, suc, zero, Bool, true, false, cond, ◌||◌, List, [], ◌∷◌, ◌++◌, length, refl, sym, ap, ap₂, ◌∙◌, ⊎_elim, true≢false, arith, eqb, ltb, subst, eq-eqb, ne_eqb, length-append}
 use Rattle.std.proofs.Math.Bool.{or-true, or-false}
 use Rattle.std.proofs.lemmas.Bool.{cases_lt, le-ltb, lt-ltb}
-use Rattle.doc_table.specs.Lists.{mem, upto}
+use Rattle.doc_table.specs.Lists.{mem, occurs, upto}
 use Rattle.doc_table.specs.Table.{Table, is_live}
 use Rattle.doc_table.specs.Order.{after, is_before}
 use Rattle.doc_table.specs.InOrder.{IsInOrder}
-use Rattle.doc_table.proofs.ListLemmas.{In, In-mem, none-mem, eq_or}
-use Rattle.doc_table.proofs.Forests.{upto-once, upto-past}
+use Rattle.doc_table.proofs.ListLemmas.{In, In-mem, none-mem, eq_or, occurs-append, occurs-other, occurs-same}
 use Rattle.doc_table.proofs.Ways.{live-below}
+
+-- the numbers below a number: each once, and no other
+pub upto-length : (n : ℕ) → length (upto n) ≡ n
+upto-length zero = refl
+upto-length (suc n) = length-append (upto n) (n ∷ []) ∙ omega (arith, upto-length n)
+
+pub upto-past : (m n : ℕ) → n ≤ m → occurs m (upto n) ≡ 0
+upto-past m zero h = refl
+upto-past m (suc n) h =
+    occurs-append m (upto n) (n ∷ []) ∙ omega (arith, upto-past m n (omega arith), occurs-other m n [] (λ e. absurd (omega arith)))
+
+pub upto-once : (m n : ℕ) → m < n → occurs m (upto n) ≡ 1
+upto-once m zero h = absurd (omega arith)
+upto-once m (suc n) h =
+    occurs-append m (upto n) (n ∷ [])
+    ∙ ⊎_elim (λ (e : m ≡ n). omega (arith, upto-past m n (omega arith), subst (λ k. occurs m (k ∷ []) ≡ 1) e (occurs-same m [])))
+    (λ (ne : m ≢ n). omega (arith, upto-once m n (omega arith), occurs-other m n [] ne))
+    (eq_or m n)
 
 after-front : (a : ℕ) (xs ys : List ℕ) → mem a xs ≡ true → after a (xs ++ ys) ≡ after a xs ++ ys
 after-front a [] ys h = absurd (true≢false (sym h))

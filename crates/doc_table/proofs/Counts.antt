@@ -99,6 +99,30 @@ length-sum : (xs : List ℕ) → length xs ≡ sum_by (λ _. 1) xs
 length-sum [] = refl
 length-sum (x ∷ xs) = omega (arith, length-sum xs, sum_by-cons (λ _. 1) x xs)
 
+-- numbers below a bound, each at most once, are no more than the bound
+pub few-below : (n : ℕ) (xs : List ℕ) → ((m : ℕ) → occurs m xs ≤ 1) → ((m : ℕ) → In m xs → m < n) → length xs ≤ n
+few-below zero [] once below = omega arith
+few-below zero (x ∷ xs) once below = absurd (omega (arith, below x (occurs-head x xs)))
+few-below (suc n) xs once below = by (occurs n xs) refl (λ ms one less_than. few-below n ms one less_than)
+  where
+    by : (k : ℕ) → occurs n xs ≡ k → ((ms : List ℕ) → ((m : ℕ) → occurs m ms ≤ 1) → ((m : ℕ) → In m ms → m < n) → length ms ≤ n) → length xs ≤ suc n
+    by zero e shorter =
+        let others : (m : ℕ) → In m xs → m < n = λ m h. ⊎_elim
+        (λ (same : m ≡ n). absurd (let none : occurs m xs ≡ 0 = ap (λ j. occurs j xs) same ∙ e in omega (arith, h, none)))
+        (λ (ne : m ≢ n). omega (arith, below m h, ne))
+        (eq_or m n) in
+        omega (arith, shorter xs once others)
+    by (suc k) e shorter =
+        let here : In n xs = omega (arith, e) in
+        let others : (m : ℕ) → In m (less n xs) → m < n = λ m h.
+        let was : occurs m xs ≡ cond (eqb m n) 1 0 + occurs m (less n xs) = occurs-less m n xs here in
+        ⊎_elim
+        (λ (same : m ≡ n). absurd (let gone : In n (less n xs) = subst (λ j. In j (less n xs)) same h in omega (arith, gone, less-same n xs here, once n)))
+        (λ (ne : m ≢ n). omega (arith, below m (omega (arith, h, was)), ne))
+        (eq_or m n) in
+        let rest : length (less n xs) ≤ n = shorter (less n xs) (λ m. omega (arith, once m, occurs-less m n xs here)) others in
+        omega (arith, rest, length-sum xs, sum-less (λ _. 1) n xs here, length-sum (less n xs))
+
 module _ (T : Table) (B : Forest) (w : Whole T B) where
   -- along document order a sum is that of the table
   sum-order : (f : ℕ → ℕ) (g : Facts → ℕ) → ((n : ℕ) (node : Facts) → entry_at T n ≡ Some node → f n ≡ g node) → sum_by f (order T) ≡ table_sum g T

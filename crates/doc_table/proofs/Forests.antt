@@ -1,44 +1,20 @@
--- The forest of a well-formed table whose numbers are in document order: no way down is longer than there are numbers, so
--- that the walk which gives document order leaves out no kid.
-use Rattle.std.proofs.Common.{◌≡◌, ◌≢◌, ℕ, ◌+◌, ◌<◌, ◌≤◌, suc, zero, Bool, true, false, cond, List, [], ◌∷◌, ◌++◌, length, Option, None, Some, is_some, refl, sym, ap, ap₂, ◌∙◌, subst, ⊎_elim, true≢false, arith, append-nil, append_assoc, length-append}
-use Rattle.std.specs.List.{flat_map}
-use Rattle.std.proofs.lemmas.Bool.{cases_lt}
+-- The forest of a well-formed table: no way down is longer than there are numbers, so that the descent from the root leaves
+-- out no kid; and each live number is met once, since it is met as often as its parent, and the root is met once.
+use Rattle.std.proofs.Common.{◌≡◌, ◌≢◌, ℕ, ◌+◌, ◌≤◌, suc, zero, Bool, true, false, cond, eqb, List, [], ◌∷◌, ◌++◌, length, Option, None, Some, is_some, sum_by, refl, sym, ap, ap₂, ◌∙◌, subst, ⊎_elim, true≢false, arith, length-append, eq-eqb, ne_eqb}
+use Rattle.std.proofs.lemmas.List.Sums.{sum_by-cons, sum_by-append}
 use Rattle.doc_table.specs.declared.kind.Kind.{Kind}
 use Rattle.doc_table.specs.declared.kind.Kind.TheVariants.{Root, Element, Attribute}
-use Rattle.doc_table.specs.Lists.{mem, occurs, upto}
+use Rattle.doc_table.specs.Lists.{mem, occurs, Distinct}
 use Rattle.doc_table.specs.Table.{Table, Facts, entry_at, content_at, kind_at, parent_of, kids_of, attrs_of, kind_of, is_live}
-use Rattle.doc_table.specs.Walks.{walk, order}
-use Rattle.doc_table.specs.Kinds.{holds_kids}
+use Rattle.doc_table.specs.Walks.{climb, above}
+use Rattle.doc_table.specs.Kinds.{holds_kids, can_be_kid}
 use Rattle.doc_table.specs.Laws.{WellFormed}
-use Rattle.doc_table.specs.InOrder.{IsInOrder}
 use Rattle.doc_table.specs.inner.Forest.{Forest, bare, tree, tops, flat, size, Shows, ShowsAttributes, Whole, alive}
 use Rattle.doc_table.specs.inner.Sound.{Formed}
-use Rattle.doc_table.proofs.ListLemmas.{In, In-mem, In-cons, In-append, occurs-append, occurs-head, occurs-other, occurs-same, flat_map-nothing, singles, eq_or, mem-head}
-use Rattle.doc_table.proofs.Counts.{live-count, text-count}
-use Rattle.doc_table.proofs.Places.{attribute-parent}
+use Rattle.doc_table.proofs.ListLemmas.{In, In-mem, mem-In, In-cons, In-append, occurs-append, occurs-head, occurs-other, occurs-same, eq_or, mem-head}
+use Rattle.doc_table.proofs.Counts.{live-count, text-count, few-below}
+use Rattle.doc_table.proofs.Places.{attribute-parent, alive-one}
 use Rattle.doc_table.proofs.Ways.{live-below, parent-has}
-
--- the numbers below a number: each once, and no other
-pub upto-length : (n : ℕ) → length (upto n) ≡ n
-upto-length zero = refl
-upto-length (suc n) = length-append (upto n) (n ∷ []) ∙ omega (arith, upto-length n)
-
-pub upto-past : (m n : ℕ) → n ≤ m → occurs m (upto n) ≡ 0
-upto-past m zero h = refl
-upto-past m (suc n) h =
-    occurs-append m (upto n) (n ∷ []) ∙ omega (arith, upto-past m n (omega arith), occurs-other m n [] (λ e. absurd (omega arith)))
-
-pub upto-once : (m n : ℕ) → m < n → occurs m (upto n) ≡ 1
-upto-once m zero h = absurd (omega arith)
-upto-once m (suc n) h =
-    occurs-append m (upto n) (n ∷ [])
-    ∙ ⊎_elim (λ (e : m ≡ n). omega (arith, upto-past m n (omega arith), subst (λ k. occurs m (k ∷ []) ≡ 1) e (occurs-same m [])))
-    (λ (ne : m ≢ n). omega (arith, upto-once m n (omega arith), occurs-other m n [] ne))
-    (eq_or m n)
-
-pub upto-most : (m n : ℕ) → occurs m (upto n) ≤ 1
-upto-most m n =
-    ⊎_elim (λ (h : m < n). omega (arith, upto-once m n h)) (λ (h : n ≤ m). omega (arith, upto-past m n h)) (cases_lt m n)
 
 -- a number that has a kind is live
 has-kind : (T : Table) (n : ℕ) {kind : Kind} → kind_of T n ≡ Some kind → is_live T n ≡ true
@@ -47,11 +23,6 @@ has-kind T n {kind = kind} h = by (entry_at T n) h
     by : (o : Option Facts) → kind_at (content_at o) ≡ Some kind → is_some o ≡ true
     by None e = absurd (cc)
     by (Some node) e = refl
-
--- an empty list has no number
-none-of : (m : ℕ) (xs : List ℕ) → length xs ≡ 0 → occurs m xs ≡ 0
-none-of m [] e = refl
-none-of m (x ∷ xs) e = absurd (omega arith)
 
 pub size-flat : (F : Forest) → size F ≡ length (flat F)
 size-flat bare = refl
@@ -67,48 +38,20 @@ abbrev sprout : Table → ℕ → List ℕ → Forest
 sprout T zero ns = bare
 sprout T (suc levels) ns = row T (λ ms. sprout T levels ms) ns
 
--- the numbers that the walk gives from a number downwards
-abbrev numbers_to : Table → ℕ → ℕ → List ℕ
-numbers_to T levels n = walk T (λ m. m ∷ []) (λ _. []) levels n
+-- a way up: the parent of each number is the next one, and the last is the root
+abbrev IsWay : Table → ℕ → List ℕ → Type 0
+IsWay T n [] = n ≡ 0
+IsWay T n (p ∷ path) = (parent_of T n ≡ Some p) × IsWay T p path
 
-module _ (T : Table) where
-  row-tops : (under : List ℕ → Forest) (ns : List ℕ) → ns ≡ tops (row T under ns)
-  row-tops under [] = refl
-  row-tops under (n ∷ ns) = ap (λ l. n ∷ l) (row-tops under ns)
+-- so many levels above the deepest that there can be, a number with the way up from it
+record Descends (T : Table) (levels n : ℕ) (path : List ℕ) : Type 0 where
+  way : IsWay T n path
+  once : Distinct (n ∷ path)
+  room : levels + suc (length path) ≡ length T
 
-  numbers-next : (levels n : ℕ) → numbers_to T (suc levels) n ≡ n ∷ (attrs_of T n ++ flat_map (numbers_to T levels) (kids_of T n))
-  numbers-next levels n =
-      ap₂ (λ (x y : List ℕ). n ∷ (x ++ y)) (singles (attrs_of T n)) (append-nil (flat_map (numbers_to T levels) (kids_of T n)))
-
-  row-flat : (levels : ℕ) → ((ms : List ℕ) → flat (sprout T levels ms) ≡ flat_map (numbers_to T levels) ms) →
-      (ns : List ℕ) → flat (sprout T (suc levels) ns) ≡ flat_map (numbers_to T (suc levels)) ns
-  row-flat levels below [] = refl
-  row-flat levels below (n ∷ ns) =
-      ap₂ (λ (x y : List ℕ). n ∷ (attrs_of T n ++ (x ++ y))) (below (kids_of T n)) (row-flat levels below ns)
-      ∙ ap (λ l. n ∷ l) (sym (append_assoc (attrs_of T n) (flat_map (numbers_to T levels) (kids_of T n)) (flat_map (numbers_to T (suc levels)) ns)))
-      ∙ ap (λ l. l ++ flat_map (numbers_to T (suc levels)) ns) (sym (numbers-next levels n))
-
-  sprout-flat : (levels : ℕ) (ns : List ℕ) → flat (sprout T levels ns) ≡ flat_map (numbers_to T levels) ns
-  sprout-flat zero ns = sym (flat_map-nothing ns)
-  sprout-flat (suc levels) ns = row-flat levels (λ ms. sprout-flat levels ms) ns
-
-  occurs-next : (levels m n : ℕ) → occurs m (numbers_to T (suc levels) n) ≡ occurs m (n ∷ []) + (occurs m (attrs_of T n) + occurs m (flat_map (numbers_to T levels) (kids_of T n)))
-  occurs-next levels m n =
-      ap (occurs m) (numbers-next levels n) ∙ omega (arith, occurs-append m (attrs_of T n) (flat_map (numbers_to T levels) (kids_of T n)))
-
-  length-next : (levels n : ℕ) → length (numbers_to T (suc levels) n) ≡ suc (length (attrs_of T n) + length (flat_map (numbers_to T levels) (kids_of T n)))
-  length-next levels n =
-      ap length (numbers-next levels n) ∙ omega (arith, length-append (attrs_of T n) (flat_map (numbers_to T levels) (kids_of T n)))
-
-  -- on the way down, with so many levels left: the numbers at hand hang from one number, the way down to which leads from
-  -- the root, and with all others they are the numbers of the table
-  record Descends (levels p : ℕ) (ns path others : List ℕ) : Type 0 where
-    holds : In p path
-    up : (m q : ℕ) → In m path → parent_of T m ≡ Some q → In q path
-    hang : (n : ℕ) → In n ns → parent_of T n ≡ Some p
-    room : levels + length path ≡ length T
-    count : length path + (length (flat_map (numbers_to T levels) ns) + length others) ≡ length T
-    once : (m : ℕ) → occurs m path + (occurs m (flat_map (numbers_to T levels) ns) + occurs m others) ≡ occurs m (upto (length T))
+row-tops : (T : Table) (under : List ℕ → Forest) (ns : List ℕ) → ns ≡ tops (row T under ns)
+row-tops T under [] = refl
+row-tops T under (n ∷ ns) = ap (λ l. n ∷ l) (row-tops T under ns)
 
 module _ (T : Table) (form : WellFormed T) where
   no_attributes : (n : ℕ) → kind_of T n ≢ Some Element → attrs_of T n ≡ []
@@ -137,195 +80,262 @@ module _ (T : Table) (form : WellFormed T) where
         attributes-shown n ats (λ b h. listed b (omega (arith, h))),
       )
 
-  -- a number that is met is not on the way down already
-  fresh : (levels p n : ℕ) (ns path others : List ℕ) → Descends T (suc levels) p (n ∷ ns) path others → In n path → ⊥
-  fresh levels p n ns path others d h =
-      omega (
-        arith,
-        h,
-        d.once n,
-        occurs-append n (numbers_to T (suc levels) n) (flat_map (numbers_to T (suc levels)) ns),
-        occurs-next T levels n n,
-        occurs-head n [],
-        upto-most n (length T),
-      )
+  -- on a way up stand live numbers
+  way-live : (n : ℕ) (path : List ℕ) (m : ℕ) → IsWay T n path → In m (n ∷ path) → is_live T m ≡ true
+  way-live n [] m way h = ⊎_elim
+      (λ (same : m ≡ n). ap (is_live T) (same ∙ way) ∙ has-kind T 0 form.root_kind)
+      (λ (g : In m []). absurd (omega arith))
+      (In-cons m n [] h)
+  way-live n (p ∷ path) m way h = ⊎_elim
+      (λ (same : m ≡ n). ap (is_live T) same ∙ parent-has T n p way.0)
+      (λ (g : In m (p ∷ path)). way-live p path m way.1 g)
+      (In-cons m n (p ∷ path) h)
 
-  -- where no level is left below a number, it has no kids: all numbers are on the way down
-  last-level : (p n : ℕ) (ns path others : List ℕ) → Descends T (suc zero) p (n ∷ ns) path others → kids_of T n ≡ []
-  last-level p n ns path others d = by (kids_of T n) refl
+  -- with a number its parent stands there, after the first
+  way-on : (n : ℕ) (path : List ℕ) (m q : ℕ) → IsWay T n path → parent_of T m ≡ Some q → In m (n ∷ path) → In q path
+  way-on n [] m q way up h = ⊎_elim
+      (λ (same : m ≡ n). absurd (let none : parent_of T m ≡ None = ap (parent_of T) (same ∙ way) ∙ form.root_parent in cc))
+      (λ (g : In m []). absurd (omega arith))
+      (In-cons m n [] h)
+  way-on n (p ∷ path) m q way up h = ⊎_elim
+      (λ (same : m ≡ n).
+      let goes : parent_of T n ≡ Some q = ap (parent_of T) (sym same) ∙ up in
+      let first : parent_of T n ≡ Some p = way.0 in
+      let is : p ≡ q = (cc) in
+      subst (λ k. In k (p ∷ path)) is (occurs-head p path))
+      (λ (g : In m (p ∷ path)). omega (arith, way-on p path m q way.1 up g))
+      (In-cons m n (p ∷ path) h)
+
+  -- a kid is not on the way up already
+  further : (n : ℕ) (path : List ℕ) (k : ℕ) → IsWay T n path → Distinct (n ∷ path) → parent_of T k ≡ Some n → Distinct (k ∷ n ∷ path)
+  further n path k way once up m = by (occurs k (n ∷ path)) refl
+    where
+      by : (c : ℕ) → occurs k (n ∷ path) ≡ c → occurs m (k ∷ n ∷ path) ≤ 1
+      by zero none = ⊎_elim
+          (λ (same : m ≡ k). subst (λ j. occurs j (k ∷ n ∷ path) ≤ 1) (sym same) (omega (arith, occurs-same k (n ∷ path), none)))
+          (λ (ne : m ≢ k). omega (arith, occurs-other m k (n ∷ path) ne, once m))
+          (eq_or m k)
+      by (suc c) some =
+          let again : In n path = way-on n path k n way up (omega (arith, some)) in
+          absurd (omega (arith, again, occurs-same n path, once n))
+
+  downwards : (levels n : ℕ) (path : List ℕ) (k : ℕ) → Descends T (suc levels) n path → parent_of T k ≡ Some n → Descends T levels k (n ∷ path)
+  downwards levels n path k d up = record {
+    way = (up, d.way);
+    once = further n path k d.way d.once up;
+    room = omega (arith, d.room);
+  }
+
+  -- where no level is left below a number, it has no kids: all numbers are on the way up
+  last-level : (n : ℕ) (path : List ℕ) → Descends T zero n path → kids_of T n ≡ []
+  last-level n path d = by (kids_of T n) refl
     where
       by : (ks : List ℕ) → kids_of T n ≡ ks → ks ≡ []
       by [] e = refl
       by (k ∷ ks) e =
           let up : parent_of T k ≡ Some n = form.kid_parent n k (ap (mem k) e ∙ mem-head k ks) in
-          let one : occurs k (upto (length T)) ≡ 1 = upto-once k (length T) (live-below T k (parent-has T k n up)) in
-          let long : length (flat_map (numbers_to T (suc zero)) (n ∷ ns)) ≡ length (numbers_to T (suc zero) n) + length (flat_map (numbers_to T (suc zero)) ns) = length-append (numbers_to T (suc zero) n) (flat_map (numbers_to T (suc zero)) ns) in
-          let all : length (attrs_of T n) + (length (flat_map (numbers_to T zero) (kids_of T n)) + (length (flat_map (numbers_to T (suc zero)) ns) + length others)) ≡ 0 = omega (arith, d.room, d.count, long, length-next T zero n) in
-          let here : In k (n ∷ path) =
-          omega (
-            arith,
-            one,
-            d.once k,
-            occurs-append k (numbers_to T (suc zero) n) (flat_map (numbers_to T (suc zero)) ns),
-            occurs-next T zero k n,
-            none-of k (attrs_of T n) (omega (arith, all)),
-            none-of k (flat_map (numbers_to T zero) (kids_of T n)) (omega (arith, all)),
-            none-of k (flat_map (numbers_to T (suc zero)) ns) (omega (arith, all)),
-            none-of k others (omega (arith, all)),
-          ) in
-          absurd (fresh zero p n ns path others d (⊎_elim
-          (λ (same : k ≡ n).
-          let hangs : parent_of T n ≡ Some p = d.hang n (occurs-head n ns) in
-          let itself : parent_of T n ≡ Some n = ap (parent_of T) (sym same) ∙ up in
-          let is : p ≡ n = (cc) in
-          subst (λ q. In q path) is d.holds)
-          (λ (g : In k path). d.up k n g up)
-          (In-cons k n path here)))
+          let few : length (k ∷ n ∷ path) ≤ length T =
+          few-below (length T) (k ∷ n ∷ path) (further n path k d.way d.once up) (λ m h. live-below T m (way-live k (n ∷ path) m (up, d.way) h)) in
+          absurd (omega (arith, few, d.room))
 
-  kids-shown : (levels p n : ℕ) (ns path others : List ℕ) → Descends T (suc levels) p (n ∷ ns) path others → kids_of T n ≡ tops (sprout T levels (kids_of T n))
-  kids-shown zero p n ns path others d = last-level p n ns path others d
-  kids-shown (suc levels) p n ns path others d = row-tops T (λ ms. sprout T levels ms) (kids_of T n)
+  kids-shown : (levels n : ℕ) (path : List ℕ) → Descends T levels n path → kids_of T n ≡ tops (sprout T levels (kids_of T n))
+  kids-shown zero n path d = last-level n path d
+  kids-shown (suc levels) n path d = row-tops T (λ ms. sprout T levels ms) (kids_of T n)
 
-  -- on to the kids of a number, and past it
-  downwards : (levels p n : ℕ) (ns path others : List ℕ) → Descends T (suc levels) p (n ∷ ns) path others →
-      Descends T levels n (kids_of T n) (n ∷ path) (attrs_of T n ++ (flat_map (numbers_to T (suc levels)) ns ++ others))
-  downwards levels p n ns path others d =
-      let after : List ℕ = flat_map (numbers_to T (suc levels)) ns in
-      record {
-        holds = occurs-head n path;
-        up = λ m q h e. ⊎_elim
-            (λ (same : m ≡ n).
-            let hangs : parent_of T n ≡ Some p = d.hang n (occurs-head n ns) in
-            let goes : parent_of T n ≡ Some q = ap (parent_of T) (sym same) ∙ e in
-            let is : p ≡ q = (cc) in
-            let g : In q path = subst (λ k. In k path) is d.holds in omega (arith, g))
-            (λ (g : In m path). omega (arith, d.up m q g e))
-            (In-cons m n path h);
-        hang = λ k h. form.kid_parent n k (In-mem k (kids_of T n) h);
-        room = omega (arith, d.room);
-        count = omega (arith, d.count, length-append (numbers_to T (suc levels) n) after, length-next T levels n, length-append (attrs_of T n) (after ++ others), length-append after others);
-        once = λ m. omega (
-          arith,
-          d.once m,
-          occurs-append m (numbers_to T (suc levels) n) after,
-          occurs-next T levels m n,
-          occurs-append m (attrs_of T n) (after ++ others),
-          occurs-append m after others,
-        );
-      }
+  row-shows : (levels : ℕ) → ((n : ℕ) (path ms : List ℕ) → Descends T levels n path → ((k : ℕ) → In k ms → parent_of T k ≡ Some n) → Shows T n (sprout T levels ms)) →
+      (n : ℕ) (path ks : List ℕ) → Descends T (suc levels) n path → ((k : ℕ) → In k ks → parent_of T k ≡ Some n) → Shows T n (sprout T (suc levels) ks)
+  row-shows levels below n path [] d hang = tt
+  row-shows levels below n path (k ∷ ks) d hang =
+      let next : Descends T levels k (n ∷ path) = downwards levels n path k d (hang k (occurs-head k ks)) in (
+        record {
+          parent = hang k (occurs-head k ks);
+          attributes = refl;
+          kids_are = kids-shown levels k (n ∷ path) next;
+          hold = attributes-shown k (attrs_of T k) (λ a h. In-mem a (attrs_of T k) h);
+        },
+        below k (n ∷ path) (kids_of T k) next (λ j h. form.kid_parent k j (In-mem j (kids_of T k) h)),
+        row-shows levels below n path ks d (λ j h. hang j (omega (arith, h))),
+      )
 
-  sideways : (levels p n : ℕ) (ns path others : List ℕ) → Descends T (suc levels) p (n ∷ ns) path others → Descends T (suc levels) p ns path (numbers_to T (suc levels) n ++ others)
-  sideways levels p n ns path others d =
-      let after : List ℕ = flat_map (numbers_to T (suc levels)) ns in
-      record {
-        holds = d.holds;
-        up = d.up;
-        hang = λ k h. d.hang k (omega (arith, h));
-        room = d.room;
-        count = omega (arith, d.count, length-append (numbers_to T (suc levels) n) after, length-append (numbers_to T (suc levels) n) others);
-        once = λ m. omega (arith, d.once m, occurs-append m (numbers_to T (suc levels) n) after, occurs-append m (numbers_to T (suc levels) n) others);
-      }
+  sprout-shows : (levels n : ℕ) (path ks : List ℕ) → Descends T levels n path → ((k : ℕ) → In k ks → parent_of T k ≡ Some n) → Shows T n (sprout T levels ks)
+  sprout-shows zero n path ks d hang = tt
+  sprout-shows (suc levels) n path ks d hang = row-shows levels (λ m way ms e h. sprout-shows levels m way ms e h) n path ks d hang
 
-  row-shows : (levels : ℕ) → ((q : ℕ) (ms path others : List ℕ) → Descends T levels q ms path others → Shows T q (sprout T levels ms)) →
-      (p : ℕ) (ns path others : List ℕ) → Descends T (suc levels) p ns path others → Shows T p (sprout T (suc levels) ns)
-  row-shows levels below p [] path others d = tt
-  row-shows levels below p (n ∷ ns) path others d = (
-    record {
-      parent = d.hang n (occurs-head n ns);
-      attributes = refl;
-      kids_are = kids-shown levels p n ns path others d;
-      hold = attributes-shown n (attrs_of T n) (λ a h. In-mem a (attrs_of T n) h);
-    },
-    below n (kids_of T n) (n ∷ path) _ (downwards levels p n ns path others d),
-    row-shows levels below p ns path _ (sideways levels p n ns path others d),
-  )
+-- how often a number hangs from another
+abbrev hung : Table → ℕ → ℕ → ℕ
+hung T n m = occurs n (attrs_of T m ++ kids_of T m)
 
-  sprout-shows : (levels p : ℕ) (ns path others : List ℕ) → Descends T levels p ns path others → Shows T p (sprout T levels ns)
-  sprout-shows zero p ns path others d = tt
-  sprout-shows (suc levels) p ns path others d = row-shows levels (λ q ms way rest e. sprout-shows levels q ms way rest e) p ns path others d
+-- each number of a forest hangs from one
+record Hangs (T : Table) (m : ℕ) : Type 0 where
+  from : ℕ
+  parent : parent_of T m ≡ Some from
 
--- what a table shows lives in it
-shows-live : (T : Table) (p : ℕ) (F : Forest) → Shows T p F → (m : ℕ) → In m (flat F) → is_live T m ≡ true
-shows-live T p bare s m h = absurd (omega arith)
-shows-live T p (tree n ats kids rest) s m h =
-    ⊎_elim (λ (e : m ≡ n). ap (is_live T) e ∙ parent-has T n p s.0.parent)
-    (λ (g : In m (ats ++ (flat kids ++ flat rest))). ⊎_elim
-    (λ (k : In m ats). parent-has T m n (attribute-parent T n ats m s.0.hold k))
-    (λ (k : In m (flat kids ++ flat rest)). ⊎_elim
-    (λ (i : In m (flat kids)). shows-live T n kids s.1 m i)
-    (λ (i : In m (flat rest)). shows-live T p rest s.2 m i)
-    (In-append m (flat kids) (flat rest) k))
-    (In-append m ats (flat kids ++ flat rest) g))
-    (In-cons m n (ats ++ (flat kids ++ flat rest)) h)
+module _ (T : Table) where
+  hangs-shown : (p : ℕ) (F : Forest) → Shows T p F → (m : ℕ) → In m (flat F) → Hangs T m
+  hangs-shown p bare s m h = absurd (omega arith)
+  hangs-shown p (tree n ats kids rest) s m h =
+      ⊎_elim (λ (e : m ≡ n). let r : Hangs T m = record { from = p; parent = ap (parent_of T) e ∙ s.0.parent } in r)
+      (λ (g : In m (ats ++ (flat kids ++ flat rest))). ⊎_elim
+      (λ (k : In m ats). let r : Hangs T m = record { from = n; parent = attribute-parent T n ats m s.0.hold k } in r)
+      (λ (k : In m (flat kids ++ flat rest)). ⊎_elim
+      (λ (i : In m (flat kids)). hangs-shown n kids s.1 m i)
+      (λ (i : In m (flat rest)). hangs-shown p rest s.2 m i)
+      (In-append m (flat kids) (flat rest) k))
+      (In-append m ats (flat kids ++ flat rest) g))
+      (In-cons m n (ats ++ (flat kids ++ flat rest)) h)
 
-module _ (T : Table) (form : WellFormed T) (numbered : IsInOrder T) (levels : ℕ) (long : length T ≡ suc levels) where
+  -- from attributes nothing hangs
+  hung-attributes : (p n : ℕ) (ats : List ℕ) → ShowsAttributes T p ats → sum_by (hung T n) ats ≡ 0
+  hung-attributes p n [] s = refl
+  hung-attributes p n (a ∷ ats) s =
+      sum_by-cons (hung T n) a ats ∙ ap₂ (λ (x y : ℕ). x + y) (ap₂ (λ (x y : List ℕ). occurs n (x ++ y)) s.1 s.2) (hung-attributes p n ats s.3)
+
+  -- a number stands in a forest as often as it stands at the top or hangs from a number there
+  met : (p n : ℕ) (F : Forest) → Shows T p F → occurs n (flat F) ≡ occurs n (tops F) + sum_by (hung T n) (flat F)
+  met p n bare s = refl
+  met p n (tree m ats kids rest) s =
+      let own : hung T n m ≡ occurs n ats + occurs n (tops kids) =
+      ap₂ (λ (x y : List ℕ). occurs n (x ++ y)) s.0.attributes s.0.kids_are ∙ occurs-append n ats (tops kids) in
+      omega (
+        arith,
+        own,
+        met m n kids s.1,
+        met p n rest s.2,
+        hung-attributes m n ats s.0.hold,
+        occurs-append n ats (flat kids ++ flat rest),
+        occurs-append n (flat kids) (flat rest),
+        sum_by-cons (hung T n) m (ats ++ (flat kids ++ flat rest)),
+        sum_by-append (hung T n) ats (flat kids ++ flat rest),
+        sum_by-append (hung T n) (flat kids) (flat rest),
+      )
+
+module _ (T : Table) (form : WellFormed T) where
+  -- no number is both an attribute and a kid
+  not-both : (n p : ℕ) → In n (attrs_of T p) → In n (kids_of T p) → ⊥
+  not-both n p a k =
+      true≢false (sym (form.kid_kind p n (In-mem n (kids_of T p) k)) ∙ ap can_be_kid (form.attribute_kind p n (In-mem n (attrs_of T p) a)))
+
+  -- a number hangs once from its parent, and from no other
+  hung-once : (n p m : ℕ) → parent_of T n ≡ Some p → hung T n m ≡ cond (eqb p m) 1 0
+  hung-once n p m up = ⊎_elim
+      (λ (same : p ≡ m).
+      let here : In n (attrs_of T p ++ kids_of T p) = mem-In n (attrs_of T p ++ kids_of T p) (form.is_listed n p up) in
+      let both : hung T n p ≡ occurs n (attrs_of T p) + occurs n (kids_of T p) = occurs-append n (attrs_of T p) (kids_of T p) in
+      let one : hung T n p ≡ 1 = by (occurs n (attrs_of T p)) (occurs n (kids_of T p)) refl refl here both (form.attributes_once p n) (form.kids_once p n) in
+      ap (hung T n) (sym same) ∙ (one ∙ ap (λ b. cond b 1 0) (sym (eq-eqb p m same))))
+      (λ (ne : p ≢ m). none (occurs n (attrs_of T m ++ kids_of T m)) refl ne ∙ ap (λ b. cond b 1 0) (sym (ne_eqb p m ne)))
+      (eq_or p m)
+    where
+      by : (a k : ℕ) → occurs n (attrs_of T p) ≡ a → occurs n (kids_of T p) ≡ k → 1 ≤ hung T n p → hung T n p ≡ occurs n (attrs_of T p) + occurs n (kids_of T p) →
+          occurs n (attrs_of T p) ≤ 1 → occurs n (kids_of T p) ≤ 1 → hung T n p ≡ 1
+      by zero k ea ek here both la lk = omega (arith, ea, ek, here, both, la, lk)
+      by (suc a) zero ea ek here both la lk = omega (arith, ea, ek, here, both, la, lk)
+      by (suc a) (suc k) ea ek here both la lk = absurd (not-both n p (omega (arith, ea)) (omega (arith, ek)))
+
+      none : (c : ℕ) → hung T n m ≡ c → p ≢ m → c ≡ 0
+      none zero e ne = refl
+      none (suc c) e ne =
+          let other : parent_of T n ≡ Some m = ⊎_elim
+          (λ (h : In n (attrs_of T m)). form.attribute_parent m n (In-mem n (attrs_of T m) h))
+          (λ (h : In n (kids_of T m)). form.kid_parent m n (In-mem n (kids_of T m) h))
+          (In-append n (attrs_of T m) (kids_of T m) (omega (arith, e))) in
+          let same : p ≡ m = (cc) in
+          absurd (ne same)
+
+  hung-along : (n p : ℕ) (ms : List ℕ) → parent_of T n ≡ Some p → sum_by (hung T n) ms ≡ occurs p ms
+  hung-along n p [] up = refl
+  hung-along n p (m ∷ ms) up = sum_by-cons (hung T n) m ms ∙ ap₂ (λ (x y : ℕ). x + y) (hung-once n p m up) (hung-along n p ms up)
+
+module _ (T : Table) (form : WellFormed T) (levels : ℕ) (long : length T ≡ suc levels) where
   abbrev forest : Forest
   forest = sprout T levels (kids_of T 0)
 
   root-alone : attrs_of T 0 ≡ []
   root-alone = no_attributes T form 0 (λ is. absurd (cc (form.root_kind, is)))
 
-  numbers-are : order T ≡ 0 ∷ flat_map (numbers_to T levels) (kids_of T 0)
-  numbers-are =
-      ap (λ k. numbers_to T k 0) long
-      ∙ (numbers-next T levels 0 ∙ ap (λ (ats : List ℕ). 0 ∷ (ats ++ flat_map (numbers_to T levels) (kids_of T 0))) root-alone)
+  start : Descends T levels 0 []
+  start = record {
+    way = refl;
+    once = λ m. ⊎_elim
+        (λ (same : m ≡ 0). subst (λ j. occurs j (0 ∷ []) ≤ 1) (sym same) (omega arith))
+        (λ (ne : m ≢ 0). omega (arith, occurs-other m 0 [] ne))
+        (eq_or m 0);
+    room = omega (arith, long);
+  }
 
-  flat-is : 0 ∷ flat forest ≡ upto (length T)
-  flat-is = ap (λ (l : List ℕ). 0 ∷ l) (sprout-flat T levels (kids_of T 0)) ∙ (sym numbers-are ∙ numbered)
-
-  start : Descends T levels 0 (kids_of T 0) (0 ∷ []) []
-  start =
-      let all : 0 ∷ flat_map (numbers_to T levels) (kids_of T 0) ≡ upto (length T) = sym numbers-are ∙ numbered in
-      record {
-        holds = occurs-head 0 [];
-        up = λ m q h e. ⊎_elim
-            (λ (same : m ≡ 0). absurd (let none : parent_of T m ≡ None = ap (parent_of T) same ∙ form.root_parent in cc))
-            (λ (g : In m []). absurd (omega arith))
-            (In-cons m 0 [] h);
-        hang = λ k h. form.kid_parent 0 k (In-mem k (kids_of T 0) h);
-        room = omega (arith, long);
-        count = omega (arith, ap length all, upto-length (length T));
-        once = λ m. omega (arith, ap (occurs m) all);
-      }
-
-  -- where there is one number alone, it is the root's
-  root-kids : (left : ℕ) → left ≡ levels → kids_of T 0 ≡ tops (sprout T left (kids_of T 0))
-  root-kids zero none = by (kids_of T 0) refl
-    where
-      by : (ks : List ℕ) → kids_of T 0 ≡ ks → ks ≡ []
-      by [] e = refl
-      by (k ∷ ks) e =
-          let up : parent_of T k ≡ Some 0 = form.kid_parent 0 k (ap (mem k) e ∙ mem-head k ks) in
-          let made : k < length T = live-below T k (parent-has T k 0 up) in
-          let same : k ≡ 0 = omega (arith, made, long, none) in
-          let top : parent_of T k ≡ None = ap (parent_of T) same ∙ form.root_parent in
-          absurd (cc)
-  root-kids (suc left) some = row-tops T (λ ms. sprout T left ms) (kids_of T 0)
+  root-kids : kids_of T 0 ≡ tops forest
+  root-kids = kids-shown T form levels 0 [] start
 
   shown : Shows T 0 forest
-  shown = sprout-shows T form levels 0 (kids_of T 0) (0 ∷ []) [] start
+  shown = sprout-shows T form levels 0 [] (kids_of T 0) start (λ k h. form.kid_parent 0 k (In-mem k (kids_of T 0) h))
+
+  -- the root stands in the list once
+  root-met : occurs 0 (0 ∷ flat forest) ≡ 1
+  root-met = by (occurs 0 (flat forest)) refl
+    where
+      by : (c : ℕ) → occurs 0 (flat forest) ≡ c → occurs 0 (0 ∷ flat forest) ≡ 1
+      by zero e = omega (arith, occurs-same 0 (flat forest), e)
+      by (suc c) e =
+          let hangs : Hangs T 0 = hangs-shown T 0 forest shown 0 (omega (arith, e)) in
+          absurd (cc (form.root_parent, hangs.parent))
+
+  -- any other number stands there as often as its parent
+  parent-met : (n p : ℕ) → parent_of T n ≡ Some p → occurs n (0 ∷ flat forest) ≡ occurs p (0 ∷ flat forest)
+  parent-met n p up =
+      let ne : n ≢ 0 = λ same. absurd (let none : parent_of T n ≡ None = ap (parent_of T) same ∙ form.root_parent in cc) in
+      let top : hung T n 0 ≡ occurs n (tops forest) = ap₂ (λ (x y : List ℕ). occurs n (x ++ y)) root-alone root-kids in
+      omega (
+        arith,
+        top,
+        occurs-other n 0 (flat forest) ne,
+        met T 0 n forest shown,
+        sum_by-cons (hung T n) 0 (flat forest),
+        hung-along T form n p (0 ∷ flat forest) up,
+      )
+
+  -- so that each number below the root stands there once
+  live-met : (steps n : ℕ) → In 0 (n ∷ climb T steps (parent_of T n)) → occurs n (0 ∷ flat forest) ≡ 1
+  live-met zero n h = ⊎_elim
+      (λ (same : 0 ≡ n). ap (λ j. occurs j (0 ∷ flat forest)) (sym same) ∙ root-met)
+      (λ (g : In 0 []). absurd (omega arith))
+      (In-cons 0 n [] h)
+  live-met (suc steps) n h = ⊎_elim
+      (λ (same : 0 ≡ n). ap (λ j. occurs j (0 ∷ flat forest)) (sym same) ∙ root-met)
+      (λ (g : In 0 (climb T (suc steps) (parent_of T n))). higher (parent_of T n) refl g (λ p k. live-met steps p k))
+      (In-cons 0 n (climb T (suc steps) (parent_of T n)) h)
+    where
+      higher : (o : Option ℕ) → parent_of T n ≡ o → In 0 (climb T (suc steps) o) → ((p : ℕ) → In 0 (p ∷ climb T steps (parent_of T p)) → occurs p (0 ∷ flat forest) ≡ 1) →
+          occurs n (0 ∷ flat forest) ≡ 1
+      higher None e g rec = absurd (omega arith)
+      higher (Some p) e g rec = parent-met n p e ∙ rec p g
+
+  -- what stands there lives
+  met-live : (n : ℕ) → In n (0 ∷ flat forest) → is_live T n ≡ true
+  met-live n h = ⊎_elim
+      (λ (same : n ≡ 0). ap (is_live T) same ∙ has-kind T 0 form.root_kind)
+      (λ (g : In n (flat forest)). let hangs : Hangs T n = hangs-shown T 0 forest shown n g in parent-has T n hangs.from hangs.parent)
+      (In-cons n 0 (flat forest) h)
 
   each-once : (n : ℕ) → occurs n (0 ∷ flat forest) ≡ alive T n
-  each-once n = ap (occurs n) flat-is ∙ by (is_live T n) refl
+  each-once n = by (is_live T n) refl
     where
-      by : (b : Bool) → is_live T n ≡ b → occurs n (upto (length T)) ≡ cond b 1 0
-      by true e = upto-once n (length T) (live-below T n e)
-      by false e = ⊎_elim
-          (λ (made : n < length T).
-          let here : In n (0 ∷ flat forest) = omega (arith, ap (occurs n) flat-is, upto-once n (length T) made) in
-          absurd (true≢false (sym (⊎_elim
-          (λ (same : n ≡ 0). ap (is_live T) same ∙ has-kind T 0 form.root_kind)
-          (λ (g : In n (flat forest)). shows-live T 0 forest shown n g)
-          (In-cons n 0 (flat forest) here)) ∙ e)))
-          (λ (past : length T ≤ n). upto-past n (length T) past)
-          (cases_lt n (length T))
+      by : (b : Bool) → is_live T n ≡ b → occurs n (0 ∷ flat forest) ≡ cond b 1 0
+      by true e = live-met (length T) n (mem-In 0 (above T n) (form.is_rooted n e))
+      by false e = none (occurs n (0 ∷ flat forest)) refl
+        where
+          none : (c : ℕ) → occurs n (0 ∷ flat forest) ≡ c → c ≡ 0
+          none zero r = refl
+          none (suc c) r = absurd (true≢false (sym (met-live n (omega (arith, r))) ∙ e))
 
   whole-with : Whole T forest
   whole-with = record {
-    root = record { no_parent = form.root_parent; no_attributes = root-alone; kids_are = root-kids levels refl };
+    root = record { no_parent = form.root_parent; no_attributes = root-alone; kids_are = root-kids };
     shows = shown;
     once = each-once;
-    few = omega (arith, size-flat forest, ap length flat-is, upto-length (length T));
+    few =
+        let short : length (0 ∷ flat forest) ≤ length T =
+        few-below (length T) (0 ∷ flat forest) (λ m. omega (arith, each-once m, alive-one T m)) (λ m h. live-below T m (met-live m h)) in
+        omega (arith, size-flat forest, short);
   }
 
 -- the forest of a table
@@ -333,15 +343,15 @@ pub forest_of : Table → Forest
 forest_of [] = bare
 forest_of (entry ∷ T) = sprout (entry ∷ T) (length T) (kids_of (entry ∷ T) 0)
 
-pub whole-of : (T : Table) → WellFormed T → IsInOrder T → Whole T (forest_of T)
+pub whole-of : (T : Table) → WellFormed T → Whole T (forest_of T)
 unfolding forest_of
-whole-of [] form numbered = absurd (let none : kind_of [] 0 ≡ Some Root = form.root_kind in cc)
-whole-of (entry ∷ T) form numbered = whole-with (entry ∷ T) form numbered (length T) refl
+whole-of [] form = absurd (let none : kind_of [] 0 ≡ Some Root = form.root_kind in cc)
+whole-of (entry ∷ T) form = whole-with (entry ∷ T) form (length T) refl
 
--- a well-formed table whose numbers are in document order is a tree's
-pub formed-of : (T : Table) → WellFormed T → IsInOrder T → Formed T
-formed-of T form numbered =
-    let w : Whole T (forest_of T) = whole-of T form numbered in
+-- a well-formed table is a tree's
+pub formed-of : (T : Table) → WellFormed T → Formed T
+formed-of T form =
+    let w : Whole T (forest_of T) = whole-of T form in
     record {
       forest = forest_of T;
       whole = w;

@@ -1,23 +1,24 @@
 -- The kept nodes with one declaration more.
-use Rattle.std.proofs.Common.{◌≡◌, ℕ, suc, zero, List, [], ◌∷◌, length, get_or, set, Option, None, Some, true, refl, sym, ap, ◌∙◌, subst}
+use Rattle.std.proofs.Common.{◌≡◌, ℕ, ◌*◌, suc, zero, List, [], ◌∷◌, length, length-set, get_or, set, Option, None, Some, true, refl, sym, ap, ◌∙◌, subst}
 use Rattle.std.proofs.lemmas.List.{map-set}
 use Rattle.std.specs.Prelude.{Result, Ok, Err, OnOk, OnErr}
 use Rattle.doc_table.specs.declared.kind.Kind.TheVariants.{Element}
 use Rattle.doc_table.specs.declared.node.Node.{Node}
 use Rattle.doc_table.specs.declared.node.NodeContent.{NodeContent}
 use Rattle.doc_table.specs.declared.node.NodeContent.TheVariants as kept
-use Rattle.doc_table.specs.Lists.{mem}
+use Rattle.doc_table.specs.Lists.{Rise}
 use Rattle.doc_table.specs.Table.{Table, Name, kind_of, is_live}
-use Rattle.doc_table.specs.Walks.{ancestors}
-use Rattle.doc_table.specs.inner.Kept.{depth_at, place_at, place_in, IsPlace, NameIsBelow, NamesAreBelow}
+use Rattle.doc_table.specs.Walks.{ancestors, order}
+use Rattle.doc_table.specs.declared.ranks.TheConstants.{RANK_STEP}
+use Rattle.doc_table.specs.inner.Kept.{depth_at, rank_at, ranks_of, NameIsBelow, NamesAreBelow}
 use Rattle.doc_table.specs.inner.KeptDecls.{content_declaring, kept_declaring_at}
 use Rattle.doc_table.specs.inner.Views.{content_seen, node_seen, table_seen}
 use Rattle.doc_table.specs.Scope.{Decl}
 use Rattle.doc_table.specs.Declaring.{declaring, declaring_at, with_decl, Declared}
 use Rattle.doc_table.specs.inner.Sound.{Sound}
 use Rattle.doc_table.specs.inner.Parts.{Parts, IsSound, table_of}
-use Rattle.doc_table.proofs.SoundLemmas.{seen-entry, number-set}
-use Rattle.doc_table.proofs.DeclareLemmas.{formed-declared, declared, same-live, same-kids, same-attributes, same-ancestors, same-count, same-held}
+use Rattle.doc_table.proofs.SoundLemmas.{seen-entry, number-set, ranks-same}
+use Rattle.doc_table.proofs.DeclareLemmas.{formed-declared, declared, same-live, same-ancestors, same-order, same-count, same-held}
 
 content-declared : (names : List Name) (d : Decl) (c : NodeContent) → content_seen names (content_declaring d c) ≡ declaring d (content_seen names c)
 content-declared names d kept.Root = refl
@@ -51,9 +52,9 @@ depth-kept : (d : Decl) (o : Option Node) → depth_at (kept_declaring_at d o) �
 depth-kept d None = refl
 depth-kept d (Some node) = refl
 
-place-kept : (d : Decl) (o : Option Node) → place_at (kept_declaring_at d o) ≡ place_at o
-place-kept d None = refl
-place-kept d (Some node) = refl
+rank-kept : (d : Decl) (o : Option Node) → rank_at (kept_declaring_at d o) ≡ rank_at o
+rank-kept d None = refl
+rank-kept d (Some node) = refl
 
 module _ (names : List Name) (nodes : List (Option Node)) (n : ℕ) (d : Decl) where
   table-declared : table_seen names (set nodes n (kept_declaring_at d (get_or nodes n None))) ≡ with_decl (table_seen names nodes) n d
@@ -69,16 +70,14 @@ module _ (names : List Name) (nodes : List (Option Node)) (n : ℕ) (d : Decl) w
       let T : Table = table_seen names nodes in
       let depths : (m : ℕ) → is_live (with_decl T n d) m ≡ true → depth_at (get_or (set nodes n (kept_declaring_at d (get_or nodes n None))) m None) ≡ length (ancestors (with_decl T n d) m) =
       λ m h. number-set depth_at nodes n m _ (depth-kept d (get_or nodes n None)) ∙ (s.depths m (sym (same-live T n d m) ∙ h) ∙ ap length (sym (same-ancestors T n d m))) in
-      let places : (m : ℕ) → IsPlace (with_decl T n d) m (place_at (get_or (set nodes n (kept_declaring_at d (get_or nodes n None))) m None)) =
-      λ m. subst (IsPlace (with_decl T n d) m) (sym (number-set place_at nodes n m _ (place-kept d (get_or nodes n None)))) (record {
-        among_attributes = λ p h. (s.places m).among_attributes p (ap (mem m) (sym (same-attributes T n d p)) ∙ h) ∙ ap (place_in m) (sym (same-attributes T n d p));
-        among_kids = λ p h. (s.places m).among_kids p (ap (mem m) (sym (same-kids T n d p)) ∙ h) ∙ ap (place_in m) (sym (same-kids T n d p));
-      }) in (
+      let ranks : Rise 0 (ranks_of (set nodes n (kept_declaring_at d (get_or nodes n None))) (order (with_decl T n d))) (RANK_STEP * length (set nodes n (kept_declaring_at d (get_or nodes n None)))) =
+      rw (same-order T n d, length-set nodes n (kept_declaring_at d (get_or nodes n None)))
+      (ranks-same nodes n (kept_declaring_at d (get_or nodes n None)) (order T) 0 (RANK_STEP * length nodes) (rank-kept d (get_or nodes n None)) s.ranks) in (
         record {
           formed = rw table-declared (formed-declared T n d s.formed);
           known = names-kept (length names) d nodes n s.known;
           depths = rw table-declared depths;
-          places = rw table-declared places;
+          ranks = rw table-declared ranks;
           live_is = rw table-declared (s.live_is ∙ sym (same-count T n d));
           bytes_is = rw table-declared (s.bytes_is ∙ sym (same-held T n d));
         },

@@ -10,11 +10,13 @@ pub mod Fitting
 pub mod Appending
 pub mod Below
 pub mod TreeLaws
-pub mod Siblings
+pub mod Rising
 pub mod SoundLemmas
 pub mod DeclareLemmas
 pub mod KeptDeclLemmas
 pub mod Forests
 pub mod ByNumber
 pub mod OneForest
+pub mod Positions
+pub mod SameTreeLemmas
 pub mod OneTable

@@ -1,6 +1,6 @@
--- What the lines and the numbers of a forest tell: the forest and the contents of its nodes, since each node but the root
--- begins with a line of its own, and an element ends with one.
-use Rattle.std.proofs.Common.{◌≡◌, ℕ, ◌≤◌, Bool, true, false, List, [], ◌∷◌, ◌++◌, map, Option, None, Some, refl, sym, ap, ap₂, ◌∙◌, subst, ⊎_elim, arith, append_assoc}
+-- What the lines of a forest tell: its shape and the contents of its nodes, since each node but the root begins with a line of
+-- its own, and an element ends with one.
+use Rattle.std.proofs.Common.{◌≡◌, ℕ, ◌≤◌, Bool, true, false, List, [], ◌∷◌, ◌++◌, map, Option, None, Some, refl, sym, ap, ap₂, ◌∙◌, subst, arith, append_assoc}
 use Rattle.std.specs.List.{flat_map}
 use Rattle.doc_table.specs.declared.kind.Kind.TheVariants.{Attribute}
 use Rattle.doc_table.specs.Lists.{mem}
@@ -8,8 +8,8 @@ use Rattle.doc_table.specs.Table.{Table, Name, Content, root, element, attribute
 use Rattle.doc_table.specs.Kinds.{can_be_kid, holds_kids, is_element}
 use Rattle.doc_table.specs.Lines.{Line, starts, declares, has_attribute, ends, has_text, has_comment, has_instruction, first_lines, last_lines, lines_at, opens, closes}
 use Rattle.doc_table.specs.Laws.{WellFormed}
-use Rattle.doc_table.specs.inner.Forest.{Forest, bare, tree, tops, flat, Shows}
-use Rattle.doc_table.proofs.ListLemmas.{In, In-mem, In-cons, In-append, occurs-head}
+use Rattle.doc_table.specs.inner.Forest.{Forest, bare, tree, tops, Shows}
+use Rattle.doc_table.proofs.ListLemmas.{In, In-mem, occurs-head}
 use Rattle.doc_table.proofs.Telling.{told}
 use Rattle.doc_table.proofs.Forests.{no_kids}
 
@@ -136,21 +136,30 @@ module _ (T : Table) where
       ap front (told-parts n ats kids rest are.0 xs) ∙ front-first are.0.content are.0.kid _ in
       omega (arith, same)
 
-module _ (T U : Table) where
-  record SamePairs (ats bs : List ℕ) (X Y : List Line) (ks ls : List ℕ) : Type 0 where
-    numbers : ats ≡ bs
-    contents : (m : ℕ) → In m ats → content_of T m ≡ content_of U m
-    lines_left : X ≡ Y
-    numbers_left : ks ≡ ls
+-- attributes with the same contents, one by one
+abbrev pub AlikePairs : Table → Table → List ℕ → List ℕ → Type 0
+AlikePairs T U [] [] = Unit {0}
+AlikePairs T U [] (b ∷ bs) = ⊥
+AlikePairs T U (a ∷ ats) [] = ⊥
+AlikePairs T U (a ∷ ats) (b ∷ bs) = (content_of U b ≡ content_of T a) × AlikePairs T U ats bs
 
-  pairs-same : (ats bs : List ℕ) → ArePairs T ats → ArePairs U bs → (X Y : List Line) → front X ≤ 1 → front Y ≤ 1 → (ks ls : List ℕ) →
-      flat_map (opens T) ats ++ X ≡ flat_map (opens U) bs ++ Y → ats ++ ks ≡ bs ++ ls → SamePairs ats bs X Y ks ls
-  pairs-same [] [] p q X Y fx fy ks ls h k = record { numbers = refl; contents = λ m i. absurd (omega arith); lines_left = h; numbers_left = k }
-  pairs-same [] (b ∷ bs) p q X Y fx fy ks ls h k =
+-- forests of one shape with the same contents, node by node
+abbrev pub AlikeForests : Table → Table → Forest → Forest → Type 0
+AlikeForests T U bare bare = Unit {0}
+AlikeForests T U bare (tree m bs kids2 rest2) = ⊥
+AlikeForests T U (tree n ats kids rest) bare = ⊥
+AlikeForests T U (tree n ats kids rest) (tree m bs kids2 rest2) =
+    (content_of U m ≡ content_of T n) × AlikePairs T U ats bs × AlikeForests T U kids kids2 × AlikeForests T U rest rest2
+
+module _ (T U : Table) where
+  pairs-same : (ats bs : List ℕ) → ArePairs T ats → ArePairs U bs → (X Y : List Line) → front X ≤ 1 → front Y ≤ 1 →
+      flat_map (opens T) ats ++ X ≡ flat_map (opens U) bs ++ Y → AlikePairs T U ats bs × (X ≡ Y)
+  pairs-same [] [] p q X Y fx fy h = (tt, h)
+  pairs-same [] (b ∷ bs) p q X Y fx fy h =
       absurd (omega (arith, fx, ap front h, ap (λ (l : List Line). front ((l ++ flat_map (opens U) bs) ++ Y)) (pair-opens U b q.0)))
-  pairs-same (a ∷ ats) [] p q X Y fx fy ks ls h k =
+  pairs-same (a ∷ ats) [] p q X Y fx fy h =
       absurd (omega (arith, fy, ap front h, ap (λ (l : List Line). front ((l ++ flat_map (opens T) ats) ++ X)) (pair-opens T a p.0)))
-  pairs-same (a ∷ ats) (b ∷ bs) p q X Y fx fy ks ls h k =
+  pairs-same (a ∷ ats) (b ∷ bs) p q X Y fx fy h =
       let told_a : (opens T a ++ flat_map (opens T) ats) ++ X ≡ has_attribute p.0.name p.0.value ∷ (flat_map (opens T) ats ++ X) =
       ap (λ (l : List Line). (l ++ flat_map (opens T) ats) ++ X) (pair-opens T a p.0) in
       let told_b : (opens U b ++ flat_map (opens U) bs) ++ Y ≡ has_attribute q.0.name q.0.value ∷ (flat_map (opens U) bs ++ Y) =
@@ -159,53 +168,38 @@ module _ (T U : Table) where
       let names : p.0.name ≡ q.0.name = (cc lines) in
       let values : p.0.value ≡ q.0.value = (cc lines) in
       let after : flat_map (opens T) ats ++ X ≡ flat_map (opens U) bs ++ Y = (cc lines) in
-      let here : a ≡ b = (cc) in
-      let numbers : ats ++ ks ≡ bs ++ ls = (cc) in
-      let more : SamePairs ats bs X Y ks ls = pairs-same ats bs p.1 q.1 X Y fx fy ks ls after numbers in
-      record {
-        numbers = ap₂ (λ (x : ℕ) (xs : List ℕ). x ∷ xs) here more.numbers;
-        contents = λ m i. ⊎_elim
-            (λ (e : m ≡ a). ap (content_of T) e ∙ (p.0.is ∙ (ap Some (ap₂ attribute names values) ∙ (sym q.0.is ∙ ap (content_of U) (sym (e ∙ here))))))
-            (λ (g : In m ats). more.contents m g)
-            (In-cons m a ats i);
-        lines_left = more.lines_left;
-        numbers_left = more.numbers_left;
-      }
+      let more : AlikePairs T U ats bs × (X ≡ Y) = pairs-same ats bs p.1 q.1 X Y fx fy after in
+      ((q.0.is ∙ (ap Some (sym (ap₂ attribute names values)) ∙ sym p.0.is), more.0), more.1)
 
-  -- the same forest, with the same contents, and the same of what is left of lines and numbers
-  pub record Same (F G : Forest) (xs ys : List Line) (ks ls : List ℕ) : Type 0 where
-    pub forests : F ≡ G
-    pub contents : (m : ℕ) → In m (flat F) → content_of T m ≡ content_of U m
+  -- the same forest but for its numbers, and the same of what is left of the lines
+  pub record Same (F G : Forest) (xs ys : List Line) : Type 0 where
+    pub forests : AlikeForests T U F G
     pub lines_left : xs ≡ ys
-    pub numbers_left : ks ≡ ls
 
   abbrev pub Agree : Forest → Forest → Type 0
   Agree F G =
-      AreNodes T F → AreNodes U G → (xs ys : List Line) → front xs ≡ 0 → front ys ≡ 0 → (ks ls : List ℕ) →
-      told (opens T) (closes T) F ++ xs ≡ told (opens U) (closes U) G ++ ys → flat F ++ ks ≡ flat G ++ ls → Same F G xs ys ks ls
+      AreNodes T F → AreNodes U G → (xs ys : List Line) → front xs ≡ 0 → front ys ≡ 0 →
+      told (opens T) (closes T) F ++ xs ≡ told (opens U) (closes U) G ++ ys → Same F G xs ys
 
   -- the kids of two nodes with one content
   kids-same : (c : Content) (F G : Forest) → Agree F G → AreNodes T F → AreNodes U G → (is_element (Some (kind_in c)) ≡ false → F ≡ bare) → (is_element (Some (kind_in c)) ≡ false → G ≡ bare) →
-      (X Y : List Line) (ks ls : List ℕ) → told (opens T) (closes T) F ++ (last_lines c ++ X) ≡ told (opens U) (closes U) G ++ (last_lines c ++ Y) → flat F ++ ks ≡ flat G ++ ls →
-      Same F G X Y ks ls
-  kids-same c F G agree are others no_F no_G X Y ks ls h k = by (is_element (Some (kind_in c))) refl
+      (X Y : List Line) → told (opens T) (closes T) F ++ (last_lines c ++ X) ≡ told (opens U) (closes U) G ++ (last_lines c ++ Y) → Same F G X Y
+  kids-same c F G agree are others no_F no_G X Y h = by (is_element (Some (kind_in c))) refl
     where
-      by : (b : Bool) → is_element (Some (kind_in c)) ≡ b → Same F G X Y ks ls
+      by : (b : Bool) → is_element (Some (kind_in c)) ≡ b → Same F G X Y
       by true e =
-          let r : Same F G (last_lines c ++ X) (last_lines c ++ Y) ks ls = agree are others (last_lines c ++ X) (last_lines c ++ Y) (front-end c e X) (front-end c e Y) ks ls h k in
-          record { forests = r.forests; contents = r.contents; lines_left = end-same c X Y r.lines_left; numbers_left = r.numbers_left }
+          let r : Same F G (last_lines c ++ X) (last_lines c ++ Y) = agree are others (last_lines c ++ X) (last_lines c ++ Y) (front-end c e X) (front-end c e Y) h in
+          record { forests = r.forests; lines_left = end-same c X Y r.lines_left }
       by false e =
           let f : F ≡ bare = no_F e in
           let g : G ≡ bare = no_G e in
           record {
-            forests = f ∙ sym g;
-            contents = λ m i. absurd (let none : In m (flat bare) = subst (λ H. In m (flat H)) f i in omega (arith, none));
+            forests = subst (λ H. AlikeForests T U H G) (sym f) (subst (λ H. AlikeForests T U bare H) (sym g) tt);
             lines_left = end-same c X Y (sym (ap (λ H. told (opens T) (closes T) H ++ (last_lines c ++ X)) f) ∙ (h ∙ ap (λ H. told (opens U) (closes U) H ++ (last_lines c ++ Y)) g));
-            numbers_left = sym (ap (λ H. flat H ++ ks) f) ∙ (k ∙ ap (λ H. flat H ++ ls) g);
           }
 
   agree-tree : (n : ℕ) (ats : List ℕ) (kids rest : Forest) (m : ℕ) (bs : List ℕ) (kids2 rest2 : Forest) → Agree kids kids2 → Agree rest rest2 → Agree (tree n ats kids rest) (tree m bs kids2 rest2)
-  agree-tree n ats kids rest m bs kids2 rest2 inner later f g xs ys fx fy ks ls h k =
+  agree-tree n ats kids rest m bs kids2 rest2 inner later f g xs ys fx fy h =
       let c : Content = f.0.content in
       let d : Content = g.0.content in
       let Z : List Line = told (opens T) (closes T) rest ++ xs in
@@ -217,38 +211,21 @@ module _ (T U : Table) where
       let one : (c ≡ d) × (flat_map (opens T) ats ++ X ≡ flat_map (opens U) bs ++ Y) =
       first-same c d f.0.kid g.0.kid (flat_map (opens T) ats ++ X) (flat_map (opens U) bs ++ Y) (front-pairs T ats f.0.pairs X front_X) (front-pairs U bs g.0.pairs Y front_Y)
       (sym (told-parts T n ats kids rest f.0 xs) ∙ (h ∙ told-parts U m bs kids2 rest2 g.0 ys)) in
-      let number : n ≡ m = (cc k) in
-      let numbers : (ats ++ (flat kids ++ flat rest)) ++ ks ≡ (bs ++ (flat kids2 ++ flat rest2)) ++ ls = (cc k) in
-      let spread : ats ++ (flat kids ++ (flat rest ++ ks)) ≡ bs ++ (flat kids2 ++ (flat rest2 ++ ls)) = simp append_assoc at numbers in
-      let two : SamePairs ats bs X Y (flat kids ++ (flat rest ++ ks)) (flat kids2 ++ (flat rest2 ++ ls)) =
-      pairs-same ats bs f.0.pairs g.0.pairs X Y front_X front_Y (flat kids ++ (flat rest ++ ks)) (flat kids2 ++ (flat rest2 ++ ls)) one.1 spread in
-      let three : Same kids kids2 Z W (flat rest ++ ks) (flat rest2 ++ ls) =
-      kids-same c kids kids2 inner f.1 g.1 f.0.leaf (λ e. g.0.leaf (ap (λ (x : Content). is_element (Some (kind_in x))) (sym one.0) ∙ e)) Z W (flat rest ++ ks) (flat rest2 ++ ls)
-      (two.lines_left ∙ ap (λ (x : Content). told (opens U) (closes U) kids2 ++ (last_lines x ++ W)) (sym one.0)) two.numbers_left in
-      let four : Same rest rest2 xs ys ks ls = later f.2 g.2 xs ys fx fy ks ls three.lines_left three.numbers_left in
+      let two : AlikePairs T U ats bs × (X ≡ Y) = pairs-same ats bs f.0.pairs g.0.pairs X Y front_X front_Y one.1 in
+      let three : Same kids kids2 Z W =
+      kids-same c kids kids2 inner f.1 g.1 f.0.leaf (λ e. g.0.leaf (ap (λ (x : Content). is_element (Some (kind_in x))) (sym one.0) ∙ e)) Z W
+      (two.1 ∙ ap (λ (x : Content). told (opens U) (closes U) kids2 ++ (last_lines x ++ W)) (sym one.0)) in
+      let four : Same rest rest2 xs ys = later f.2 g.2 xs ys fx fy three.lines_left in
       record {
-        forests =
-            ap₂ (λ (x : ℕ) (l : List ℕ). tree x l kids rest) number two.numbers
-            ∙ ap₂ (λ (F G : Forest). tree m bs F G) three.forests four.forests;
-        contents = λ q i. ⊎_elim
-            (λ (e : q ≡ n). ap (content_of T) e ∙ (f.0.is ∙ (ap Some one.0 ∙ (sym g.0.is ∙ ap (content_of U) (sym (e ∙ number))))))
-            (λ (i1 : In q (ats ++ (flat kids ++ flat rest))). ⊎_elim
-            (λ (j : In q ats). two.contents q j)
-            (λ (i2 : In q (flat kids ++ flat rest)). ⊎_elim
-            (λ (j : In q (flat kids)). three.contents q j)
-            (λ (j : In q (flat rest)). four.contents q j)
-            (In-append q (flat kids) (flat rest) i2))
-            (In-append q ats (flat kids ++ flat rest) i1))
-            (In-cons q n (ats ++ (flat kids ++ flat rest)) i);
+        forests = (g.0.is ∙ (ap Some (sym one.0) ∙ sym f.0.is), two.0, three.forests, four.forests);
         lines_left = four.lines_left;
-        numbers_left = four.numbers_left;
       }
 
   pub agree : (F G : Forest) → Agree F G
-  agree bare bare = λ f g xs ys fx fy ks ls h k. record { forests = refl; contents = λ m i. absurd (omega arith); lines_left = h; numbers_left = k }
-  agree bare (tree m bs kids2 rest2) = λ f g xs ys fx fy ks ls h k.
+  agree bare bare = λ f g xs ys fx fy h. record { forests = tt; lines_left = h }
+  agree bare (tree m bs kids2 rest2) = λ f g xs ys fx fy h.
       absurd (omega (arith, fx, ap front (h ∙ told-parts U m bs kids2 rest2 g.0 ys), front-first g.0.content g.0.kid (flat_map (opens U) bs ++ (told (opens U) (closes U) kids2 ++ (last_lines g.0.content ++ (told (opens U) (closes U) rest2 ++ ys))))))
-  agree (tree n ats kids rest) bare = λ f g xs ys fx fy ks ls h k.
+  agree (tree n ats kids rest) bare = λ f g xs ys fx fy h.
       absurd (omega (arith, fy, ap front (sym h ∙ told-parts T n ats kids rest f.0 xs), front-first f.0.content f.0.kid (flat_map (opens T) ats ++ (told (opens T) (closes T) kids ++ (last_lines f.0.content ++ (told (opens T) (closes T) rest ++ xs))))))
   agree (tree n ats kids rest) (tree m bs kids2 rest2) = agree-tree n ats kids rest m bs kids2 rest2 (agree kids kids2) (agree rest rest2)
 

@@ -1,29 +1,32 @@
 -- The kept nodes: a tree of the root alone, names that grow, and one node more.
-use Rattle.std.proofs.Common.{◌≡◌, ◌≢◌, ℕ, ◌+◌, ◌<◌, ◌≤◌, suc, zero, Bool, true, false, List, [], ◌∷◌, ◌++◌, length, get_or, set, Option, None, Some, refl, sym, ap, ap₂, ◌∙◌, subst, ⊎_elim, true≢false, arith, append-nil, length-set, length-append}
+use Rattle.std.proofs.Common.{◌≡◌, ◌≢◌, ℕ, ◌+◌, ◌*◌, ◌<◌, ◌≤◌, suc, zero, Bool, true, false, List, [], ◌∷◌, ◌++◌, length, get_or, set, Option, None, Some, refl, sym, ap, ap₂, ◌∙◌, subst, ⊎_elim, true≢false, arith, append-nil, length-set, length-append}
 use Rattle.std.proofs.lemmas.List.{map-set, map-append}
-use Rattle.std.specs.Prelude.{Result, Ok, Err, IfOk, OnErr, if◌then◌else◌}
+use Rattle.std.specs.Prelude.{Result, Ok, Err, IfOk, OnErr}
 use Rattle.doc_table.specs.declared.node.Label.{Label}
 use Rattle.doc_table.specs.declared.node.Label.TheVariants as label
 use Rattle.doc_table.specs.declared.node.Node.{Node}
 use Rattle.doc_table.specs.declared.node.NodeContent.{NodeContent}
 use Rattle.doc_table.specs.declared.node.NodeContent.TheVariants as kept
-use Rattle.doc_table.specs.Lists.{mem, occurs}
-use Rattle.doc_table.specs.Table.{Table, Name, Content, entry_at, kids_of, attrs_of, kind_of, is_live, numbered, AllLive, value_in, no_name, root_alone}
-use Rattle.doc_table.specs.Walks.{ancestors, above, is_open}
+use Rattle.doc_table.specs.Lists.{occurs, Rise}
+use Rattle.doc_table.specs.Table.{Table, Name, Content, entry_at, kind_of, is_live, numbered, AllLive, value_in, no_name, root_alone}
+use Rattle.doc_table.specs.Walks.{ancestors, above, is_open, order}
 use Rattle.doc_table.specs.inner.Labels.{label_is_attribute, content_labelled, kept_labelled, LabelIsBelow}
-use Rattle.doc_table.specs.Growth.{FitsUnder, passed_limit, with_node, with_link, leaf, as_kid, as_attribute, Grew}
+use Rattle.doc_table.specs.Growth.{FitsUnder, passed_limit, with_node, with_link, leaf, Grew}
 use Rattle.doc_table.specs.Kinds.{holds_kids}
-use Rattle.doc_table.specs.inner.Kept.{depth_at, place_at, IsPlace, NameIsBelow, NamesAreBelow, kept_link}
+use Rattle.doc_table.specs.declared.ranks.TheConstants.{RANK_STEP}
+use Rattle.doc_table.specs.inner.Growing.{new_node, grown_nodes, grown}
+use Rattle.doc_table.specs.inner.Kept.{depth_at, rank_at, ranks_of, NameIsBelow, NamesAreBelow, kept_link}
 use Rattle.doc_table.specs.inner.Views.{content_seen, node_seen, table_seen}
 use Rattle.doc_names.specs.Numbering.{Numbered}
 use Rattle.doc_table.specs.inner.Sound.{Fits, Sound}
 use Rattle.doc_table.specs.inner.Parts.{Parts, IsSound, table_of}
 use Rattle.doc_table.specs.inner.Forest.{bare, alive}
-use Rattle.doc_table.proofs.ListLemmas.{get-last, eq_or, occurs-other}
+use Rattle.doc_table.proofs.ListLemmas.{In-mem, get-last, eq_or, occurs-other}
 use Rattle.doc_names.proofs.NumberLemmas.{get-front}
-use Rattle.doc_table.proofs.Growing.{live-kept}
+use Rattle.doc_table.proofs.Growing.{live-kept, old-number}
 use Rattle.doc_table.proofs.Appending.{appended, holder-live}
-use Rattle.doc_table.proofs.Siblings.{place-kept, place-new}
+use Rattle.doc_table.proofs.Rising.{map-agree, ranks-append, rise-within}
+use Rattle.doc_table.proofs.TreeLaws.{ordered}
 
 -- the entry that a kept node shows
 pub seen-entry : (names : List Name) (nodes : List (Option Node)) (n : ℕ) → entry_at (table_seen names nodes) n ≡ node_seen names (get_or nodes n None)
@@ -37,7 +40,7 @@ seen-length names (first ∷ nodes) = ap suc (seen-length names nodes)
 
 -- the tree of the root alone
 abbrev pub root_node : Node
-root_node = record { parent = None; depth = 0; place = 0; kids = []; attributes = []; content = kept.Root }
+root_node = record { parent = None; depth = 0; rank = 0; kids = []; attributes = []; content = kept.Root }
 
 lone-once : (n : ℕ) → occurs n (0 ∷ []) ≡ alive root_alone.nodes n
 lone-once zero = refl
@@ -72,17 +75,6 @@ lone-depths : (names : List Name) (n : ℕ) → is_live (table_seen names (Some 
 lone-depths names zero h = refl
 lone-depths names (suc n) h = absurd (true≢false (sym h))
 
-lone-places : (names : List Name) (n place : ℕ) → IsPlace (table_seen names (Some root_node ∷ [])) n place
-lone-places names n place = record { among_attributes = λ p h. absurd (no-attribute p h); among_kids = λ p h. absurd (no-kid p h) }
-  where
-    no-attribute : (p : ℕ) → mem n (attrs_of (table_seen names (Some root_node ∷ [])) p) ≡ true → ⊥
-    no-attribute zero h = true≢false (sym h)
-    no-attribute (suc p) h = true≢false (sym h)
-
-    no-kid : (p : ℕ) → mem n (kids_of (table_seen names (Some root_node ∷ [])) p) ≡ true → ⊥
-    no-kid zero h = true≢false (sym h)
-    no-kid (suc p) h = true≢false (sym h)
-
 pub sound_alone : (names : List Name) → Sound (Some root_node ∷ []) names 1 0
 sound_alone names = record {
   formed = record {
@@ -101,7 +93,7 @@ sound_alone names = record {
   };
   known = (tt, tt);
   depths = lone-depths names;
-  places = λ n. lone-places names n _;
+  ranks = (omega arith, omega arith);
   live_is = refl;
   bytes_is = refl;
 }
@@ -155,7 +147,7 @@ sound-named nodes before after name number live bytes n s =
       formed = rw same s.formed;
       known = names-more (length before) (length after) nodes (numbered-longer before after name number n) s.known;
       depths = rw same s.depths;
-      places = rw same s.places;
+      ranks = rw same s.ranks;
       live_is = rw same s.live_is;
       bytes_is = rw same s.bytes_is;
     }
@@ -210,10 +202,10 @@ depth-linked n b None = refl
 depth-linked n true (Some node) = refl
 depth-linked n false (Some node) = refl
 
-pub place-linked : (n : ℕ) (b : Bool) (o : Option Node) → place_at (kept_link n b o) ≡ place_at o
-place-linked n b None = refl
-place-linked n true (Some node) = refl
-place-linked n false (Some node) = refl
+pub rank-linked : (n : ℕ) (b : Bool) (o : Option Node) → rank_at (kept_link n b o) ≡ rank_at o
+rank-linked n b None = refl
+rank-linked n true (Some node) = refl
+rank-linked n false (Some node) = refl
 
 -- a number that is kept with each node stays where the node put in place of one has the same
 pub number-set : (f : Option Node → ℕ) (nodes : List (Option Node)) (p m : ℕ) (v : Option Node) → f v ≡ f (get_or nodes p None) → f (get_or (set nodes p v) m None) ≡ f (get_or nodes m None)
@@ -223,33 +215,13 @@ number-set f (first ∷ nodes) zero (suc m) v same = refl
 number-set f (first ∷ nodes) (suc p) zero v same = refl
 number-set f (first ∷ nodes) (suc p) (suc m) v same = number-set f nodes p m v same
 
--- the new node is an attribute or a kid by its label
-attribute-place : (names : List Name) (l : Label) (characters : List ℕ) (n : ℕ) (attributes kids : List ℕ) →
-    mem n (as_attribute (content_labelled names l characters) n) ≡ true → length (if label_is_attribute l then attributes else kids) ≡ length attributes
-attribute-place names (label.Element id) characters n attributes kids h = absurd (true≢false (sym h))
-attribute-place names (label.Attribute id) characters n attributes kids h = refl
-attribute-place names label.Text characters n attributes kids h = absurd (true≢false (sym h))
-attribute-place names label.Comment characters n attributes kids h = absurd (true≢false (sym h))
-attribute-place names (label.Pi id) characters n attributes kids h = absurd (true≢false (sym h))
+-- so ranks stay too
+pub ranks-same : (nodes : List (Option Node)) (p : ℕ) (v : Option Node) (ns : List ℕ) (low high : ℕ) → rank_at v ≡ rank_at (get_or nodes p None) → Rise low (ranks_of nodes ns) high →
+    Rise low (ranks_of (set nodes p v) ns) high
+ranks-same nodes p v ns low high same = subst (λ ranks. Rise low ranks high) (map-agree _ _ ns (λ m h. sym (number-set rank_at nodes p m v same)))
 
-kid-place : (names : List Name) (l : Label) (characters : List ℕ) (n : ℕ) (attributes kids : List ℕ) →
-    mem n (as_kid (content_labelled names l characters) n) ≡ true → length (if label_is_attribute l then attributes else kids) ≡ length kids
-kid-place names (label.Element id) characters n attributes kids h = refl
-kid-place names (label.Attribute id) characters n attributes kids h = absurd (true≢false (sym h))
-kid-place names label.Text characters n attributes kids h = refl
-kid-place names label.Comment characters n attributes kids h = refl
-kid-place names (label.Pi id) characters n attributes kids h = refl
-
--- the node that is put in, and the kept nodes with it
-abbrev pub new_node : ℕ → ℕ → ℕ → Label → List ℕ → Node
-new_node p depth place l characters = record { parent = Some p; depth = depth; place = place; kids = []; attributes = []; content = kept_labelled l characters }
-
-abbrev pub grown_nodes : List (Option Node) → ℕ → ℕ → ℕ → Label → List ℕ → List (Option Node)
-grown_nodes nodes p depth place l characters =
-    set nodes p (kept_link (length nodes) (label_is_attribute l) (get_or nodes p None)) ++ Some (new_node p depth place l characters) ∷ []
-
-module _ (names : List Name) (nodes : List (Option Node)) (p depth place : ℕ) (l : Label) (characters : List ℕ) where
-  pub table-grown : table_seen names (grown_nodes nodes p depth place l characters) ≡ with_node (table_seen names nodes) p (content_labelled names l characters)
+module _ (names : List Name) (nodes : List (Option Node)) (p depth rank : ℕ) (l : Label) (characters : List ℕ) where
+  pub table-grown : table_seen names (grown_nodes nodes p depth rank l characters) ≡ with_node (table_seen names nodes) p (content_labelled names l characters)
   table-grown =
       map-append (node_seen names) (set nodes p (kept_link (length nodes) (label_is_attribute l) (get_or nodes p None))) _
       ∙ ap₂ (λ l r. l ++ r)
@@ -259,33 +231,37 @@ module _ (names : List Name) (nodes : List (Option Node)) (p depth place : ℕ) 
       ∙ ap₂ (with_link (content_labelled names l characters)) (sym (seen-length names nodes)) (sym (seen-entry names nodes p))))
       (ap (λ c. Some (leaf p c) ∷ []) (content-new names l characters))
 
-  pub kept-new : (m : ℕ) → m ≡ length (table_seen names nodes) → get_or (grown_nodes nodes p depth place l characters) m None ≡ Some (new_node p depth place l characters)
+  pub kept-new : (m : ℕ) → m ≡ length (table_seen names nodes) → get_or (grown_nodes nodes p depth rank l characters) m None ≡ Some (new_node p depth rank l characters)
   kept-new m e =
       get-last (set nodes p (kept_link (length nodes) (label_is_attribute l) (get_or nodes p None))) _ None m (e ∙ (seen-length names nodes ∙ sym (length-set nodes p _)))
 
+  pub length-grown_nodes : length (grown_nodes nodes p depth rank l characters) ≡ length nodes + 1
+  length-grown_nodes =
+      length-append (set nodes p (kept_link (length nodes) (label_is_attribute l) (get_or nodes p None))) _
+      ∙ ap (λ k. k + 1) (length-set nodes p (kept_link (length nodes) (label_is_attribute l) (get_or nodes p None)))
+
   -- a number that is kept with each of the others stays where a link leaves it
   pub kept-others : (f : Option Node → ℕ) → ((o : Option Node) → f (kept_link (length nodes) (label_is_attribute l) o) ≡ f o) → (m : ℕ) → m ≢ length (table_seen names nodes) →
-      f (get_or (grown_nodes nodes p depth place l characters) m None) ≡ f (get_or nodes m None)
+      f (get_or (grown_nodes nodes p depth rank l characters) m None) ≡ f (get_or nodes m None)
   kept-others f same m ne =
       ap f (get-front (set nodes p (kept_link (length nodes) (label_is_attribute l) (get_or nodes p None))) _ None m
       (λ e. ne (e ∙ (length-set nodes p _ ∙ sym (seen-length names nodes)))))
       ∙ number-set f nodes p m _ (same (get_or nodes p None))
 
-  -- a sound tree stays so, and has grown
-  pub sound-grown : (live bytes : ℕ) → Sound nodes names live bytes → holds_kids (kind_of (table_seen names nodes) p) ≡ true
+  -- a sound tree stays so where the node is last in document order and has a rank behind all others, and has grown
+  sound-grown : (live bytes : ℕ) → Sound nodes names live bytes → holds_kids (kind_of (table_seen names nodes) p) ≡ true
       → FitsUnder (table_seen names nodes) p (content_labelled names l characters) → LabelIsBelow (length names) l → is_open (table_seen names nodes) p ≡ true
       → AllLive (table_seen names nodes) → passed_limit (table_seen names nodes) p (content_labelled names l characters) ≡ None
-      → depth ≡ length (above (table_seen names nodes) p)
-      → place ≡ length (if label_is_attribute l then attrs_of (table_seen names nodes) p else kids_of (table_seen names nodes) p) → value_in (content_labelled names l characters) ≡ characters
-      → Sound (grown_nodes nodes p depth place l characters) names (live + 1) (bytes + length characters)
-      × Grew (table_seen names nodes) (table_seen names (grown_nodes nodes p depth place l characters)) p (length nodes) (content_labelled names l characters)
-  sound-grown live bytes s holder fits known open_p all none depth_is place_is plain =
+      → depth ≡ length (above (table_seen names nodes) p) → rank ≡ RANK_STEP * length (table_seen names nodes) → value_in (content_labelled names l characters) ≡ characters
+      → Sound (grown_nodes nodes p depth rank l characters) names (live + 1) (bytes + length characters)
+      × Grew (table_seen names nodes) (table_seen names (grown_nodes nodes p depth rank l characters)) p (length nodes) (content_labelled names l characters)
+  sound-grown live bytes s holder fits known open_p all none depth_is rank_is plain =
       let T : Table = table_seen names nodes in
       let c : Content = content_labelled names l characters in
       let r = appended T p c s.formed holder fits open_p all none in
       let g : Grew T (with_node T p c) p (length T) c = r.grew in
       let alive_p : is_live T p ≡ true = holder-live T p holder in
-      let depths : (m : ℕ) → is_live (with_node T p c) m ≡ true → depth_at (get_or (grown_nodes nodes p depth place l characters) m None) ≡ length (ancestors (with_node T p c) m) =
+      let depths : (m : ℕ) → is_live (with_node T p c) m ≡ true → depth_at (get_or (grown_nodes nodes p depth rank l characters) m None) ≡ length (ancestors (with_node T p c) m) =
       λ m h. ⊎_elim
       (λ (e : m ≡ length T).
       ap depth_at (kept-new m e)
@@ -294,23 +270,21 @@ module _ (names : List Name) (nodes : List (Option Node)) (p depth place : ℕ) 
       let old : is_live T m ≡ true = sym (live-kept T p c alive_p m ne) ∙ h in
       kept-others depth_at (depth-linked (length nodes) (label_is_attribute l)) m ne ∙ omega (arith, s.depths m old, ap length (g.same_ways_up m old)))
       (eq_or m (length T)) in
-      let places : (m : ℕ) → IsPlace (with_node T p c) m (place_at (get_or (grown_nodes nodes p depth place l characters) m None)) =
-      λ m. ⊎_elim
-      (λ (e : m ≡ length T).
-      subst (λ k. IsPlace (with_node T p c) k (place_at (get_or (grown_nodes nodes p depth place l characters) k None))) (sym e)
-      (subst (IsPlace (with_node T p c) (length T)) (sym (ap place_at (kept-new (length T) refl)))
-      (place-new T p c s.formed alive_p g place (λ h. place_is ∙ attribute-place names l characters (length T) (attrs_of T p) (kids_of T p) h)
-      (λ h. place_is ∙ kid-place names l characters (length T) (attrs_of T p) (kids_of T p) h))))
-      (λ (ne : m ≢ length T).
-      subst (IsPlace (with_node T p c) m) (sym (kept-others place_at (place-linked (length nodes) (label_is_attribute l)) m ne))
-      (place-kept T p c s.formed alive_p g m (place_at (get_or nodes m None)) ne (s.places m)))
-      (eq_or m (length T)) in (
+      let before : Rise 0 (ranks_of (grown_nodes nodes p depth rank l characters) (order T)) rank =
+      subst (λ ranks. Rise 0 ranks rank)
+      (map-agree _ _ (order T) (λ m h. sym (kept-others rank_at (rank-linked (length nodes) (label_is_attribute l)) m
+      (old-number T p c alive_p m ((ordered T s.formed).live_in_order m ∙ In-mem m (order T) h)))))
+      (rise-within _ 0 _ _ _ s.ranks (omega arith) (omega (arith, rank_is, seen-length names nodes))) in
+      let last : Rise rank (ranks_of (grown_nodes nodes p depth rank l characters) (length T ∷ [])) (RANK_STEP * (length nodes + 1)) =
+      (omega (arith, ap rank_at (kept-new (length T) refl)), omega (arith, ap rank_at (kept-new (length T) refl), rank_is, seen-length names nodes)) in
+      let ranks : Rise 0 (ranks_of (grown_nodes nodes p depth rank l characters) (order (with_node T p c))) (RANK_STEP * length (grown_nodes nodes p depth rank l characters)) =
+      rw (g.last_in_order, length-grown_nodes) (ranks-append (grown_nodes nodes p depth rank l characters) (order T) (length T ∷ []) 0 rank (RANK_STEP * (length nodes + 1)) before last) in (
         record {
           formed = rw table-grown r.formed;
           known = names-push (length names) (set nodes p (kept_link (length nodes) (label_is_attribute l) (get_or nodes p None))) _
               (names-set (length names) nodes p (length nodes) (label_is_attribute l) s.known) (name-new (length names) l characters known);
           depths = rw table-grown depths;
-          places = rw table-grown places;
+          ranks = rw table-grown ranks;
           live_is = rw table-grown (omega (arith, s.live_is, r.counted));
           bytes_is = rw table-grown (omega (arith, s.bytes_is, r.held, ap length plain));
         },
@@ -329,26 +303,11 @@ named old nodes before after name live bytes cap (Err e) view ok err =
     subst (λ old. IsSound old → Sound nodes after live bytes × (table_seen after nodes ≡ table_of old)) view
     (λ s. (rw err s, ap (λ names. table_seen names nodes) err))
 
--- the same, with each part of the new node by itself
-pub added : (old : Parts) (names : List Name) (nodes after : List (Option Node)) (live bytes cap p depth place number : ℕ) (l : Label) (characters : List ℕ) (flag : Bool)
-    (kids attributes : List ℕ) (content : NodeContent) → record { nodes = nodes; names = names; live = live; text_bytes = bytes; pair_cap = cap } ≡ old
-    → number ≡ length nodes → flag ≡ label_is_attribute l → kids ≡ [] → attributes ≡ [] → content ≡ kept_labelled l characters
-    → after ≡ set nodes p (kept_link number flag (get_or nodes p None)) ++ Some (record { parent = Some p; depth = depth; place = place; kids = kids; attributes = attributes; content = content }) ∷ []
-    → IsSound old → holds_kids (kind_of (table_of old) p) ≡ true → FitsUnder (table_of old) p (content_labelled old.names l characters) → LabelIsBelow (length old.names) l
-    → is_open (table_of old) p ≡ true → AllLive (table_of old) → passed_limit (table_of old) p (content_labelled old.names l characters) ≡ None
-    → depth ≡ length (above (table_of old) p)
-    → place ≡ length (if flag then attrs_of (table_of old) p else kids_of (table_of old) p)
+-- the same, of all parts
+pub grown-sound : (old : Parts) (p depth rank : ℕ) (l : Label) (characters : List ℕ) → IsSound old → holds_kids (kind_of (table_of old) p) ≡ true
+    → FitsUnder (table_of old) p (content_labelled old.names l characters) → LabelIsBelow (length old.names) l → is_open (table_of old) p ≡ true → AllLive (table_of old)
+    → passed_limit (table_of old) p (content_labelled old.names l characters) ≡ None → depth ≡ length (above (table_of old) p) → rank ≡ RANK_STEP * length (table_of old)
     → value_in (content_labelled old.names l characters) ≡ characters
-    → Sound after names (live + 1) (bytes + length characters) × Grew (table_of old) (table_seen names after) p number (content_labelled old.names l characters)
-added old names nodes after live bytes cap p depth place number l characters flag kids attributes content view is_number is_flag no_kids no_attributes is_content is_after =
-    subst (λ old.
-    IsSound old → holds_kids (kind_of (table_of old) p) ≡ true → FitsUnder (table_of old) p (content_labelled old.names l characters) → LabelIsBelow (length old.names) l
-    → is_open (table_of old) p ≡ true → AllLive (table_of old) → passed_limit (table_of old) p (content_labelled old.names l characters) ≡ None
-    → depth ≡ length (above (table_of old) p)
-    → place ≡ length (if flag then attrs_of (table_of old) p else kids_of (table_of old) p)
-    → value_in (content_labelled old.names l characters) ≡ characters
-    → Sound after names (live + 1) (bytes + length characters) × Grew (table_of old) (table_seen names after) p number (content_labelled old.names l characters)) view
-    (λ sound holder fits known open_p all none deep last plain.
-    let is_grown : after ≡ grown_nodes nodes p depth place l characters = is_after ∙ rw (is_number, is_flag, no_kids, no_attributes, is_content) refl in
-    rw (is_grown, is_number) (sound-grown names nodes p depth place l characters live bytes sound holder fits known open_p all none deep
-    (last ∙ ap (λ b. length (if b then attrs_of (table_seen names nodes) p else kids_of (table_seen names nodes) p)) is_flag) plain))
+    → IsSound (grown old p depth rank l characters)
+    × Grew (table_of old) (table_of (grown old p depth rank l characters)) p (length old.nodes) (content_labelled old.names l characters)
+grown-sound old p depth rank l characters s = sound-grown old.names old.nodes p depth rank l characters old.live old.text_bytes s

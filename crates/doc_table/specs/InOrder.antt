@@ -5,16 +5,11 @@ use Rattle.doc_table.specs.Table.{Table, is_live}
 use Rattle.doc_table.specs.Walks.{order}
 use Rattle.doc_table.specs.Order.{is_before}
 use Rattle.doc_table.specs.Lines.{lines}
-use Rattle.doc_table.specs.Laws.{WellFormed, Ordered, HasWaysUp, Walks}
-use Rattle.doc_table.specs.Scope.{HasScopes}
+use Rattle.doc_table.specs.Laws.{WellFormed}
 
 -- the numbers from 0 on are the live nodes in document order
 abbrev pub IsInOrder : Table → Type 0
 IsInOrder T = order T ≡ upto (length T)
-
--- what holds of a tree's table holds of each such table that is well formed
-abbrev pub LawsFromOrder : Type 0
-LawsFromOrder = (T : Table) → WellFormed T → IsInOrder T → Ordered T × HasWaysUp T × Walks T × HasScopes T
 
 -- a node stands before another in document order exactly where its number is less
 abbrev pub OrderIsByNumber : Type 0

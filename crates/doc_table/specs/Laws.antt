@@ -8,6 +8,7 @@ use Rattle.doc_table.specs.Table.{Table, parent_of, kids_of, attrs_of, content_o
 use Rattle.doc_table.specs.Walks.{order, below, above, ancestors, joined_text, characters_in, text_bytes, is_open}
 use Rattle.doc_table.specs.Lines.{lines_below, opens, closes}
 use Rattle.doc_table.specs.Kinds.{holds_kids, can_be_kid, is_text}
+use Rattle.doc_table.specs.Scope.{HasScopes}
 
 -- no two texts stand side by side
 abbrev pub TextsApart : Table → List ℕ → Type 0
@@ -76,3 +77,7 @@ pub record Walks (T : Table) : Type 0 where
   pub told_at : (f : ℕ → List ℕ) (n : ℕ) →
       flat_map f (below T n) ≡ f n ++ (flat_map f (attrs_of T n) ++ flat_map (λ k. flat_map f (below T k)) (kids_of T n))
   pub text_at : (n : ℕ) → joined_text T n ≡ characters_in (content_of T n) ++ flat_map (joined_text T) (kids_of T n)
+
+-- a well-formed table (XPath 1.0, section 5) has all laws of a tree's
+abbrev pub WellFormedIsEnough : Type 0
+WellFormedIsEnough = (T : Table) → WellFormed T → Ordered T × HasWaysUp T × Walks T × HasScopes T

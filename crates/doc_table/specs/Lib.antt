@@ -8,5 +8,6 @@ pub mod Growth
 pub mod Laws
 pub mod Scope
 pub mod InOrder
+pub mod SameTree
 pub mod Declaring
 pub mod inner

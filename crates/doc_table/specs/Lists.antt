@@ -1,4 +1,5 @@
--- Lists of node numbers: membership, how often a number stands in a list, the last one, all below a number, and longer lists.
+-- Lists of node numbers: membership, how often a number stands in a list, the last one, all below a number, longer lists, and
+-- lists that rise.
 use Rattle.std.specs.Prelude.{◌≡◌, ℕ, zero, suc, ◌+◌, ◌≤◌, ◌==◌, Bool, false, ◌||◌, List, [], ◌∷◌, ◌++◌, if◌then◌else◌}
 
 -- whether the number stands in the list
@@ -28,3 +29,8 @@ upto (suc n) = upto n ++ n ∷ []
 -- a list that begins with another
 abbrev pub BeginsWith : {A : Type 0} → List A → List A → Type 0
 BeginsWith {A} before after = (more : List A) × (after ≡ before ++ more)
+
+-- numbers of which each is greater than the one before, none less than the first bound, and all less than the last
+abbrev pub Rise : ℕ → List ℕ → ℕ → Type 0
+Rise low [] high = low ≤ high
+Rise low (n ∷ ns) high = (low ≤ n) × Rise (suc n) ns high

@@ -1,18 +1,13 @@
 -- Places in document order (XPath 1.0, section 5): what stands before what, and what stands below what.
-use Rattle.std.specs.Prelude.{◌≡◌, ℕ, ◌+◌, ◌==◌, Bool, true, false, List, [], ◌∷◌, length, if◌then◌else◌}
+use Rattle.std.specs.Prelude.{◌≡◌, ℕ, ◌==◌, Bool, true, List, [], ◌∷◌, if◌then◌else◌}
 use Rattle.doc_table.specs.Lists.{mem}
 use Rattle.doc_table.specs.Table.{Table, is_live}
-use Rattle.doc_table.specs.Walks.{order, below, above, ancestors}
+use Rattle.doc_table.specs.Walks.{order, below, above}
 
 -- what stands after a number in a list; nothing where the number isn't there
 abbrev pub after : ℕ → List ℕ → List ℕ
 after n [] = []
 after n (m ∷ ms) = if n == m then ms else after n ms
-
--- whether of two numbers the first is the one that a list has first
-abbrev pub comes_first : ℕ → ℕ → List ℕ → Bool
-comes_first a b [] = false
-comes_first a b (n ∷ ns) = if n == a then true else (if n == b then false else comes_first a b ns)
 
 -- whether a node stands before another in document order
 abbrev pub is_before : Table → ℕ → ℕ → Bool
@@ -21,10 +16,3 @@ is_before T a b = mem b (after a (order T))
 -- below a node stand just the node itself and the nodes whose ancestor it is
 abbrev pub Nested : Table → Type 0
 Nested T = (n m : ℕ) → is_live T m ≡ true → mem m (below T n) ≡ mem n (above T m)
-
--- a live node so many levels above another; for no level it is that node itself
-pub record IsUp (T : Table) (n levels up : ℕ) : Type 0 where
-  pub lives : is_live T up ≡ true
-  pub depth : length (ancestors T up) + levels ≡ length (ancestors T n)
-  pub holds : mem n (below T up) ≡ true
-  pub itself : levels ≡ 0 → up ≡ n

@@ -1,10 +1,11 @@
 //! Growing a table at its end.
 
-ghost use Rattle.std.specs.Prelude.{◌≡◌, ◌<◌, ◌∷◌, [], ◌++◌, true, length, None, Some, IfOk, IfErr, OnOk, OnErr, slice_index_or, slice_set, vec_len, vec_capacity, if◌then◌else◌};
-ghost use Rattle.doc_table.specs.Table.{AllLive, attrs_of, kids_of, kind_of, value_in};
+ghost use Rattle.std.specs.Prelude.{◌≡◌, ◌<◌, ◌∷◌, [], ◌++◌, true, length, None, Some, IfOk, IfErr, OnOk, OnErr, slice_index_or, slice_set, vec_len, vec_capacity};
+ghost use Rattle.doc_table.specs.Table.{AllLive, is_live, kind_of, value_in};
 ghost use Rattle.doc_table.specs.Walks.{is_open, above};
 ghost use Rattle.doc_table.specs.Growth.{Grew, FitsUnder, Refuses, passed_limit};
 ghost use Rattle.doc_table.specs.Kinds.{holds_kids};
+ghost use Rattle.doc_table.specs.inner.Growing.{grown, new_node};
 ghost use Rattle.doc_table.specs.inner.Labels.{LabelIsBelow, content_labelled, kept_labelled};
 ghost use Rattle.doc_table.specs.inner.Kept.{kept_link, linked};
 ghost use Rattle.doc_table.specs.inner.Parts.{IsSound, table_of};
@@ -45,7 +46,9 @@ impl Bare {
     {
         let depth = self.depth_under(parent);
         self.check_limits(parent, depth, label, text)?;
-        self.add(parent, depth, label, text)
+        let rank = self.next_rank();
+        let number = self.grow(parent, depth, rank, label, text)?;
+        Ok(number)
     }
 
     /// How many ancestors a node under this one has.
@@ -57,27 +60,6 @@ impl Bare {
         match self.node(parent) {
             Some(node) => node.depth + 1,
             None => 1,
-        }
-    }
-
-    /// How many attributes, or else kids, a node has: the place of the next one.
-    pub fn next_place(&self, parent: NodeId, is_attribute: bool) -> u32
-        requires sound { IsSound self.now }
-        requires holder { holds_kids (kind_of (table_of self.now) parent) ≡ true }
-        ensures { result ≡ length (if is_attribute then attrs_of (table_of self.now) parent else kids_of (table_of self.now) parent) }
-    {
-        self.laws();
-        self.attributes_or_kids(parent, is_attribute).len() as u32
-    }
-
-    /// The attributes of a node, or else its kids.
-    fn attributes_or_kids(&self, parent: NodeId, attributes: bool) -> &[NodeId]
-        ensures { result.now ≡ (if attributes then attrs_of (table_of self.now) parent else kids_of (table_of self.now) parent) }
-    {
-        if attributes {
-            self.attrs(parent)
-        } else {
-            self.kids(parent)
         }
     }
 
@@ -107,47 +89,51 @@ impl Bare {
         Ok(())
     }
 
-    /// Puts a node that passes no limit under its parent.
-    fn add(
+    /// Puts a node with so many ancestors and a rank under its parent, as the last of its kids or attributes, and counts
+    /// it. The node takes the next number. What needs memory comes first.
+    pub fn grow(
         &mut self,
         parent: NodeId,
         depth: u32,
+        rank: u64,
         label: &Label,
         text: &str,
-    ) -> Result<NodeId, AppendError>
+    ) -> Result<NodeId, AllocError>
         requires sound { IsSound self.old }
-        requires holder { holds_kids (kind_of (table_of self.old) parent) ≡ true }
-        requires fits { FitsUnder (table_of self.old) parent (content_labelled self.old.names label.now text.now) }
-        requires name { LabelIsBelow (length self.old.names) label.now }
-        requires text { value_in (content_labelled self.old.names label.now text.now) ≡ text.now }
-        requires last { is_open (table_of self.old) parent ≡ true }
-        requires all_live { AllLive (table_of self.old) }
-        requires depth { depth ≡ length (above (table_of self.old) parent) }
-        requires within { passed_limit (table_of self.old) parent (content_labelled self.old.names label.now text.now) ≡ None }
-        ensures sound { IsSound self.new }
-        ensures grew { IfOk result (λ n. Grew (table_of self.old) (table_of self.new) parent n (content_labelled self.old.names label.now text.now)) }
-        ensures names { self.new.names ≡ self.old.names }
-        ensures cap { self.new.pair_cap ≡ self.old.pair_cap }
-        ensures refused { IfErr result (Refuses (passed_limit (table_of self.old) parent (content_labelled self.old.names label.now text.now))) }
+        requires parent { is_live (table_of self.old) parent ≡ true }
+        ensures grown { OnOk result (self.new ≡ grown self.old parent depth rank label.now text.now) }
+        ensures number { IfOk result (λ n. n ≡ length (table_of self.old)) }
         ensures unchanged { OnErr result (self.new ≡ self.old) }
     {
-        let is_attribute = label.is_attribute();
-        let place = self.next_place(parent, is_attribute);
-        let number = NodeId::from_number(self.nodes.len() as u32);
-        let kept_text = Text::copy(self.alloc, text)?;
-        link(&mut self.nodes, parent, number, is_attribute)?;
-        self.nodes.push_reserved(Some(Node {
-            parent: Some(parent),
-            depth,
-            place,
-            kids: ItemList::new(self.alloc),
-            attributes: ItemList::new(self.alloc),
-            content: kept_content(self.alloc, label, kept_text),
-        }));
+        let number = self.next_number();
+        let node = copied_node(self.alloc, parent, depth, rank, label, text)?;
+        attach(&mut self.nodes, parent, number, label.is_attribute(), node)?;
         self.live += 1;
         self.text_bytes += text.len();
         Ok(number)
     }
+}
+
+/// A node under a parent, with no kids and no attributes.
+fn copied_node(
+    alloc: Global,
+    parent: NodeId,
+    depth: u32,
+    rank: u64,
+    label: &Label,
+    text: &str,
+) -> Result<Node, AllocError>
+    ensures { IfOk result (λ node. node ≡ new_node parent depth rank label.now text.now) }
+{
+    let kept_text = Text::copy(alloc, text)?;
+    Ok(Node {
+        parent: Some(parent),
+        depth,
+        rank,
+        kids: ItemList::new(alloc),
+        attributes: ItemList::new(alloc),
+        content: kept_content(alloc, label, kept_text),
+    })
 }
 
 /// What the tree keeps of a new node.
@@ -198,7 +184,7 @@ fn link(
 }
 
 /// Puts a node at the end, under its parent. What needs memory comes first.
-pub fn attach(
+fn attach(
     nodes: &mut Vec<Option<Node>>,
     parent: NodeId,
     number: NodeId,

@@ -6,7 +6,6 @@ ghost use Rattle.doc_names.specs.Numbering.{Numbered};
 ghost use Rattle.doc_table.specs.Table.{root_alone, kind_of, name_of, parent_of, kids_of, attrs_of, content_of, value_of, decls_of, is_live, numbered};
 ghost use Rattle.doc_table.specs.Walks.{order, ancestors, characters_in, text_bytes};
 ghost use Rattle.doc_table.specs.declared.limits.TheConstants.{MAX_LIVE_TEXT_BYTES};
-ghost use Rattle.doc_table.specs.inner.Kept.{IsPlace};
 ghost use Rattle.doc_table.specs.inner.Parts.{IsSound, contents, table_of};
 
 use crate::ids::NodeId;
@@ -74,7 +73,7 @@ impl Bare {
         nodes.push(Some(Node {
             parent: None,
             depth: 0,
-            place: 0,
+            rank: 0,
             kids: ItemList::new(alloc),
             attributes: ItemList::new(alloc),
             content: NodeContent::Root,
@@ -267,17 +266,6 @@ impl Bare {
     {
         match self.node(n) {
             Some(node) => node.depth,
-            None => 0,
-        }
-    }
-
-    /// A node's place among its parent's attributes, or else kids; 0 for the root.
-    pub fn place(&self, n: NodeId) -> u32
-        requires { IsSound self.now }
-        ensures { IsPlace (table_of self.now) n result }
-    {
-        match self.node(n) {
-            Some(node) => node.place,
             None => 0,
         }
     }

@@ -1,9 +1,9 @@
-//! What holds of every sound table, and of every well-formed one whose numbers are in document order, as calls that do
-//! nothing.
+//! What holds of every sound table, and of every well-formed one, as calls that do nothing.
 
 ghost use Rattle.doc_names.specs.Numbering.{EachOnce};
-ghost use Rattle.doc_table.specs.InOrder.{LawsFromOrder, OneTable, OrderIsByNumber};
-ghost use Rattle.doc_table.specs.Laws.{WellFormed, Ordered, HasWaysUp, Walks};
+ghost use Rattle.doc_table.specs.InOrder.{OneTable, OrderIsByNumber};
+ghost use Rattle.doc_table.specs.Laws.{WellFormed, WellFormedIsEnough, Ordered, HasWaysUp, Walks};
+ghost use Rattle.doc_table.specs.SameTree.{SameLinesSameTree, SameTreeSameLines};
 ghost use Rattle.doc_table.specs.Scope.{HasScopes};
 ghost use Rattle.doc_table.specs.inner.Parts.{IsSound, table_of};
 
@@ -26,11 +26,6 @@ impl Bare {
     }
 }
 
-/// A well-formed table whose numbers are in document order has all laws of a tree's.
-pub fn laws_from_order()
-    ensures { LawsFromOrder }
-{}
-
 /// Where the numbers are in document order, a node stands before another exactly where its number is less.
 pub fn order_is_by_number()
     ensures { OrderIsByNumber }
@@ -39,4 +34,19 @@ pub fn order_is_by_number()
 /// Two well-formed tables whose numbers are in document order and whose lines are the same are the same.
 pub fn one_table()
     ensures { OneTable }
+{}
+
+/// Each well-formed table has all laws of a tree's.
+pub fn well_formed_is_enough()
+    ensures { WellFormedIsEnough }
+{}
+
+/// Two well-formed tables whose lines are the same are the same tree, but for the numbers of their nodes.
+pub fn same_lines_same_tree()
+    ensures { SameLinesSameTree }
+{}
+
+/// Two well-formed tables that are the same tree have the same lines.
+pub fn same_tree_same_lines()
+    ensures { SameTreeSameLines }
 {}

@@ -13,16 +13,20 @@ mod laws;
 mod limits;
 mod new_node;
 mod node;
+mod ranks;
 mod walk;
 
-pub use append::attach;
 pub use bare::{Bare, node_at};
 pub use cell::Cell;
 pub use ids::{NodeId, NodeList};
 pub use kind::Kind;
-pub use laws::{laws_from_order, one_table, order_is_by_number};
+pub use laws::{
+    one_table, order_is_by_number, same_lines_same_tree, same_tree_same_lines,
+    well_formed_is_enough,
+};
 pub use limits::{
     MAX_DEPTH, MAX_LIVE_NODES, MAX_LIVE_TEXT_BYTES, MAX_NODE_NUMBERS, numbers_of_limits,
 };
 pub use new_node::{AppendError, NewNode};
 pub use node::{Decl, Label, Node, NodeContent};
+pub use ranks::RANK_STEP;

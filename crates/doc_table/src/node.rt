@@ -87,12 +87,11 @@ pub enum Label {
     Pi(NameId),
 }
 
-/// A node: its parent, how many ancestors it has, its place among its parent's attributes or else kids, its own kids
-/// and attributes, and what it holds.
+/// A node: its parent, how many ancestors it has, its rank in document order, its kids and attributes, and what it holds.
 pub struct Node {
     pub parent: Option<NodeId>,
     pub depth: u32,
-    pub place: u32,
+    pub rank: u64,
     pub kids: NodeList,
     pub attributes: NodeList,
     pub content: NodeContent,
@@ -104,7 +103,7 @@ impl Drop for Node {
         let Node {
             parent: _,
             depth: _,
-            place: _,
+            rank: _,
             kids,
             attributes,
             content,

@@ -1,6 +1,5 @@
 -- An attribute against which nothing speaks may come, or get its value.
 use Rattle.std.proofs.Common.{◌≡◌, ℕ, suc, ◌+◌, ◌≤◌, Bool, true, false, cond, not, ◌&&◌, List, [], ◌∷◌, ◌++◌, length, Option, None, Some, refl, sym, ap, ap₂, ◌∙◌, subst, true≢false, arith, eqb, eqb-true, eq-eqb, ltb-false, is_none, is_some, unwrap_or}
-use Rattle.std.specs.Option.{option_or}
 use Rattle.std.specs.Prelude.{nat_lt}
 use Rattle.std.specs.Str.{bytes_eq}
 use Rattle.std.proofs.lemmas.Slice.Eq.{bytes_eq-Decides}
@@ -11,18 +10,16 @@ use Rattle.doc_table.specs.Laws.{HasWaysUp, WellFormed}
 use Rattle.doc_table.specs.Lists.{mem}
 use Rattle.doc_table.specs.Table.{Contents, Name, Table, attrs_of, expanded, expanded_of, expanded_in, kids_of, kind_of, name_of, parent_of, value_of}
 use Rattle.doc_table.specs.Walks.{order, text_bytes}
-use Rattle.doc_table.specs.inner.Sound.{Formed}
 use Rattle.doc_table.proofs.ListLemmas.{mem-head, mem-tail}
 use Rattle.doc_edits.specs.Fitting.{MayGain, MayGo, MaySay}
 use Rattle.doc_edits.specs.Changes.{deleted, deleted_by, kids_beside, meeting, removed}
 use Rattle.doc_edits.specs.Documents.{EditsKeepDocuments}
-use Rattle.doc_tree.specs.declared.refusal.EditRefusal.{EditRefusal}
 use Rattle.doc_tree.specs.declared.refusal.EditRefusal.TheVariants.{WrongKind, NoPrefix, XmlnsName, TooManyNodes, TooMuchText, IdsSpent, TooManyPairs}
 use Rattle.doc_tree.specs.Edited.{attribute_name_at}
-use Rattle.doc_tree.specs.NameTests.{attribute_named, has_name, named}
-use Rattle.doc_tree.specs.Refusals.{declares_namespace, name_refusal, setting_refusal, value_refusal}
+use Rattle.doc_tree.specs.NameTests.{attribute_in, attribute_meant, has_name, named}
+use Rattle.doc_tree.specs.Refusals.{declares_namespace, is_nil, name_refusal, setting_refusal, value_refusal}
 use Rattle.doc_tree.specs.Scope.{attribute_namespace, namespace_or_none, scope_at, xmlns_prefix}
-use Rattle.doc_tree.proofs.RefusalLemmas.{find-in, find-none, is-element, none-of-four, none-of-three, not-true, or-false, or-none}
+use Rattle.doc_tree.proofs.RefusalLemmas.{and-false, find-in, find-none, is-element, none-of-four, none-of-three, not-true, or-false, or-none}
 
 -- a node with an expanded name passes the test of that name
 pub has-expanded : (T : Table) (a : ℕ) (name : Name) → expanded_of T a ≡ Some (expanded name) → has_name T a name.uri name.local ≡ true
@@ -36,25 +33,53 @@ has-expanded T a name h = by (name_of T a) h
     by (Some m) e =
         ap₂ (λ x y. x && y) (equal m.uri name.uri (ap (λ o. (unwrap_or o (expanded m)).0) e)) (equal m.local name.local (ap (λ o. (unwrap_or o (expanded m)).1) e))
 
+-- a name against which nothing speaks
+module _ (T : Table) (n : ℕ) (prefix local : List ℕ) (free : name_refusal T n prefix local ≡ None) where
+  parts : (not (is_element (kind_of T n)) ≡ false) × ((not (bytes_eq prefix xmlns_prefix) && is_none (attribute_namespace (scope_at T n) prefix)) ≡ false)
+      × (declares_namespace prefix local ≡ false)
+  parts =
+      none-of-three (not (is_element (kind_of T n))) (not (bytes_eq prefix xmlns_prefix) && is_none (attribute_namespace (scope_at T n) prefix))
+      (declares_namespace prefix local) WrongKind NoPrefix XmlnsName free
+
+  -- it is given to an element
+  pub owner : kind_of T n ≡ Some Element
+  owner = is-element (kind_of T n) (not-true (is_element (kind_of T n)) parts.0)
+
+  pub no-words : (bytes_eq prefix xmlns_prefix ≡ false) × ((is_nil prefix && bytes_eq local xmlns_prefix) ≡ false)
+  no-words = or-false (bytes_eq prefix xmlns_prefix) (is_nil prefix && bytes_eq local xmlns_prefix) parts.2
+
+  -- its prefix is in scope
+  pub known : attribute_namespace (scope_at T n) prefix ≡ Some (namespace_or_none T n prefix)
+  known =
+      there (attribute_namespace (scope_at T n) prefix)
+      (and-false (not (bytes_eq prefix xmlns_prefix)) (is_none (attribute_namespace (scope_at T n) prefix)) parts.1 (ap not no-words.0))
+    where
+      there : (o : Option (List ℕ)) → is_none o ≡ false → o ≡ Some (unwrap_or o [])
+      there None h = absurd (true≢false h)
+      there (Some uri) h = refl
+
+-- an attribute that was found is one of the element's
+pub found-member : (T : Table) (n a : ℕ) (prefix local : List ℕ) → attribute_meant T n prefix local ≡ Some a → mem a (attrs_of T n) ≡ true
+found-member T n a prefix local h = by (attribute_namespace (scope_at T n) prefix) h
+  where
+    by : (uri : Option (List ℕ)) → attribute_in T n uri local ≡ Some a → mem a (attrs_of T n) ≡ true
+    by None e = absurd (true≢false (sym (ap is_some e)))
+    by (Some uri) e = (find-in (λ b. has_name T b uri local) (attrs_of T n) a e).0
+
 module _ (tree : Contents) (n : ℕ) (prefix local value : List ℕ) (free : setting_refusal tree n prefix local value ≡ None) where
   abbrev found : Option ℕ
-  found = attribute_named tree.nodes n (namespace_or_none tree.nodes n prefix) local
+  found = attribute_meant tree.nodes n prefix local
 
   both : (name_refusal tree.nodes n prefix local ≡ None) × (value_refusal tree found value ≡ None)
   both = or-none (name_refusal tree.nodes n prefix local) (value_refusal tree found value) free
 
-  pub owner : kind_of tree.nodes n ≡ Some Element
-  owner =
-      is-element (kind_of tree.nodes n) (not-true (is_element (kind_of tree.nodes n))
-      (none-of-three (not (is_element (kind_of tree.nodes n))) (not (bytes_eq prefix xmlns_prefix) && is_none (attribute_namespace (scope_at tree.nodes n) prefix))
-      (declares_namespace prefix local) WrongKind NoPrefix XmlnsName both.0).0)
-
   pub may-gain : found ≡ None → MayGain tree.nodes n (attribute_name_at tree.nodes n prefix local) value
   may-gain absent = record {
-    under = owner;
+    under = owner tree.nodes n prefix local both.0;
     is_new = λ a member same. true≢false
         (sym (has-expanded tree.nodes a (attribute_name_at tree.nodes n prefix local) same)
-        ∙ find-none (λ b. has_name tree.nodes b (namespace_or_none tree.nodes n prefix) local) (attrs_of tree.nodes n) absent a member);
+        ∙ find-none (λ b. has_name tree.nodes b (namespace_or_none tree.nodes n prefix) local) (attrs_of tree.nodes n)
+        (ap (λ uri. attribute_in tree.nodes n uri local) (sym (known tree.nodes n prefix local both.0)) ∙ absent) a member);
     few_nodes = omega (arith, ltb-false MAX_LIVE_NODES (suc (length (order tree.nodes))) room.0);
     few_numbers = omega (arith, ltb-false MAX_NODE_NUMBERS (suc (length tree.nodes)) room.2);
     little = ltb-false MAX_LIVE_TEXT_BYTES (text_bytes tree.nodes + length value) room.1;
@@ -69,8 +94,7 @@ module _ (tree : Contents) (n : ℕ) (prefix local value : List ℕ) (free : set
 
   pub may-say : WellFormed tree.nodes → HasWaysUp tree.nodes → (a : ℕ) → found ≡ Some a → MaySay tree.nodes a value
   may-say formed ways a is =
-      let member : mem a (attrs_of tree.nodes n) ≡ true =
-      (find-in (λ b. has_name tree.nodes b (namespace_or_none tree.nodes n prefix) local) (attrs_of tree.nodes n) a is).0 in
+      let member : mem a (attrs_of tree.nodes n) ≡ true = found-member tree.nodes n a prefix local is in
       let kind : kind_of tree.nodes a ≡ Some Attribute = formed.attribute_kind n a member in
       record {
         lives = ways.attribute_live n a member;
@@ -104,7 +128,7 @@ meeting-absent T n (k ∷ l ∷ m ∷ ks) h =
         by false e = refl
 
 -- an attribute that goes is no kid
-module _ (T : Table) (formed : Formed T) (wf : WellFormed T) (ways : HasWaysUp T) (n a : ℕ) (member : mem a (attrs_of T n) ≡ true) where
+module _ (T : Table) (wf : WellFormed T) (ways : HasWaysUp T) (n a : ℕ) (member : mem a (attrs_of T n) ≡ true) where
   kind : kind_of T a ≡ Some Attribute
   kind = wf.attribute_kind n a member
 
@@ -134,24 +158,4 @@ module _ (T : Table) (formed : Formed T) (wf : WellFormed T) (ways : HasWaysUp T
       by (Some p) = ap (deleted_by T a) (meeting-absent T a (kids_of T p) (no-kid p))
 
   pub document-stays : EditsKeepDocuments → is_document T ≡ true → is_document (removed T a) ≡ true
-  document-stays keeps document = ap is_document (sym gone) ∙ keeps.deletion T a formed document (λ _. ap is_element kind)
-
--- nothing speaks against the name and the value
-pub nothing-against-value : (tree : Contents) (n : ℕ) (prefix local value uri : List ℕ) (attribute : Option ℕ) (first second : Option EditRefusal) →
-    first ≡ name_refusal tree.nodes n prefix local → first ≡ None → uri ≡ namespace_or_none tree.nodes n prefix → attribute ≡ attribute_named tree.nodes n uri local →
-    second ≡ value_refusal tree attribute value → second ≡ None → setting_refusal tree n prefix local value ≡ None
-nothing-against-value tree n prefix local value uri attribute first second is_first no_first is_uri is_found is_second no_second =
-    ap₂ option_or (sym is_first ∙ no_first)
-    (ap (λ o. value_refusal tree o value) (ap (λ u. attribute_named tree.nodes n u local) (sym is_uri) ∙ sym is_found) ∙ (sym is_second ∙ no_second))
-
--- something speaks against the value
-pub against-value : (tree : Contents) (n : ℕ) (prefix local value uri : List ℕ) (attribute : Option ℕ) (first second : Option EditRefusal) (reason : EditRefusal) →
-    first ≡ name_refusal tree.nodes n prefix local → first ≡ None → uri ≡ namespace_or_none tree.nodes n prefix → attribute ≡ attribute_named tree.nodes n uri local →
-    second ≡ value_refusal tree attribute value → second ≡ Some reason → setting_refusal tree n prefix local value ≡ Some reason
-against-value tree n prefix local value uri attribute first second reason is_first no_first is_uri is_found is_second is_reason =
-    ap₂ option_or (sym is_first ∙ no_first)
-    (ap (λ o. value_refusal tree o value) (ap (λ u. attribute_named tree.nodes n u local) (sym is_uri) ∙ sym is_found) ∙ (sym is_second ∙ is_reason))
-
--- an attribute that was found is one of the element's
-pub found-member : (T : Table) (n a : ℕ) (uri local : List ℕ) → attribute_named T n uri local ≡ Some a → mem a (attrs_of T n) ≡ true
-found-member T n a uri local h = (find-in (λ b. has_name T b uri local) (attrs_of T n) a h).0
+  document-stays keeps document = ap is_document (sym gone) ∙ keeps.deletion T a wf document (λ _. ap is_element kind)

@@ -2,7 +2,7 @@
 use Rattle.std.proofs.Common.{◌≡◌, ℕ, Bool, true, false, not, ◌&&◌, Option, None, refl, sym, ap, ◌∙◌, true≢false}
 use Rattle.doc_table.specs.Kinds.{can_be_kid, is_document, is_element}
 use Rattle.doc_table.specs.Table.{Table, kind_of, parent_of}
-use Rattle.doc_table.specs.inner.Sound.{Formed}
+use Rattle.doc_table.specs.Laws.{WellFormed}
 use Rattle.doc_edits.specs.Changes.{deleted}
 use Rattle.doc_edits.specs.Documents.{EditsKeepDocuments}
 use Rattle.doc_tree.specs.declared.refusal.EditRefusal.{EditRefusal}
@@ -10,7 +10,7 @@ use Rattle.doc_tree.specs.declared.refusal.EditRefusal.TheVariants.{WrongKind, R
 use Rattle.doc_tree.specs.Refusals.{deletion_refusal, is_root}
 use Rattle.doc_tree.proofs.RefusalLemmas.{none-of-two}
 
-pub document-kept : (T : Table) (n : ℕ) (reason : Option EditRefusal) → EditsKeepDocuments → Formed T → reason ≡ deletion_refusal T n → reason ≡ None →
+pub document-kept : (T : Table) (n : ℕ) (reason : Option EditRefusal) → EditsKeepDocuments → WellFormed T → reason ≡ deletion_refusal T n → reason ≡ None →
     is_document T ≡ true → is_document (deleted T n) ≡ true
 document-kept T n reason keeps formed is free document =
     keeps.deletion T n formed document (λ root.

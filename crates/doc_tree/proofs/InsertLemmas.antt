@@ -12,7 +12,7 @@ use Rattle.doc_table.specs.Laws.{Ordered, WellFormed}
 use Rattle.doc_table.specs.Lists.{mem}
 use Rattle.doc_table.specs.Table.{Contents, Table, attrs_of, kids_of, kind_of}
 use Rattle.doc_table.specs.Walks.{above, ancestors, below, order, text_bytes}
-use Rattle.doc_table.specs.inner.Sound.{Formed}
+use Rattle.doc_table.proofs.Forests.{formed-of}
 use Rattle.doc_table.proofs.TreeLaws.{ordered}
 use Rattle.doc_edits.specs.Changes.{inserted, nodes_in}
 use Rattle.doc_edits.specs.Documents.{EditsKeepDocuments}
@@ -103,10 +103,10 @@ module _ (tree : Contents) (p at : ℕ) (P : Table) (free : insertion_refusal tr
       or-false (is_element (kind_of P (top_of P))) (is_text (kind_of P (top_of P)))
       (and-false (p == 0) (is_element (kind_of P (top_of P)) || is_text (kind_of P (top_of P))) place.2 (eq-eqb p 0 root))
 
-  pub document-kept : EditsKeepDocuments → Formed tree.nodes → Formed P → length (kids_of P 0) ≡ 1 → is_document tree.nodes ≡ true → is_document (inserted tree.nodes p (at - 1) P) ≡ true
+  pub document-kept : EditsKeepDocuments → WellFormed tree.nodes → WellFormed P → length (kids_of P 0) ≡ 1 → is_document tree.nodes ≡ true → is_document (inserted tree.nodes p (at - 1) P) ≡ true
   unfolding may-take
   document-kept keeps formed piece one document =
-      keeps.insertion tree.nodes p (at - 1) P formed piece document (may-take (ordered P piece) one) not-under-root
+      keeps.insertion tree.nodes p (at - 1) P formed piece document (may-take (ordered P (formed-of P piece)) one) not-under-root
 
 -- nothing speaks against the place and the room
 pub nothing-against : (tree : Contents) (p at : ℕ) (P : Table) (top : Kind) (reason : Option EditRefusal) → kind_of P (top_of P) ≡ Some top → place_refusal tree.nodes p at (Some top) ≡ None

@@ -3,7 +3,7 @@ use Rattle.std.specs.Prelude.{ℕ, List, Option, None, Some}
 use Rattle.doc_table.specs.Table.{Name, Table}
 use Rattle.doc_edits.specs.Changes.{gained, removed, said}
 pub use Rattle.doc_edits.specs.Keeping.{NamesGrow}
-use Rattle.doc_tree.specs.NameTests.{attribute_named}
+use Rattle.doc_tree.specs.NameTests.{attribute_meant}
 use Rattle.doc_tree.specs.Scope.{namespace_or_none}
 
 -- the name of an attribute, by the declarations in scope at its element (Namespaces in XML 1.0, section 6.2)
@@ -15,16 +15,16 @@ abbrev pub with_value : Table → ℕ → Name → Option ℕ → List ℕ → T
 with_value T n name (Some a) value = said T a value
 with_value T n name None value = gained T n name value
 
--- the attribute with an expanded name is set; one that is there keeps its prefix
+-- the attribute that a QName means is set; one that is there keeps its prefix
 abbrev pub attribute_set : Table → ℕ → List ℕ → List ℕ → List ℕ → Table
 attribute_set T n prefix local value =
-    with_value T n (attribute_name_at T n prefix local) (attribute_named T n (namespace_or_none T n prefix) local) value
+    with_value T n (attribute_name_at T n prefix local) (attribute_meant T n prefix local) value
 
 -- an attribute is gone, where it was there
 abbrev pub without_attribute : Table → Option ℕ → Table
 without_attribute T None = T
 without_attribute T (Some a) = removed T a
 
--- the attribute with an expanded name is gone
+-- the attribute that a QName means is gone
 abbrev pub attribute_unset : Table → ℕ → List ℕ → List ℕ → Table
-attribute_unset T n prefix local = without_attribute T (attribute_named T n (namespace_or_none T n prefix) local)
+attribute_unset T n prefix local = without_attribute T (attribute_meant T n prefix local)

@@ -9,6 +9,7 @@ pub use Rattle.doc_table.specs.Lines
 pub use Rattle.doc_table.specs.Growth
 pub use Rattle.doc_table.specs.Laws
 pub use Rattle.doc_table.specs.InOrder
+pub use Rattle.doc_table.specs.SameTree
 pub mod Scope
 pub mod NameTests
 pub mod Refusals

@@ -15,8 +15,8 @@ use Rattle.doc_tree.specs.declared.refusal.EditRefusal.{EditRefusal}
 use Rattle.doc_tree.specs.declared.refusal.EditRefusal.TheVariants.{WrongKind, NotInRange, RootElement, TextBeside, EmptyText, NoPrefix, XmlnsName, NoAttribute, TooManyNodes, TooDeep, TooMuchText, IdsSpent, TooManyPairs}
 use Rattle.doc_tree.specs.declared.refusal.EditError.{EditError}
 use Rattle.doc_tree.specs.declared.refusal.EditError.TheVariants.{Refused, Memory}
-use Rattle.doc_tree.specs.NameTests.{attribute_named}
-use Rattle.doc_tree.specs.Scope.{attribute_namespace, namespace_or_none, scope_at, xmlns_prefix}
+use Rattle.doc_tree.specs.NameTests.{attribute_meant}
+use Rattle.doc_tree.specs.Scope.{attribute_namespace, scope_at, xmlns_prefix}
 
 -- the answers to a reason: that very one; want of memory comes only where there is none
 abbrev pub RefusesFor : Option EditRefusal → EditError → Type 0
@@ -126,8 +126,7 @@ value_refusal tree None value =
 
 abbrev pub setting_refusal : Contents → ℕ → List ℕ → List ℕ → List ℕ → Option EditRefusal
 setting_refusal tree n prefix local value =
-    option_or (name_refusal tree.nodes n prefix local)
-    (value_refusal tree (attribute_named tree.nodes n (namespace_or_none tree.nodes n prefix) local) value)
+    option_or (name_refusal tree.nodes n prefix local) (value_refusal tree (attribute_meant tree.nodes n prefix local) value)
 
 -- an element loses an attribute
 abbrev pub absence_refusal : Option ℕ → Option EditRefusal
@@ -136,4 +135,4 @@ absence_refusal (Some a) = None
 
 abbrev pub unsetting_refusal : Table → ℕ → List ℕ → List ℕ → Option EditRefusal
 unsetting_refusal T n prefix local =
-    option_or (name_refusal T n prefix local) (absence_refusal (attribute_named T n (namespace_or_none T n prefix) local))
+    option_or (name_refusal T n prefix local) (absence_refusal (attribute_meant T n prefix local))

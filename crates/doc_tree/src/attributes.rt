@@ -5,7 +5,7 @@ ghost use Rattle.std.specs.Option.{option_copied};
 ghost use Rattle.doc_table.specs.Kinds.{is_document};
 ghost use Rattle.doc_edits.specs.Changes.{gained};
 ghost use Rattle.doc_tree.specs.Edited.{NamesGrow, attribute_name_at, attribute_set, attribute_unset};
-ghost use Rattle.doc_tree.specs.NameTests.{attribute_named};
+ghost use Rattle.doc_tree.specs.NameTests.{attribute_meant, attribute_named};
 ghost use Rattle.doc_tree.specs.Refusals.{RefusesFor, RefusesOnlyFor, declares_namespace, name_refusal, setting_refusal, unsetting_refusal, value_refusal};
 ghost use Rattle.doc_tree.specs.Scope.{attribute_namespace, namespace_or_none, scope_at};
 
@@ -39,12 +39,8 @@ impl Tree {
         ensures refused { IfErr result (RefusesFor (setting_refusal self.old n prefix.now local.now value.now)) }
         ensures unchanged { OnErr result (self.new ≡ self.old) }
     {
-        if let Some(reason) = self.name_refusal(n, prefix, local) {
-            return Err(EditError::Refused(reason));
-        }
-        let uri = self.attribute_uri(n, prefix);
-        let found = self.attribute_named(n, uri, local);
-        if let Some(reason) = self.value_refusal(found, value) {
+        let found = self.attribute_at(n, prefix, local);
+        if let Some(reason) = self.setting_refusal(n, prefix, local, found, value) {
             return Err(EditError::Refused(reason));
         }
         self.laws();
@@ -72,7 +68,7 @@ impl Tree {
         if let Some(reason) = self.name_refusal(n, prefix, local) {
             return Err(EditError::Refused(reason));
         }
-        let found = self.attribute_named(n, self.attribute_uri(n, prefix), local);
+        let found = self.attribute_at(n, prefix, local);
         match &found {
             Some(a) => {
                 self.laws();
@@ -87,7 +83,7 @@ impl Tree {
     /// Gives an element one attribute more, the last one.
     fn gain(&mut self, n: NodeId, prefix: &str, local: &str, value: &str) -> Result<(), AllocError>
         requires free { setting_refusal self.old n prefix.now local.now value.now ≡ None }
-        requires absent { attribute_named self.old.nodes n (namespace_or_none self.old.nodes n prefix.now) local.now ≡ None }
+        requires absent { attribute_meant self.old.nodes n prefix.now local.now ≡ None }
         ensures gained { OnOk result (self.new.nodes ≡ gained self.old.nodes n (attribute_name_at self.old.nodes n prefix.now local.now) value.now) }
         ensures names { NamesGrow self.old.names self.new.names }
         ensures cap { self.new.pair_cap ≡ self.old.pair_cap }
@@ -96,6 +92,19 @@ impl Tree {
         let uri = Text::copy(self.bare.alloc, self.attribute_uri(n, prefix))?;
         doc_edits::gain(&mut self.bare, n, prefix, local, uri.as_str(), value)?;
         Ok(())
+    }
+
+    /// The attribute that a QName means at an element, by the declarations in scope there; None where its prefix isn't in
+    /// scope, as `xmlns` never is (Namespaces in XML 1.0, section 6).
+    ///
+    /// Costs the element's attributes, and the declarations in scope.
+    pub fn attribute_at(&self, n: NodeId, prefix: &str, local: &str) -> Option<NodeId>
+        ensures { result ≡ attribute_meant self.now.nodes n prefix.now local.now }
+    {
+        match self.attribute_namespace(n, prefix) {
+            Some(uri) => self.attribute_named(n, uri, local),
+            None => None,
+        }
     }
 
     /// The attribute of an element with this expanded name; the namespace is empty for none.
@@ -130,6 +139,24 @@ impl Tree {
             return Some("");
         }
         self.lookup(n, prefix)
+    }
+
+    /// The first reason against a value of the attribute that a name means at a node.
+    fn setting_refusal(
+        &self,
+        n: NodeId,
+        prefix: &str,
+        local: &str,
+        found: Option<NodeId>,
+        value: &str,
+    ) -> Option<EditRefusal>
+        requires { found ≡ attribute_meant self.now.nodes n prefix.now local.now }
+        ensures { result ≡ setting_refusal self.now n prefix.now local.now value.now }
+    {
+        match self.name_refusal(n, prefix, local) {
+            Some(reason) => Some(reason),
+            None => self.value_refusal(found, value),
+        }
     }
 
     /// The first reason against the name of an attribute of a node.

@@ -54,7 +54,7 @@ impl Tree {
         ensures { result ≡ ends_in_text self.now.nodes nodes.now }
     {
         match nodes.last() {
-            Some(n) => self.is_text(*n),
+            Some(n) => self.is_kind(*n, Kind::Text),
             None => false,
         }
     }
@@ -64,16 +64,9 @@ impl Tree {
         ensures { result ≡ list_any (λ n. is_text (kind_of self.now.nodes n)) (take 1 nodes.now) }
     {
         match nodes.first() {
-            Some(n) => self.is_text(*n),
+            Some(n) => self.is_kind(*n, Kind::Text),
             None => false,
         }
-    }
-
-    /// Whether the node is a text.
-    fn is_text(&self, n: NodeId) -> bool
-        ensures { result ≡ is_text (kind_of self.now.nodes n) }
-    {
-        matches!(self.kind_of(n), Some(Kind::Text))
     }
 
     /// Puts a copy of a piece, the one kid of its root with all below it, under a node as the kid with a number, counted from

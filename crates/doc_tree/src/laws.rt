@@ -3,7 +3,6 @@
 ghost use Rattle.doc_names.specs.Numbering.{EachOnce};
 ghost use Rattle.doc_table.specs.Laws.{WellFormed, Ordered, HasWaysUp, Walks};
 ghost use Rattle.doc_table.specs.Order.{Nested};
-ghost use Rattle.doc_table.specs.inner.Sound.{Formed};
 ghost use Rattle.doc_tree.specs.Scope.{HasScopes};
 
 use crate::tree::Tree;
@@ -22,12 +21,5 @@ impl Tree {
         ensures names_once { EachOnce self.now.names }
     {
         self.bare.laws();
-    }
-
-    /// The tree's table shows a forest, which the laws on edits ask.
-    pub fn shows_forest(&self)
-        ensures { Formed self.now.nodes }
-    {
-        let _ = &self.bare;
     }
 }

@@ -20,7 +20,8 @@ pub use declarations::{is_xml, is_xmlns, undeclared_namespace, xml_namespace};
 pub use doc_names::{NameId, NameTable, WordTable};
 pub use doc_table::{
     AppendError, Cell, Kind, MAX_DEPTH, MAX_LIVE_NODES, MAX_LIVE_TEXT_BYTES, MAX_NODE_NUMBERS,
-    NewNode, NodeId, NodeList, laws_from_order, one_table, order_is_by_number,
+    NewNode, NodeId, NodeList, one_table, order_is_by_number, same_lines_same_tree,
+    same_tree_same_lines, well_formed_is_enough,
 };
 pub use refusal::{EditError, EditRefusal};
 pub use sch_base::Text;

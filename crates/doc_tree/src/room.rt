@@ -8,12 +8,19 @@ use crate::tree::Tree;
 use doc_table::{MAX_LIVE_NODES, MAX_LIVE_TEXT_BYTES, MAX_NODE_NUMBERS};
 
 impl Tree {
+    /// How many node numbers were ever made, the numbers of deleted nodes among them.
+    pub fn numbers_made(&self) -> u32
+        ensures { result ≡ length self.now.nodes }
+    {
+        self.bare.numbers_made()
+    }
+
     /// How many node numbers can still be made; the number of a deleted node is never used again.
     pub fn numbers_left(&self) -> u32
         ensures { result + length self.now.nodes ≡ MAX_NODE_NUMBERS }
     {
         self.laws();
-        MAX_NODE_NUMBERS - self.bare.numbers_made()
+        MAX_NODE_NUMBERS - self.numbers_made()
     }
 
     /// Whether more nodes than may would live after so many more.

@@ -4,7 +4,7 @@ ghost use Rattle.std.specs.Prelude.{◌≡◌, ◌<◌, true, length, Some, IfOk
 ghost use Rattle.std.specs.Option.{option_map};
 ghost use Rattle.doc_table.specs.Table.{root_alone, kind_of, name_of, parent_of, kids_of, attrs_of, value_of, is_live, numbered};
 ghost use Rattle.doc_names.specs.Numbering.{Numbered};
-ghost use Rattle.doc_table.specs.Kinds.{is_document, is_element};
+ghost use Rattle.doc_table.specs.Kinds.{is_document, is_element, is_kind};
 ghost use Rattle.doc_tree.specs.NameTests.{has_name};
 ghost use Rattle.doc_table.specs.Walks.{order};
 
@@ -101,11 +101,21 @@ impl Tree {
         self.bare.kind_of(n)
     }
 
+    /// Whether the node is of a kind; a number that isn't live is of none.
+    pub fn is_kind(&self, n: NodeId, kind: Kind) -> bool
+        ensures { result ≡ is_kind kind (kind_of self.now.nodes n) }
+    {
+        match self.kind_of(n) {
+            Some(found) => found == kind,
+            None => false,
+        }
+    }
+
     /// Whether the node is an element; a number that isn't live is none.
     pub fn is_element(&self, n: NodeId) -> bool
         ensures { result ≡ is_element (kind_of self.now.nodes n) }
     {
-        matches!(self.kind_of(n), Some(Kind::Element))
+        self.is_kind(n, Kind::Element)
     }
 
     /// Whether the root has exactly one element kid and no text kid.

@@ -1,6 +1,5 @@
 mod OnePiece
 mod OneEdit
-mod PieceSizes
 mod TreesKept
 mod ScriptsFormed
 mod SomeEdit

@@ -3,7 +3,8 @@ use Rattle.std.proofs.Common.{◌≡◌, ℕ, ◌-◌, List, Option, sym, ap, �
 use Rattle.std.specs.Prelude.{unwrap_or}
 use Rattle.pyx_core.specs.declared.event.Event.{Event}
 use Rattle.doc_tree.specs.Changes.{inserted}
-use Rattle.doc_tree.specs.InOrder.{LawsFromOrder, OneTable}
+use Rattle.doc_tree.specs.InOrder.{OneTable}
+use Rattle.doc_tree.specs.Laws.{WellFormedIsEnough}
 use Rattle.doc_tree.specs.Scope.{scope_at}
 use Rattle.doc_tree.specs.Table.{Table}
 use Rattle.edit_script.specs.declared.command.Command.{Command}
@@ -12,7 +13,7 @@ use Rattle.edit_commands.specs.Commands.{EditedAt, InsertedAt, IsEdited}
 use Rattle.edit_command_laws.specs.OneEdit.{OneEdit}
 use Rattle.edit_command_laws.proofs.OnePiece.{one-piece}
 
-module _ (laws : LawsFromOrder) (one : OneTable) (T U V : Table) where
+module _ (laws : WellFormedIsEnough) (one : OneTable) (T U V : Table) where
   inserted-once : (p at : ℕ) (events : List Event) → InsertedAt T p at events U → InsertedAt T p at events V → U ≡ V
   inserted-once p at events this other =
       this.is
@@ -31,5 +32,5 @@ module _ (laws : LawsFromOrder) (one : OneTable) (T U V : Table) where
       let same : other.node ≡ this.node = ap (λ (o : Option ℕ). unwrap_or o 0) (sym other.named ∙ this.named) in
       edited-once command this.node this.edited (subst (λ n. EditedAt T command n V) same other.edited)
 
-pub one-edit : LawsFromOrder → OneTable → OneEdit
+pub one-edit : WellFormedIsEnough → OneTable → OneEdit
 one-edit laws one T U V command this other = command-once laws one T U V command this other

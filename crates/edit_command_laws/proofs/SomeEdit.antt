@@ -1,6 +1,6 @@
 -- A command against which nothing speaks finds its node, and an insert the piece of its fragment.
 use Rattle.std.proofs.Common.{◌≡◌, ℕ, ◌-◌, ◌≤◌, Option, None, Some, refl, sum_by, arith}
-use Rattle.doc_table.specs.inner.Sound.{Formed}
+use Rattle.doc_tree.specs.Laws.{WellFormed}
 use Rattle.doc_tree.specs.limits.TheConstants.{MAX_LIVE_TEXT_BYTES}
 use Rattle.doc_tree.specs.Changes.{deleted, inserted, said}
 use Rattle.doc_tree.specs.Edited.{attribute_set, attribute_unset}
@@ -18,7 +18,7 @@ use Rattle.edit_commands.specs.Commands.{EditedAt, IsEdited, path_of, refusal_at
 use Rattle.edit_commands.specs.Paths.{node_named}
 use Rattle.edit_command_laws.specs.SomeEdit.{EditsMakeTrees}
 
-module _ (pieces : FragmentsHavePieces) (tree : Contents) (formed : Formed tree.nodes) where
+module _ (pieces : FragmentsHavePieces) (tree : Contents) (formed : WellFormed tree.nodes) where
   edited-at : (command : Command) (n : ℕ) → WellFormedCommand command → refusal_at tree command n ≡ None → (U : Table) × EditedAt tree.nodes command n U
   edited-at (Insert path at events) n form free =
       let placed = or-none (place_refusal tree.nodes n at (top_kind events)) _ free in

@@ -1,6 +1,6 @@
 -- What the commands of edit scripts ask for can be done.
 use Rattle.std.specs.Prelude.{◌≡◌, ℕ, ◌≤◌, List, length, None, All}
-use Rattle.doc_table.specs.inner.Sound.{Formed}
+use Rattle.doc_tree.specs.Laws.{WellFormed}
 use Rattle.doc_tree.specs.Table.{Contents, Table}
 use Rattle.edit_script.specs.declared.command.Command.{Command}
 use Rattle.edit_script.specs.declared.limits.TheConstants.{MAX_SCRIPT_BYTES}
@@ -10,7 +10,7 @@ use Rattle.edit_commands.specs.Commands.{IsEdited, command_refusal}
 
 -- a well-formed command against which no reason speaks makes a tree
 abbrev pub EditsMakeTrees : Type 0
-EditsMakeTrees = (tree : Contents) (command : Command) → Formed tree.nodes → WellFormedCommand command → command_refusal tree command ≡ None →
+EditsMakeTrees = (tree : Contents) (command : Command) → WellFormed tree.nodes → WellFormedCommand command → command_refusal tree command ≡ None →
     (U : Table) × IsEdited tree.nodes command U
 
 -- each command of a script that is not too long is well formed

@@ -9,7 +9,7 @@ use doc_edits::{
     additions_keep_trees, deletions_keep_trees, edits_keep_documents, removals_keep_trees,
     sayings_keep_trees,
 };
-use doc_tree::{laws_from_order, one_table};
+use doc_tree::{one_table, well_formed_is_enough};
 use name_scopes_laws::fragments_have_pieces;
 use pyx_core::events_nest;
 
@@ -17,7 +17,7 @@ use pyx_core::events_nest;
 pub fn one_edit()
     ensures { OneEdit }
 {
-    laws_from_order();
+    well_formed_is_enough();
     one_table();
 }
 

@@ -1,20 +1,18 @@
 -- An attribute of an element is set or goes.
-use Rattle.std.proofs.Common.{◌≡◌, ◌≢◌, ℕ, true, false, not, ◌&&◌, List, [], Option, None, Some, is_none, is_some, unwrap_or, refl, sym, ap, ◌∙◌, subst, true≢false}
+use Rattle.std.proofs.Common.{◌≡◌, ◌≢◌, ℕ, true, false, List, [], Option, None, Some, is_some, refl, sym, ap, ◌∙◌, subst, true≢false}
 use Rattle.std.specs.Str.{bytes_eq}
 use Rattle.std.proofs.lemmas.Slice.Eq.{bytes_eq-Decides}
 use Rattle.pyx_core.specs.Nesting.{is_name, of_chars}
-use Rattle.doc_table.specs.Laws.{HasWaysUp, Ordered, WellFormed}
-use Rattle.doc_table.specs.inner.Sound.{Formed}
-use Rattle.doc_tree.specs.declared.refusal.EditRefusal.TheVariants.{WrongKind, NoPrefix, XmlnsName}
+use Rattle.doc_table.specs.Laws.{HasWaysUp, WellFormed}
 use Rattle.doc_tree.specs.Edited.{attribute_name_at, attribute_set, attribute_unset, with_value, without_attribute}
-use Rattle.doc_tree.specs.Kinds.{is_element, is_text}
+use Rattle.doc_tree.specs.Kinds.{is_text}
 use Rattle.doc_tree.specs.Lists.{mem}
-use Rattle.doc_tree.specs.NameTests.{attribute_named}
-use Rattle.doc_tree.specs.Refusals.{absence_refusal, declares_namespace, is_nil, name_refusal, setting_refusal, unsetting_refusal, value_refusal}
-use Rattle.doc_tree.specs.Scope.{attribute_namespace, namespace_or_none, scope_at, xmlns_prefix}
+use Rattle.doc_tree.specs.NameTests.{attribute_meant}
+use Rattle.doc_tree.specs.Refusals.{absence_refusal, is_nil, name_refusal, setting_refusal, unsetting_refusal, value_refusal}
+use Rattle.doc_tree.specs.Scope.{scope_at, xmlns_prefix}
 use Rattle.doc_tree.specs.Table.{Contents, Name, Table, attrs_of, kind_of}
-use Rattle.doc_tree.proofs.AttributeLemmas.{found-member, may-gain, may-say}
-use Rattle.doc_tree.proofs.RefusalLemmas.{and-false, none-of-three, or-false, or-none}
+use Rattle.doc_tree.proofs.AttributeLemmas.{found-member, known, may-gain, may-say, no-words}
+use Rattle.doc_tree.proofs.RefusalLemmas.{and-false, or-none}
 use Rattle.doc_edits.specs.Changes.{gained, removed, said}
 use Rattle.doc_edits.specs.Fitting.{MayGain, MaySay}
 use Rattle.doc_edit_laws.specs.Along.{Edit, gains, loses, says}
@@ -28,55 +26,32 @@ use Rattle.edit_script.specs.declared.command.PathStep.{PathStep}
 use Rattle.edit_commands.specs.declared.touched.Touched.TheVariants.{Attributes, Said}
 use Rattle.edit_commands.specs.Touched.{holds_cell, touched_setting}
 use Rattle.edit_commands.specs.inner.Done.{Done}
-use Rattle.edit_commands.proofs.Forming.{formed-of}
 use Rattle.edit_commands.proofs.TextLemmas.{said-holds}
 
 -- a name against which nothing speaks
 module _ (T : Table) (n : ℕ) (prefix local : List ℕ) (free : name_refusal T n prefix local ≡ None) where
-  parts : (not (is_element (kind_of T n)) ≡ false) × ((not (bytes_eq prefix xmlns_prefix) && is_none (attribute_namespace (scope_at T n) prefix)) ≡ false)
-      × (declares_namespace prefix local ≡ false)
-  parts =
-      none-of-three (not (is_element (kind_of T n))) (not (bytes_eq prefix xmlns_prefix) && is_none (attribute_namespace (scope_at T n) prefix))
-      (declares_namespace prefix local) WrongKind NoPrefix XmlnsName free
-
-  no-words : (bytes_eq prefix xmlns_prefix ≡ false) × ((is_nil prefix && bytes_eq local xmlns_prefix) ≡ false)
-  no-words = or-false (bytes_eq prefix xmlns_prefix) (is_nil prefix && bytes_eq local xmlns_prefix) parts.2
-
-  -- its prefix is in scope
-  known : attribute_namespace (scope_at T n) prefix ≡ Some (namespace_or_none T n prefix)
-  known =
-      there (attribute_namespace (scope_at T n) prefix)
-      (and-false (not (bytes_eq prefix xmlns_prefix)) (is_none (attribute_namespace (scope_at T n) prefix)) parts.1 (ap not no-words.0))
-    where
-      there : (o : Option (List ℕ)) → is_none o ≡ false → o ≡ Some (unwrap_or o [])
-      there None h = absurd (true≢false h)
-      there (Some uri) h = refl
-
-  -- and it declares nothing
+  -- it declares nothing
   no-declaration : prefix ≡ [] → local ≢ xmlns_prefix
   no-declaration empty is =
       true≢false
-      (sym ((bytes_eq-Decides local xmlns_prefix).1 is) ∙ and-false (is_nil prefix) (bytes_eq local xmlns_prefix) no-words.1 (ap is_nil empty))
+      (sym ((bytes_eq-Decides local xmlns_prefix).1 is) ∙ and-false (is_nil prefix) (bytes_eq local xmlns_prefix) (no-words T n prefix local free).1 (ap is_nil empty))
 
   pub in-scope : (value : List ℕ) → is_qualified (attribute_name_at T n prefix local) ≡ true → of_chars value ≡ true →
       AttributeInScope (scope_at T n) (attribute_name_at T n prefix local) value
-  in-scope value qualified made = record { named = qualified; namespace = known; no_declaration = no-declaration; made = made }
+  in-scope value qualified made = record { named = qualified; namespace = known T n prefix local free; no_declaration = no-declaration; made = made }
 
-module _ (before after : Contents) (n : ℕ) (name value : List ℕ) (form : WellFormed before.nodes) (ord : Ordered before.nodes) (ways : HasWaysUp before.nodes)
+module _ (before after : Contents) (n : ℕ) (name value : List ℕ) (form : WellFormed before.nodes) (ways : HasWaysUp before.nodes)
     (free : setting_refusal before n (prefix_part name) (local_part name) value ≡ None)
     (done : after.nodes ≡ attribute_set before.nodes n (prefix_part name) (local_part name) value) (found : Option ℕ)
-    (is : found ≡ attribute_named before.nodes n (namespace_or_none before.nodes n (prefix_part name)) (local_part name)) where
+    (is : found ≡ attribute_meant before.nodes n (prefix_part name) (local_part name)) where
   abbrev T : Table
   T = before.nodes
 
   abbrev there : Option ℕ
-  there = attribute_named T n (namespace_or_none T n (prefix_part name)) (local_part name)
+  there = attribute_meant T n (prefix_part name) (local_part name)
 
   abbrev called : Name
   called = attribute_name_at T n (prefix_part name) (local_part name)
-
-  formed : Formed T
-  formed = formed-of T form ord
 
   -- an attribute that is there gets the value
   pub set-old : SayingsKeepScope → of_chars value ≡ true → (a : ℕ) → found ≡ Some a → (path : List PathStep) → Done before after (SetAttr path name value) n (Said a false)
@@ -84,14 +59,14 @@ module _ (before after : Contents) (n : ℕ) (name value : List ℕ) (form : Wel
       let at : there ≡ Some a = sym is ∙ old in
       let may : MaySay T a value = may-say before n (prefix_part name) (local_part name) value free form ways a at in
       let new : after.nodes ≡ said T a value = done ∙ ap (λ o. with_value T n called o value) at in
-      let member : mem a (attrs_of T n) ≡ true = found-member T n a (namespace_or_none T n (prefix_part name)) (local_part name) at in
+      let member : mem a (attrs_of T n) ≡ true = found-member T n a (prefix_part name) (local_part name) at in
       let no_text : false ≡ is_text (kind_of T a) = ap is_text (sym (form.attribute_kind n a member)) in
       record {
         within = free;
         edited = done;
         holds = λ c. ap (λ (U : Table). holds_cell U (Said a false) c) new ∙ (said-holds T a value false no_text c ∙ ap (λ o. touched_setting T n o c) (sym at));
         edit = subst (λ (U : Table). Edit T U (touched_setting T n there)) (sym new) (subst (λ o. Edit T (said T a value) (touched_setting T n o)) (sym at) (says a value may));
-        scope = λ s. subst InScope (sym new) (scopes T a value formed s may made);
+        scope = λ s. subst InScope (sym new) (scopes T a value form s may made);
       }
 
   -- another one comes
@@ -105,29 +80,29 @@ module _ (before after : Contents) (n : ℕ) (name value : List ℕ) (form : Wel
         edited = done;
         holds = λ c. ap (λ o. touched_setting T n o c) (sym at);
         edit = subst (λ (U : Table). Edit T U (touched_setting T n there)) (sym new) (subst (λ o. Edit T (gained T n called value) (touched_setting T n o)) (sym at) (gains n called value may));
-        scope = λ s. subst InScope (sym new) (scopes.gain T n called value formed s may
+        scope = λ s. subst InScope (sym new) (scopes.gain T n called value form s may
             (in-scope T n (prefix_part name) (local_part name) (or-none (name_refusal T n (prefix_part name) (local_part name)) (value_refusal before there value) free).0
             value (parted name named).qualified made));
       }
 
 -- an attribute goes
-pub unset-done : DeletionsKeepScope → (before after : Contents) (n : ℕ) (name : List ℕ) → WellFormed before.nodes → Ordered before.nodes →
+pub unset-done : DeletionsKeepScope → (before after : Contents) (n : ℕ) (name : List ℕ) → WellFormed before.nodes →
     unsetting_refusal before.nodes n (prefix_part name) (local_part name) ≡ None → after.nodes ≡ attribute_unset before.nodes n (prefix_part name) (local_part name) →
     (path : List PathStep) → Done before after (UnsetAttr path name) n (Attributes n)
-unset-done scopes before after n name form ord free done path =
-    by (attribute_named before.nodes n (namespace_or_none before.nodes n (prefix_part name)) (local_part name)) refl
+unset-done scopes before after n name form free done path =
+    by (attribute_meant before.nodes n (prefix_part name) (local_part name)) refl
   where
-    by : (o : Option ℕ) → attribute_named before.nodes n (namespace_or_none before.nodes n (prefix_part name)) (local_part name) ≡ o → Done before after (UnsetAttr path name) n (Attributes n)
+    by : (o : Option ℕ) → attribute_meant before.nodes n (prefix_part name) (local_part name) ≡ o → Done before after (UnsetAttr path name) n (Attributes n)
     by None at =
         absurd (true≢false (ap is_some (sym (ap absence_refusal at)
-        ∙ (or-none (name_refusal before.nodes n (prefix_part name) (local_part name)) (absence_refusal (attribute_named before.nodes n (namespace_or_none before.nodes n (prefix_part name)) (local_part name))) free).1)))
+        ∙ (or-none (name_refusal before.nodes n (prefix_part name) (local_part name)) (absence_refusal (attribute_meant before.nodes n (prefix_part name) (local_part name))) free).1)))
     by (Some a) at =
         let new : after.nodes ≡ removed before.nodes a = done ∙ ap (without_attribute before.nodes) at in
-        let member : mem a (attrs_of before.nodes n) ≡ true = found-member before.nodes n a (namespace_or_none before.nodes n (prefix_part name)) (local_part name) at in
+        let member : mem a (attrs_of before.nodes n) ≡ true = found-member before.nodes n a (prefix_part name) (local_part name) at in
         record {
           within = free;
           edited = done;
           holds = λ c. refl;
           edit = subst (λ (U : Table). Edit before.nodes U (touched_attributes n)) (sym new) (loses a n (form.attribute_kind n a member) (form.attribute_parent n a member));
-          scope = λ s. subst InScope (sym new) (scopes.removal before.nodes a (formed-of before.nodes form ord) s);
+          scope = λ s. subst InScope (sym new) (scopes.removal before.nodes a form s);
         }

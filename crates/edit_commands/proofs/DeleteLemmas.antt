@@ -1,7 +1,8 @@
 -- A node is deleted.
 use Rattle.std.proofs.Common.{◌≡◌, ℕ, Bool, true, false, not, ◌&&◌, ◌||◌, List, ◌∷◌, ◌++◌, Option, None, Some, refl, sym, ap, ap₂, ◌∙◌, subst}
-use Rattle.doc_table.specs.Laws.{Ordered, WellFormed}
+use Rattle.doc_table.specs.Laws.{WellFormed}
 use Rattle.doc_table.specs.inner.Sound.{Formed}
+use Rattle.doc_table.proofs.Forests.{formed-of}
 use Rattle.doc_table.proofs.TreeLaws.{ways-up}
 use Rattle.doc_tree.specs.cell.Cell.{Cell}
 use Rattle.doc_tree.specs.cell.Cell.TheVariants.{Kids, Shape, Attrs, Value, Text}
@@ -29,7 +30,6 @@ use Rattle.edit_script.specs.declared.command.PathStep.{PathStep}
 use Rattle.edit_commands.specs.declared.touched.Touched.TheVariants.{Below}
 use Rattle.edit_commands.specs.Touched.{holds_cell, left_cell, left_of, touched_under}
 use Rattle.edit_commands.specs.inner.Done.{Done}
-use Rattle.edit_commands.proofs.Forming.{formed-of}
 
 -- the parent of a node that is removed lives on
 parent-stays : (T : Table) (n p : ℕ) → Formed T → parent_of T n ≡ Some p → is_live (removed T n) p ≡ true
@@ -70,14 +70,14 @@ left-holds (Some texts) (Shape m) = refl
 left-holds (Some texts) (Attrs m) = refl
 left-holds (Some texts) (Text m) = refl
 
-module _ (scopes : DeletionsKeepScope) (leaves : EditsLeave) (before after : Contents) (n p : ℕ) (left : Option ℕ) (form : WellFormed before.nodes) (ord : Ordered before.nodes)
+module _ (scopes : DeletionsKeepScope) (leaves : EditsLeave) (before after : Contents) (n p : ℕ) (left : Option ℕ) (form : WellFormed before.nodes)
     (up : parent_of before.nodes n ≡ Some p) (is : left ≡ left_of (meeting before.nodes n (kids_of before.nodes p)))
     (free : deletion_refusal before.nodes n ≡ None) (done : after.nodes ≡ deleted before.nodes n) where
   abbrev T : Table
   T = before.nodes
 
   formed : Formed T
-  formed = formed-of T form ord
+  formed = formed-of T form
 
   kid : can_be_kid (kind_of T n) ≡ true
   kid = not-true (can_be_kid (kind_of T n)) (none-of-two (not (can_be_kid (kind_of T n))) (is_element (kind_of T n) && is_root (parent_of T n)) WrongKind RootElement free).0
@@ -86,11 +86,11 @@ module _ (scopes : DeletionsKeepScope) (leaves : EditsLeave) (before after : Con
   deletion = deletes n p kid up
 
   left_by : Left T (deleted T n) (λ c. false || touched_deletion T n p c)
-  left_by = leaves T (deleted T n) (λ c. false || touched_deletion T n p c) formed (then T (deleted T n) (λ _. false) (touched_deletion T n p) none deletion)
+  left_by = leaves T (deleted T n) (λ c. false || touched_deletion T n p c) form (then T (deleted T n) (λ _. false) (touched_deletion T n p) none deletion)
 
   way : ancestors (deleted T n) p ≡ ancestors T p
   way =
-      sym (ways-alike T (deleted T n) formed left_by.formed left_by.agree.parent p
+      sym (ways-alike T (deleted T n) formed (formed-of (deleted T n) left_by.after.well_formed) left_by.agree.parent p
       (of-both (is_live T p) (is_live (deleted T n) p) ((ways-up T formed).parent_live n p up) (parent-lives T n p formed up)))
 
   holds : (c : Cell) → holds_cell (deleted T n) (Below p left) c ≡ touched_deletion T n p c
@@ -104,5 +104,5 @@ module _ (scopes : DeletionsKeepScope) (leaves : EditsLeave) (before after : Con
     edited = done;
     holds = λ c. ap (λ (U : Table). holds_cell U (Below p left) c) done ∙ (holds c ∙ ap (λ o. touched_under T n o c) (sym up));
     edit = subst (λ (U : Table). Edit T U (touched_under T n (parent_of T n))) (sym done) (subst (λ o. Edit T (deleted T n) (touched_under T n o)) (sym up) deletion);
-    scope = λ s. subst InScope (sym done) (scopes.deletion T n formed s);
+    scope = λ s. subst InScope (sym done) (scopes.deletion T n form s);
   }

@@ -8,6 +8,7 @@ use Rattle.pyx_core.specs.declared.event.Event.{Event}
 use Rattle.pyx_core.specs.declared.event.Event.TheVariants as event
 use Rattle.doc_table.specs.Laws.{HasWaysUp, Ordered, Walks, WellFormed}
 use Rattle.doc_table.specs.declared.limits.TheConstants.{MAX_DEPTH}
+use Rattle.doc_table.proofs.Forests.{whole-of}
 use Rattle.doc_table.proofs.ListLemmas.{mem-append, mem-head, mem-one, mem-tail}
 use Rattle.doc_tree.specs.kind.Kind.{Kind}
 use Rattle.doc_tree.specs.kind.Kind.TheVariants as kinds
@@ -23,7 +24,6 @@ use Rattle.name_scopes.specs.Declarations.{declarations, plain_attrs}
 use Rattle.name_scopes.specs.Fragments.{is_too_deep}
 use Rattle.name_scopes.specs.ScopedTree.{attribute_line, said_by, unscoped}
 use Rattle.edit_commands.specs.Commands.{top_kind}
-use Rattle.edit_commands.proofs.Forming.{root-alone}
 
 -- the kind of a node that begins with a line
 abbrev line_kind : Line → Option Kind
@@ -285,7 +285,7 @@ module _ (P : Table) (form : WellFormed P) (ord : Ordered P) (ways : HasWaysUp P
   lines-are : lines P ≡ told (kids_of P 0) ++ []
   lines-are =
       walks.lines_at 0
-      ∙ (ap₂ (λ (o : List Line) (ats : List ℕ). (o ++ flat_map (opens P) ats) ++ (told (kids_of P 0) ++ closes P 0)) (root-lines (content_of P 0) form.root_kind).0 (root-alone P form ord)
+      ∙ (ap₂ (λ (o : List Line) (ats : List ℕ). (o ++ flat_map (opens P) ats) ++ (told (kids_of P 0) ++ closes P 0)) (root-lines (content_of P 0) form.root_kind).0 (whole-of P form).root.no_attributes
       ∙ ap (λ c. told (kids_of P 0) ++ c) (root-lines (content_of P 0) form.root_kind).1)
 
   module _ (events : List Event) (lines_say : map unscoped (lines P) ≡ flat_map said_by events) where

@@ -6,7 +6,7 @@ use Rattle.std.specs.Prelude.{IfErr, Result, Ok, Err, if◌then◌else◌, nat_l
 use Rattle.std.specs.Result.{IsErrAnd}
 use Rattle.pyx_core.specs.declared.event.Event.{Event}
 use Rattle.doc_table.specs.Laws.{HasWaysUp, Ordered, Walks, WellFormed}
-use Rattle.doc_table.specs.inner.Sound.{Formed}
+use Rattle.doc_table.proofs.Forests.{forest_of, whole-of}
 use Rattle.doc_table.specs.declared.limits.TheConstants.{MAX_LIVE_NODES, MAX_LIVE_TEXT_BYTES, MAX_NODE_NUMBERS}
 use Rattle.doc_table.proofs.Appending.{holder-live}
 use Rattle.doc_tree.specs.declared.refusal.EditError.{EditError}
@@ -42,7 +42,6 @@ use Rattle.edit_commands.specs.Touched.{holds_cell}
 use Rattle.edit_commands.specs.inner.Done.{Done}
 use Rattle.edit_commands.proofs.DeleteLemmas.{kids-hold}
 use Rattle.edit_commands.proofs.DepthLemmas.{kind-of-top, none-too-deep}
-use Rattle.edit_commands.proofs.Forming.{formed-of}
 
 or-nothing : (b : Bool) → (b || false) ≡ b
 or-nothing true = refl
@@ -90,14 +89,8 @@ module _ (before : Contents) (n at : ℕ) (events : List Event) (P : Table) (top
       ap₂ (λ (a b : Option EditRefusal). option_or a (option_or b (size_refusal before events))) (ap (place_refusal T n at) kind ∙ place) free
       ∙ sym (ap₂ option_or (ap (place_refusal T n at) kind-is ∙ place) room)
 
-  module _ (scopes : AdditionsKeepScope) (after : Contents) (tree_form : WellFormed T) (tree_ord : Ordered T)
+  module _ (scopes : AdditionsKeepScope) (after : Contents) (tree_form : WellFormed T)
       (within : tree.insertion_refusal before n at P ≡ None) (done : after.nodes ≡ inserted T n (at - 1) P) where
-    formed : Formed T
-    formed = formed-of T tree_form tree_ord
-
-    piece : Formed P
-    piece = formed-of P form ord
-
     may : MayTake T n (at - 1) P
     may = may-take before n at P within ord one
 
@@ -105,7 +98,7 @@ module _ (before : Contents) (n at : ℕ) (events : List Event) (P : Table) (top
     live = holder-live T n may.under
 
     way : ancestors (inserted T n (at - 1) P) n ≡ ancestors T n
-    way = way-old T P n (at - 1) live formed.forest formed.whole n live
+    way = way-old T P n (at - 1) live (forest_of T) (whole-of T tree_form) n live
 
     pub insert-done : (path : List PathStep) → Done before after (Insert path at events) n (Below n None)
     insert-done path = record {
@@ -114,8 +107,8 @@ module _ (before : Contents) (n at : ℕ) (events : List Event) (P : Table) (top
       holds = λ c.
           ap (λ (U : Table). holds_cell U (Below n None) c) done
           ∙ (or-nothing (touched_kids (inserted T n (at - 1) P) n c) ∙ kids-hold T (inserted T n (at - 1) P) n way c);
-      edit = subst (λ (U : Table). Edit T U (touched_kids T n)) (sym done) (inserts n (at - 1) P piece may);
-      scope = λ s. subst InScope (sym done) (scopes.insertion T n (at - 1) P formed piece s may scoped.in_scope);
+      edit = subst (λ (U : Table). Edit T U (touched_kids T n)) (sym done) (inserts n (at - 1) P form may);
+      scope = λ s. subst InScope (sym done) (scopes.insertion T n (at - 1) P tree_form form s may scoped.in_scope);
     }
 
   pub insert-refused : (e : EditError) → RefusesFor (tree.insertion_refusal before n at P) e → (path : List PathStep) → RefusesAt before (Insert path at events) n (of_edit e)

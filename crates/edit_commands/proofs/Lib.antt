@@ -2,7 +2,6 @@ mod AttributeLemmas
 mod CommandLemmas
 mod DeleteLemmas
 pub mod DepthLemmas
-mod Forming
 mod InsertLemmas
 mod MeetingLemmas
 pub mod TextLemmas

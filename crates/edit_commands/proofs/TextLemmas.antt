@@ -2,7 +2,7 @@
 use Rattle.std.proofs.Common.{◌≡◌, ℕ, ◌+◌, Bool, true, false, not, ◌&&◌, List, length, Option, None, Some, is_some, refl, sym, ap, ap₂, ◌∙◌, subst, true≢false, ltb-false}
 use Rattle.std.specs.Prelude.{nat_lt}
 use Rattle.pyx_core.specs.Nesting.{of_chars}
-use Rattle.doc_table.specs.Laws.{Ordered, WellFormed}
+use Rattle.doc_table.specs.Laws.{WellFormed}
 use Rattle.doc_table.specs.declared.limits.TheConstants.{MAX_LIVE_TEXT_BYTES}
 use Rattle.doc_tree.specs.cell.Cell.{Cell}
 use Rattle.doc_tree.specs.cell.Cell.TheVariants.{Kids, Shape, Attrs, Value, Text}
@@ -28,7 +28,6 @@ use Rattle.edit_script.specs.declared.command.PathStep.{PathStep}
 use Rattle.edit_commands.specs.declared.touched.Touched.TheVariants.{Said}
 use Rattle.edit_commands.specs.Touched.{holds_cell}
 use Rattle.edit_commands.specs.inner.Done.{Done}
-use Rattle.edit_commands.proofs.Forming.{formed-of}
 
 -- what is kept of the edit holds the cells that it touches
 pub said-holds : (T : Table) (n : ℕ) (new : List ℕ) (is : Bool) → is ≡ is_text (kind_of T n) → (c : Cell) → holds_cell (said T n new) (Said n is) c ≡ touched_saying T n c
@@ -72,13 +71,13 @@ module _ (T : Table) (n : ℕ) (new : List ℕ) (free : text_refusal T n new ≡
     little = ltb-false (MAX_LIVE_TEXT_BYTES + length (value_of T n)) (text_bytes T + length new) parts.2;
   }
 
-pub text-done : SayingsKeepScope → (before after : Contents) (n : ℕ) (new : List ℕ) (is : Bool) → WellFormed before.nodes → Ordered before.nodes →
+pub text-done : SayingsKeepScope → (before after : Contents) (n : ℕ) (new : List ℕ) (is : Bool) → WellFormed before.nodes →
     of_chars new ≡ true → is ≡ is_text (kind_of before.nodes n) → text_refusal before.nodes n new ≡ None → after.nodes ≡ said before.nodes n new →
     (path : List PathStep) → Done before after (SetText path new) n (Said n is)
-text-done scopes before after n new is form ord made kind free done path = record {
+text-done scopes before after n new is form made kind free done path = record {
   within = free;
   edited = done;
   holds = λ c. ap (λ (U : Table). holds_cell U (Said n is) c) done ∙ said-holds before.nodes n new is kind c;
   edit = subst (λ (U : Table). Edit before.nodes U (touched_saying before.nodes n)) (sym done) (says n new (may-say before.nodes n new free));
-  scope = λ s. subst InScope (sym done) (scopes before.nodes n new (formed-of before.nodes form ord) s (may-say before.nodes n new free) made);
+  scope = λ s. subst InScope (sym done) (scopes before.nodes n new form s (may-say before.nodes n new free) made);
 }

@@ -4,8 +4,7 @@ use Rattle.doc_tree.specs.cell.Cell.{Cell}
 use Rattle.doc_tree.specs.cell.Cell.TheVariants.{Kids, Shape, Attrs, Value, Text}
 use Rattle.doc_tree.specs.Changes.{Meeting}
 use Rattle.doc_tree.specs.Lists.{mem}
-use Rattle.doc_tree.specs.NameTests.{attribute_named}
-use Rattle.doc_tree.specs.Scope.{namespace_or_none}
+use Rattle.doc_tree.specs.NameTests.{attribute_meant}
 use Rattle.doc_tree.specs.Table.{Table, parent_of}
 use Rattle.doc_tree.specs.Walks.{ancestors}
 use Rattle.doc_edit_laws.specs.Touching.{touched_attributes, touched_deletion, touched_kids, touched_saying}
@@ -32,7 +31,7 @@ touched_at T (Insert path at piece) n = touched_kids T n
 touched_at T (Delete path) n = touched_under T n (parent_of T n)
 touched_at T (SetText path text) n = touched_saying T n
 touched_at T (SetAttr path name value) n =
-    touched_setting T n (attribute_named T n (namespace_or_none T n (prefix_part name)) (local_part name))
+    touched_setting T n (attribute_meant T n (prefix_part name) (local_part name))
 touched_at T (UnsetAttr path name) n = touched_attributes n
 
 abbrev pub touched_where : Table → Command → Option ℕ → Cell → Bool

@@ -17,13 +17,13 @@ ghost use Rattle.edit_commands.specs.Touched.{holds_cell, left_of, touched_by};
 ghost use Rattle.edit_commands.specs.inner.Done.{Done, Keeps, NotDone};
 
 use crate::inserting::insert_piece;
-use crate::names::{attribute_at, split};
 use crate::paths::node_named;
 use crate::refusal::ApplyError;
 use crate::touched::Touched;
 use doc_edit_laws::edits_leave_the_rest;
 use doc_tree::{EditRefusal, Kind, NodeId, Tree};
 use edit_script::{Command, Path};
+use name_scopes::split;
 use name_scopes_laws::edits_keep_scope;
 use std::alloc::Global;
 
@@ -109,16 +109,9 @@ fn set_text(tree: &mut Tree, n: NodeId, text: &str) -> Result<Touched, ApplyErro
 {
     tree.laws();
     edits_keep_scope();
-    let is_text = is_text(tree, n);
+    let is_text = tree.is_kind(n, Kind::Text);
     tree.set_text(n, text)?;
     Ok(Touched::Said { node: n, is_text })
-}
-
-/// Whether a node is a text.
-fn is_text(tree: &Tree, n: NodeId) -> bool
-    ensures { result ≡ is_text (kind_of tree.now.nodes n) }
-{
-    matches!(tree.kind_of(n), Some(Kind::Text))
 }
 
 /// Deletes a node.
@@ -155,7 +148,7 @@ fn left_of(tree: &Tree, n: NodeId, kids: &[NodeId]) -> Option<NodeId>
 fn left_text(tree: &Tree, left: NodeId, right: NodeId) -> Option<NodeId>
     ensures { result ≡ (if is_text (kind_of tree.now.nodes left) && is_text (kind_of tree.now.nodes right) then Some left else None) }
 {
-    if is_text(tree, left) && is_text(tree, right) {
+    if tree.is_kind(left, Kind::Text) && tree.is_kind(right, Kind::Text) {
         Some(left)
     } else {
         None
@@ -174,7 +167,7 @@ fn set_attribute(tree: &mut Tree, n: NodeId, name: &str, value: &str) -> Result<
     tree.laws();
     edits_keep_scope();
     let qname = split(name);
-    let found = attribute_at(tree, n, qname.prefix, qname.local);
+    let found = tree.attribute_at(n, qname.prefix, qname.local);
     tree.set_attr(n, qname.prefix, qname.local, value)?;
     match found {
         Some(attribute) => Ok(Touched::Said {

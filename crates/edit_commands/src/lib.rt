@@ -3,7 +3,6 @@
 
 mod commands;
 mod inserting;
-mod names;
 mod paths;
 mod refusal;
 mod touched;

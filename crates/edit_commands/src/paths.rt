@@ -1,12 +1,10 @@
 //! The node that a path names.
 
 ghost use Rattle.std.specs.Prelude.{◌≡◌, ◌-◌, ◌≤◌, slice_get};
-ghost use Rattle.doc_tree.specs.Kinds.{is_kind};
-ghost use Rattle.doc_tree.specs.Table.{kind_of};
 ghost use Rattle.edit_script.specs.WellFormed.{IsPath};
 ghost use Rattle.edit_commands.specs.Paths.{kids_of_kind, node_named};
 
-use doc_tree::{Kind, NodeId, Tree};
+use doc_tree::{NodeId, Tree};
 use edit_script::PathStep;
 
 /// The node that a path names; None where it names none.
@@ -33,7 +31,7 @@ fn kid_at(tree: &Tree, node: NodeId, step: PathStep) -> Option<NodeId>
 {
     let mut left = step.index - 1;
     for kid in tree.kids(node) {
-        if is_of_kind(tree, *kid, step.kind) {
+        if tree.is_kind(*kid, step.kind) {
             if left == 0 {
                 return Some(*kid);
             }
@@ -41,14 +39,4 @@ fn kid_at(tree: &Tree, node: NodeId, step: PathStep) -> Option<NodeId>
         }
     }
     None
-}
-
-/// Whether a node is of a kind.
-fn is_of_kind(tree: &Tree, node: NodeId, kind: Kind) -> bool
-    ensures { result ≡ is_kind kind (kind_of tree.now.nodes node) }
-{
-    match tree.kind_of(node) {
-        Some(found) => found == kind,
-        None => false,
-    }
 }

@@ -1,8 +1,8 @@
 -- What holds of units and edits.
 use Rattle.std.specs.Prelude.{◌≡◌, ◌↔◌, ℕ, ◌<◌, Bool, true, false, take, Option, Some, Result, slice_get}
 use Rattle.std.specs.List.{AllByRecursion as Each}
-use Rattle.doc_table.specs.inner.Sound.{Formed}
 use Rattle.doc_tree.specs.cell.Cell.{Cell}
+use Rattle.doc_tree.specs.Laws.{WellFormed}
 use Rattle.doc_tree.specs.Table.{Table, is_live}
 use Rattle.doc_edit_laws.specs.Along.{Edits}
 use Rattle.xp_outcome.specs.Evaluation.{Read, cell, variable}
@@ -21,10 +21,10 @@ use Rattle.edit_costs.specs.Units.{in_force, under}
 
 -- a unit that edits leave clean gives, reads and costs the same in the tree that they make
 pub record CleanUnitsStand : Type 0 where
-  pub lets : (plan : Plan) (T U : Table) (touched : Cell → Bool) (slot : ℕ) (t : LetInForce) → Formed T → Edits T U touched →
+  pub lets : (plan : Plan) (T U : Table) (touched : Cell → Bool) (slot : ℕ) (t : LetInForce) → WellFormed T → Edits T U touched →
       slice_get plan.lets slot ≡ Some t → is_dirty plan T U touched (in_force slot) ≡ false →
       unit_let U (take slot (lets_of plan U)) t.expr ≡ unit_let T (take slot (lets_of plan T)) t.expr
-  pub pairs : (plan : Plan) (T U : Table) (touched : Cell → Bool) (p n : ℕ) → Formed T → Edits T U touched → RulesTyped plan p →
+  pub pairs : (plan : Plan) (T U : Table) (touched : Cell → Bool) (p n : ℕ) → WellFormed T → Edits T U touched → RulesTyped plan p →
       is_live U n ≡ true → is_dirty plan T U touched (under p n) ≡ false →
       unit_pair plan U (lets_of plan U) p n ≡ unit_pair plan T (lets_of plan T) p n
 

@@ -1,5 +1,5 @@
 -- How bytes are cut at their first line end.
-use Rattle.std.proofs.Common.{◌≡◌, ℕ, suc, ◌+◌, ◌<◌, ◌≤◌, ◌==◌, true, false, None, List, [], ◌∷◌, ◌++◌, length, take, drop, get_or, arith, refl, sym, ◌∙◌, ap, add-one, append_assoc, length-drop, length-take}
+use Rattle.std.proofs.Common.{◌≡◌, ℕ, suc, ◌+◌, ◌<◌, ◌≤◌, ◌==◌, true, false, None, List, [], ◌∷◌, ◌++◌, length, take, drop, get_or, arith, refl, sym, ◌∙◌, ap, add-one, append_assoc, length-append, length-drop, length-take}
 use Rattle.std.proofs.Math.Seq.{split_at}
 use Rattle.std.proofs.lemmas.Bool.{eqb-true}
 use Rattle.pyx_core.specs.Before.{is_nil}
@@ -55,12 +55,14 @@ no_lines (b ∷ bytes) none = absurd (none_zero (length bytes) none)
 
 -- empty lines were skipped, from the line with a number on
 pub record Skips (from : ℕ) (bytes : List ℕ) (number : ℕ) (rest : List ℕ) : Type 0 where
-  pub script : script_at None from (lines_of bytes) ≡ script_at None number (lines_of rest)
+  pub empty : List (List ℕ)
+  pub lines : lines_of bytes ≡ empty ++ lines_of rest
+  pub number_is : number ≡ from + length empty
+  pub script : (more : List (List ℕ)) → script_at None from (empty ++ more) ≡ script_at None number more
   pub few : number + length rest ≤ from + length bytes
-  pub later : from ≤ number
 
 pub skips_start : (from : ℕ) (bytes : List ℕ) → Skips from bytes from bytes
-skips_start from bytes = record { script = refl; few = omega arith; later = omega arith }
+skips_start from bytes = record { empty = []; lines = refl; number_is = omega arith; script = λ more. refl; few = omega arith }
 
 empty_step : (number : ℕ) (line : List ℕ) (lines : List (List ℕ)) → (length line == 0) ≡ true →
     script_at None number (line ∷ lines) ≡ script_at None (number + 1) lines
@@ -70,9 +72,14 @@ empty_step number (b ∷ line) lines none = absurd (none_zero (length line) none
 pub skips_line : (from : ℕ) (bytes : List ℕ) (number : ℕ) (rest line after : List ℕ) → Skips from bytes number rest → Cuts rest line after →
     (length line == 0) ≡ true → Skips from bytes (number + 1) after
 skips_line from bytes number rest line after on cut none = record {
-  script = on.script ∙ ap (script_at None number) cut.lines ∙ empty_step number line (lines_of after) none;
+  empty = on.empty ++ line ∷ [];
+  lines = on.lines ∙ ap (λ l. on.empty ++ l) cut.lines ∙ sym (append_assoc on.empty (line ∷ []) (lines_of after));
+  number_is = omega (arith, on.number_is, length-append on.empty (line ∷ []));
+  script = λ more.
+      ap (script_at None from) (append_assoc on.empty (line ∷ []) more)
+      ∙ on.script (line ∷ more)
+      ∙ empty_step number line more none;
   few = omega (arith, on.few, cut.shorter);
-  later = omega (arith, on.later);
 }
 
 some_line : (line : List ℕ) → (length line == 0) ≡ false → is_nil line ≡ false
@@ -82,12 +89,14 @@ some_line (b ∷ line) some = refl
 pub skips_found : (from : ℕ) (bytes : List ℕ) (number : ℕ) (rest line after : List ℕ) → Skips from bytes number rest → Cuts rest line after →
     (length line == 0) ≡ false → Reaches from bytes number line after
 skips_found from bytes number rest line after on cut some = record {
-  script = on.script ∙ ap (script_at None number) cut.lines;
+  empty = on.empty;
+  lines = on.lines ∙ ap (λ l. on.empty ++ l) cut.lines;
+  number_is = on.number_is;
+  script = on.script;
   some = some_line line some;
   few = omega (arith, on.few, cut.shorter);
-  later = on.later;
 }
 
 pub skips_end : (from : ℕ) (bytes : List ℕ) (number : ℕ) (rest : List ℕ) → Skips from bytes number rest → lines_of rest ≡ [] →
     script_at None from (lines_of bytes) ≡ nothing
-skips_end from bytes number rest on none = on.script ∙ ap (script_at None number) none
+skips_end from bytes number rest on none = ap (script_at None from) (on.lines ∙ ap (λ l. on.empty ++ l) none) ∙ on.script []

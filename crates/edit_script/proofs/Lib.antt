@@ -7,3 +7,4 @@ pub mod PartLemmas
 pub mod PathLemmas
 pub mod PayloadLemmas
 pub mod PieceLemmas
+pub mod TakenLemmas

@@ -13,8 +13,8 @@ pub record ReadsOn (bytes rest : List ℕ) (count : ℕ) : Type 0 where
   pub few : count + length rest ≤ length bytes
   pub text : 0 < length rest → bytes ≡ joined lines ++ rest
   pub all : lines_of bytes ≡ lines ++ lines_of rest
-  pub script : (insert : Opened) (number : ℕ) → script_at (Some insert) number (lines_of bytes)
-      ≡ script_at (Some (with_lines insert lines)) (number + count) (lines_of rest)
+  pub script : (insert : Opened) (number : ℕ) (more : List (List ℕ)) → script_at (Some insert) number (lines ++ more)
+      ≡ script_at (Some (with_lines insert lines)) (number + count) more
 
 abbrev pub opened_with : Opened → List (List ℕ) → Opened
 opened_with insert lines = record { line = insert.line; path = insert.path; at = insert.at; lines = lines }
@@ -30,10 +30,10 @@ reads_start bytes = record {
   few = omega arith;
   text = λ some. refl;
   all = refl;
-  script = λ insert number.
+  script = λ insert number more.
       let none : number ≡ number + 0 = omega arith in
-      ap (λ n. script_at (Some insert) n (lines_of bytes)) none
-      ∙ ap (λ ls. script_at (Some (opened_with insert ls)) (number + 0) (lines_of bytes)) (sym (append-nil insert.lines));
+      ap (λ n. script_at (Some insert) n more) none
+      ∙ ap (λ ls. script_at (Some (opened_with insert ls)) (number + 0) more) (sym (append-nil insert.lines));
 }
 
 line_step : (insert : Opened) (number count : ℕ) (read : List (List ℕ)) (line : List ℕ) (later : List (List ℕ)) → is_dot line ≡ false →
@@ -58,10 +58,10 @@ reads_line bytes rest line after count on cut other = record {
       ∙ sym (append_assoc (joined on.lines) (with_end line) after)
       ∙ ap (λ l. l ++ after) (sym (joined-next on.lines line));
   all = on.all ∙ ap (λ l. on.lines ++ l) cut.lines ∙ sym (append_assoc on.lines (line ∷ []) (lines_of after));
-  script = λ insert number.
-      on.script insert number
-      ∙ ap (script_at (Some (with_lines insert on.lines)) (number + count)) cut.lines
-      ∙ line_step insert number count on.lines line (lines_of after) other;
+  script = λ insert number more.
+      ap (script_at (Some insert) number) (append_assoc on.lines (line ∷ []) more)
+      ∙ on.script insert number (line ∷ more)
+      ∙ line_step insert number count on.lines line more other;
 }
 
 dot_step : (insert : Opened) (number count : ℕ) (read : List (List ℕ)) (line : List ℕ) (later : List (List ℕ)) → is_dot line ≡ true →
@@ -88,18 +88,21 @@ reads_dot bytes rest line after text count on cut dot text_is =
       count_is = on.count_is;
       few = omega (arith, on.few, cut.shorter);
       short = omega (arith, ap length is, ap length (on.text (omega (arith, cut.shorter))), length-append (joined on.lines) rest);
-      script = λ insert number.
-          on.script insert number
-          ∙ ap (script_at (Some (with_lines insert on.lines)) (number + count)) cut.lines
-          ∙ dot_step insert number count on.lines line (lines_of after) dot;
+      taken = on.lines ++ line ∷ [];
+      front = on.all ∙ ap (λ l. on.lines ++ l) cut.lines ∙ sym (append_assoc on.lines (line ∷ []) (lines_of after));
+      more_is = omega (arith, on.count_is, length-append on.lines (line ∷ []));
+      script = λ insert number more.
+          ap (script_at (Some insert) number) (append_assoc on.lines (line ∷ []) more)
+          ∙ on.script insert number (line ∷ more)
+          ∙ dot_step insert number count on.lines line more dot;
     }
 
 -- no line is left
 pub reads_end : (bytes rest : List ℕ) (count : ℕ) → ReadsOn bytes rest count → lines_of rest ≡ [] → IsUnended bytes
 reads_end bytes rest count on none = λ insert number.
     let all : lines_of bytes ≡ on.lines = on.all ∙ ap (λ l. on.lines ++ l) none ∙ append-nil on.lines in
-    on.script insert number
-    ∙ ap (script_at (Some (with_lines insert on.lines)) (number + count)) none
+    ap (script_at (Some insert) number) (on.all ∙ ap (λ l. on.lines ++ l) none)
+    ∙ on.script insert number []
     ∙ ap (λ ls. stops (payload_fault (with_lines insert ls))) (sym all)
 
 -- lines are copied, each with its line end

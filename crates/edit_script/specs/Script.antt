@@ -1,5 +1,5 @@
 -- The commands of an edit script: how its lines become commands, and where its first fault is.
-use Rattle.std.specs.Prelude.{ℕ, suc, ◌+◌, Bool, ◌&&◌, if◌then◌else◌, List, [], ◌∷◌, ◌++◌, length, Option, None, Some, Result, Ok, Err, is_none}
+use Rattle.std.specs.Prelude.{◌≡◌, ℕ, suc, ◌+◌, Bool, ◌&&◌, if◌then◌else◌, List, [], ◌∷◌, ◌++◌, length, Option, None, Some, Result, Ok, Err, is_none}
 use Rattle.std.specs.List.{flat_map}
 use Rattle.std.specs.Str.{bytes_eq}
 use Rattle.pyx_core.specs.declared.event.Event.{Event}
@@ -120,6 +120,30 @@ script_at (Some insert) number (line ∷ lines) =
     if is_dot line then inserts insert (script_at None (suc number) lines)
     else script_at (Some (with_line insert line)) (suc number) lines
 
+-- the lines of a script that are left, between commands, and the number of the first
+pub record LinesLeft : Type 0 where
+  pub number : ℕ
+  pub lines : List (List ℕ)
+
+-- the lines of some bytes, the first of which has a number
+abbrev pub left_from : ℕ → List ℕ → LinesLeft
+left_from first bytes = record { number = first; lines = lines_of bytes }
+
+-- all lines of a script
+abbrev pub at_start : List ℕ → LinesLeft
+at_start bytes = left_from 1 bytes
+
+-- what the lines that are left give
+abbrev pub script_left : LinesLeft → Script
+script_left left = script_at None left.number left.lines
+
 -- what a script gives
 abbrev pub script_of : List ℕ → Script
-script_of bytes = script_at None 1 (lines_of bytes)
+script_of bytes = script_left (at_start bytes)
+
+-- a command was taken from the lines that were left: some lines in front, which alone give this command and no more
+pub record Takes (command : Command) (old new : LinesLeft) : Type 0 where
+  pub taken : List (List ℕ)
+  pub front : old.lines ≡ taken ++ new.lines
+  pub number : new.number ≡ old.number + length taken
+  pub alone : script_at None old.number taken ≡ onto command nothing

@@ -4,12 +4,15 @@ ghost use Rattle.std.specs.Prelude.{◌≡◌, ◌∷◌, [], true, false, Some,
 ghost use Rattle.std.specs.List.{list_all};
 ghost use Rattle.std.specs.Str.{chars, is_utf8};
 ghost use Rattle.sch_base.specs.Characters.{is_xml_char};
+ghost use Rattle.pyx_core.specs.Escapes.{unescaped};
 ghost use Rattle.pyx_core.specs.Nesting.{of_chars};
-ghost use Rattle.edit_script.specs.CommandLine.{command_line, delete_of, fields, insert_of, said_by, set_of, text_of, unset_of, value_behind_one, value_behind_two};
+ghost use Rattle.edit_script.specs.CommandLine.{command_line, delete_of, fields, if_name, insert_of, said_by, set_of, text_of, unset_of, value_behind_one, value_behind_two};
+ghost use Rattle.edit_script.specs.declared.command.Command.TheVariants.{SetAttr};
+ghost use Rattle.edit_script.specs.declared.command.Said.TheVariants.{Whole};
 ghost use Rattle.edit_script.specs.inner.Fields.{IsNotTwo, StartsWith};
 
 use crate::ScriptKind;
-use crate::command::{Command, Said, Verb};
+use crate::command::{Command, Path, Said, Verb};
 use crate::fields::{is_qname, read_number, split_space, verb_of};
 use crate::paths::read_path;
 use pyx_core::unescape;
@@ -146,17 +149,44 @@ fn read_set(alloc: Global, text: &str) -> Result<Result<Said, ScriptKind>, Alloc
         return Ok(Err(ScriptKind::BadWord));
     };
     let (name, value) = first_field(behind);
-    let Some(path) = read_path(alloc, path)? else {
-        return Ok(Err(ScriptKind::BadPath));
-    };
+    match read_path(alloc, path)? {
+        Some(path) => set_at(alloc, path, name, value),
+        None => Ok(Err(ScriptKind::BadPath)),
+    }
+}
+
+/// The command that gives a value, whose escapes are still to be undone, to an attribute of the node with the path.
+fn set_at(
+    alloc: Global,
+    path: Path,
+    name: &str,
+    value: &str,
+) -> Result<Result<Said, ScriptKind>, AllocError>
+    ensures { IfOk result (λ said. said ≡ if_name name.now (Whole (SetAttr path name.now (unescaped value.now)))) }
+{
     if !is_qname(name) {
+        drop(path);
         return Ok(Err(ScriptKind::BadName));
     }
+    match copy_attribute(alloc, name, value) {
+        Ok((name, value)) => Ok(Ok(Said::Whole {
+            command: Command::SetAttr { path, name, value },
+        })),
+        Err(error) => {
+            drop(path);
+            Err(error)
+        }
+    }
+}
+
+/// The name and the value of an attribute, which has its escapes undone.
+fn copy_attribute(alloc: Global, name: &str, value: &str) -> Result<(Text, Text), AllocError>
+    ensures name { IfOk result (λ both. both.0 ≡ name.now) }
+    ensures value { IfOk result (λ both. both.1 ≡ unescaped value.now) }
+{
     let name = Text::copy(alloc, name)?;
     let value = unescape(alloc, value)?;
-    Ok(Ok(Said::Whole {
-        command: Command::SetAttr { path, name, value },
-    }))
+    Ok((name, value))
 }
 
 fn read_unset(alloc: Global, text: &str) -> Result<Result<Said, ScriptKind>, AllocError>

@@ -1,21 +1,24 @@
 //! The reader of a script, command by command.
 
-ghost use Rattle.std.specs.Prelude.{◌≡◌, ◌≤◌, length, IfOk, IfErr, IfNone, IfSome, OnErr};
-ghost use Rattle.edit_script.specs.Script.{nothing, onto, script_of, stops};
+ghost use Rattle.std.specs.Prelude.{◌≡◌, ◌≤◌, ◌+◌, false, suc, length, Ok, IfOk, IfErr, IfNone, IfSome, OnErr};
+ghost use Rattle.pyx_core.specs.Before.{is_nil};
+ghost use Rattle.edit_script.specs.CommandLine.{command_line};
+ghost use Rattle.edit_script.specs.declared.command.Said.TheVariants.{Opening};
+ghost use Rattle.edit_script.specs.Script.{Takes, at_start, nothing, onto, script_left, stops};
 ghost use Rattle.edit_script.specs.WellFormed.{WellFormedCommand};
 ghost use Rattle.edit_script.specs.declared.limits.TheConstants.{MAX_SCRIPT_BYTES};
 ghost use Rattle.edit_script.specs.Faults.{IfFault};
+ghost use Rattle.edit_script.specs.inner.Reader.{Breaks, IsTaken};
 
-use crate::command::{Command, Said};
+use crate::command::{Command, Path, Said};
 use crate::command_line::command_line;
-use crate::lines::next_line;
+use crate::lines::{Numbered, next_line};
 use crate::payload::read_insertion;
 use crate::{ScriptError, ScriptFault};
 use std::alloc::Global;
 use std::marker::Model;
 
-/// A reader of a script, seen by contracts as what is still to come: the commands before the first fault, and this
-/// fault.
+/// A reader of a script, seen by contracts as the lines that are left, and the number of the first.
 ///
 /// The time of all calls together grows with the bytes, asking again after a fault apart: the line with the fault, or the
 /// insert whose fragment has it, is then read again.
@@ -29,13 +32,13 @@ pub struct ScriptReader<'a> {
 }
 
 impl<'a> Model for ScriptReader<'a> {
-    ghost use Rattle.std.specs.Prelude.{◌≤◌, None, length};
-    ghost use Rattle.edit_script.specs.Script.{Script, lines_of, script_at};
+    ghost use Rattle.std.specs.Prelude.{◌≤◌, length};
+    ghost use Rattle.edit_script.specs.Script.{LinesLeft, left_from};
     ghost use Rattle.edit_script.specs.inner.Reader.{IsWithin};
 
-    ghost Value = { Script };
+    ghost Value = { LinesLeft };
 
-    ghost view = { λ r. script_at None r.number (lines_of r.rest.now) };
+    ghost view = { λ r. left_from r.number r.rest.now };
 
     ghost invariant = { λ r. IsWithin r.number r.rest.now };
 }
@@ -44,7 +47,7 @@ impl<'a> ScriptReader<'a> {
     /// A reader before the first command of a script.
     pub fn new(alloc: Global, bytes: &'a [u8]) -> ScriptReader<'a>
         requires { length bytes.now ≤ MAX_SCRIPT_BYTES }
-        ensures { result ≡ script_of bytes.now }
+        ensures { result ≡ at_start bytes.now }
     {
         ScriptReader {
             alloc,
@@ -57,35 +60,79 @@ impl<'a> ScriptReader<'a> {
     ///
     /// After a fault the reader answers it again, and after want of memory it stands in front of the command.
     pub fn next(&mut self) -> Result<Option<Command>, ScriptError>
-        ensures command { IfOk result (λ next. IfSome next (λ command. self.old ≡ onto command self.new)) }
+        ensures command { IfOk result (λ next. IfSome next (λ command. script_left self.old ≡ onto command (script_left self.new))) }
+        // and the reader stands behind its lines
+        ensures taken { IfOk result (λ next. IfSome next (λ command. Takes command self.old self.new)) }
         ensures formed { IfOk result (λ next. IfSome next WellFormedCommand) }
-        ensures end { IfOk result (λ next. IfNone next ((self.old ≡ nothing) × (self.new ≡ self.old))) }
-        ensures fault { IfErr result (IfFault (λ found. self.old ≡ stops found)) }
+        ensures end { IfOk result (λ next. IfNone next ((script_left self.old ≡ nothing) × (self.new ≡ self.old))) }
+        ensures fault { IfErr result (IfFault (λ found. script_left self.old ≡ stops found)) }
         ensures unchanged { OnErr result (self.new ≡ self.old) }
     {
         let Some(next) = next_line(self.number, self.rest) else {
             return Ok(None);
         };
-        match command_line(self.alloc, next.line)? {
-            Ok(Said::Whole { command }) => {
-                self.number = next.number + 1;
-                self.rest = next.rest;
-                Ok(Some(command))
-            }
-            Ok(Said::Opening { path, at }) => {
-                let done = read_insertion(self.alloc, next.number, next.rest)?;
-                self.number = done.number;
-                self.rest = done.rest;
-                Ok(Some(Command::Insert {
-                    path,
-                    at,
-                    piece: done.piece,
-                }))
-            }
-            Err(kind) => Err(ScriptError::Fault(ScriptFault {
-                line: next.number,
-                kind,
-            })),
+        let taken = read_command(self.alloc, next)?;
+        self.number = taken.number;
+        self.rest = taken.rest;
+        Ok(Some(taken.command))
+    }
+}
+
+/// A command, and where the script goes on.
+#[derive(Drop)]
+struct Taken<'a> {
+    command: Command,
+    /// The number of the line behind the command.
+    number: u64,
+    rest: &'a [u8],
+}
+
+/// The command in a line, with the fragment behind an insert.
+fn read_command(alloc: Global, next: Numbered) -> Result<Taken, ScriptError>
+    requires filled { is_nil next.line.now ≡ false }
+    requires some { 1 ≤ next.number }
+    requires few { next.number + length next.rest.now ≤ suc MAX_SCRIPT_BYTES }
+    ensures taken { IfOk result (IsTaken next.entry.number next.entry.line.now next.entry.rest.now) }
+    ensures formed { IfOk result (λ taken. WellFormedCommand taken.command) }
+    ensures fault { IfErr result (IfFault (Breaks next.entry.number next.entry.line.now next.entry.rest.now)) }
+{
+    match command_line(alloc, next.line)? {
+        Ok(Said::Whole { command }) => Ok(Taken {
+            command,
+            number: next.number + 1,
+            rest: next.rest,
+        }),
+        Ok(Said::Opening { path, at }) => read_opened(alloc, next, path, at),
+        Err(kind) => Err(ScriptError::Fault(ScriptFault {
+            line: next.number,
+            kind,
+        })),
+    }
+}
+
+/// The insert that a line opens, with the fragment behind it.
+fn read_opened(alloc: Global, next: Numbered, path: Path, at: u32) -> Result<Taken, ScriptError>
+    requires filled { is_nil next.line.now ≡ false }
+    requires opens { command_line next.line.now ≡ Ok (Opening path at) }
+    requires some { 1 ≤ next.number }
+    requires few { next.number + length next.rest.now ≤ suc MAX_SCRIPT_BYTES }
+    ensures taken { IfOk result (IsTaken next.entry.number next.entry.line.now next.entry.rest.now) }
+    ensures formed { IfOk result (λ taken. WellFormedCommand taken.command) }
+    ensures fault { IfErr result (IfFault (Breaks next.entry.number next.entry.line.now next.entry.rest.now)) }
+{
+    match read_insertion(alloc, next.number, next.rest) {
+        Ok(done) => Ok(Taken {
+            command: Command::Insert {
+                path,
+                at,
+                piece: done.piece,
+            },
+            number: done.number,
+            rest: done.rest,
+        }),
+        Err(error) => {
+            drop(path);
+            Err(error)
         }
     }
 }

@@ -79,7 +79,7 @@ module _ (leave : EditsLeave) where
   brought : (past : Past) (T U : Table) (last : Cell → Bool) (n : ℕ) → LedTo past T → Edit T U last → is_live T n ≡ false → is_live U n ≡ true → is_live past.base n ≡ false
   brought past T U last n led edit was now =
       let to = leave past.base T (touched_since past.made) led.formed led.edits in
-      let on = leave T U (λ c. false || last c) to.formed (then T U (λ c. false) last none edit) in
+      let on = leave T U (λ c. false || last c) to.after.well_formed (then T U (λ c. false) last none edit) in
       ⊎_elim
       (λ (made : n < length T). absurd (true≢false (sym (on.agree.no_return n made now) ∙ was)))
       (λ (past_all : length T ≤ n). past-end past.base n (omega (arith, past_all, to.agree.numbers)))

@@ -1,8 +1,8 @@
 -- What holds of stale units.
 use Rattle.std.specs.Prelude.{◌≡◌, ℕ, Bool, true, false, ◌||◌, None, Some}
 use Rattle.std.specs.List.{list_any}
-use Rattle.doc_table.specs.inner.Sound.{Formed}
 use Rattle.doc_tree.specs.cell.Cell.{Cell}
+use Rattle.doc_tree.specs.Laws.{WellFormed}
 use Rattle.doc_tree.specs.Table.{Table, is_live}
 use Rattle.doc_edit_laws.specs.Along.{Edit, Edits}
 use Rattle.edit_script.specs.declared.command.Command.{Command}
@@ -18,7 +18,7 @@ read_one_of plan past cells unit = list_any (is_touched cells) (reads_of plan pa
 
 -- the commands that were done made T of the tree over which all units were last evaluated
 pub record LedTo (past : Past) (T : Table) : Type 0 where
-  pub formed : Formed past.base
+  pub formed : WellFormed past.base
   pub edits : Edits past.base T (touched_since past.made)
 
 pub record StaleAfterEdit : Type 0 where

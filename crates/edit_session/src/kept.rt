@@ -1,8 +1,8 @@
 //! What a session keeps of its units.
 
 ghost use Rattle.std.specs.Prelude.{◌≡◌, ◌≤◌, IfOk, OnOk, Option, Some};
-ghost use Rattle.doc_table.specs.inner.Sound.{Formed};
 ghost use Rattle.doc_tree.specs.cell.Cell.{Cell};
+ghost use Rattle.doc_tree.specs.Laws.{WellFormed};
 ghost use Rattle.doc_tree.specs.Table.{Table};
 ghost use Rattle.doc_edit_laws.specs.Along.{Edit};
 ghost use Rattle.edit_script.specs.declared.command.Command.{Command};
@@ -26,7 +26,7 @@ use xp_outcome::Steps;
 
 /// Marks as stale the units that read a cell that a command touched, where some are kept. The tree is the one that the command left.
 pub(crate) fn mark(kept: &mut Option<KeptUnits>, tree: &Tree, touched: &Touched)
-    ensures { (plan : Plan) (T : Table) (past : Option Past) (command : Command) → Formed T →
+    ensures { (plan : Plan) (T : Table) (past : Option Past) (command : Command) → WellFormed T →
         Edit T tree.now.nodes (touched_by T command) → ((c : Cell) → holds_cell tree.now.nodes touched.now c ≡ touched_by T command c) →
         AreKept plan T past kept.old → AreKept plan tree.now.nodes (done_more past T command) kept.new }
 {

@@ -136,7 +136,7 @@ impl Session {
         ensures plan { self.new.plan ≡ self.old.plan }
         ensures cap { self.new.tree.pair_cap ≡ self.old.tree.pair_cap }
     {
-        self.tree.shows_forest();
+        self.tree.laws();
         let after = self.remembered.with(&self.tree, command);
         match apply_to(self.alloc, &mut self.tree, command) {
             Ok(touched) => {

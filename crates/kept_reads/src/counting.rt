@@ -6,7 +6,7 @@ ghost use Rattle.kept_reads.specs.Counting.{is_stale_node};
 ghost use Rattle.kept_reads.specs.Reads.{reads_at};
 
 use crate::kept_reads::KeptReads;
-use doc_tree::{MAX_NODE_NUMBERS, NodeId, Tree};
+use doc_tree::{NodeId, Tree};
 
 impl KeptReads {
     /// How many of the units at the first places are stale.
@@ -31,7 +31,7 @@ impl KeptReads {
         requires { p < patterns }
         ensures { result ≡ count_by (is_stale_node tree.now.nodes self.now.entries.items patterns p) (range_with_len 0 (length tree.now.nodes)) }
     {
-        let numbers = MAX_NODE_NUMBERS - tree.numbers_left();
+        let numbers = tree.numbers_made();
         let mut count = 0;
         for number in 0..numbers {
             if self.is_stale_node(tree, patterns, p, NodeId::from_number(number)) {

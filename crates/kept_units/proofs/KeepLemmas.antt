@@ -4,7 +4,7 @@ use Rattle.std.proofs.lemmas.Bool.{cases_lt}
 use Rattle.std.proofs.lemmas.List.{get_or_past}
 use Rattle.std.proofs.lemmas.List.Elements.{filter-append}
 use Rattle.std.specs.List.{filter, flat_map, list_any}
-use Rattle.doc_table.specs.inner.Sound.{Formed}
+use Rattle.doc_tree.specs.Laws.{WellFormed}
 use Rattle.doc_tree.specs.Table.{Table, is_live}
 use Rattle.doc_edit_laws.specs.Along.{none}
 use Rattle.xp_outcome.specs.Evaluation.{Read, cell, variable}
@@ -98,7 +98,7 @@ fresh_pair plan T p n live =
     ∙ fresh_reads plan T (under p n) (note_all nothing_read (reads_of plan T (under p n)))
 
 -- once all is refreshed, what is kept is of the tree
-pub keeps_fresh : (order : LetsStandInOrder) (plan : Plan) (T : Table) (since : Option Since) (old mid new last : KeptUnits) (flags : List Bool) (before middle start after : ℕ) → Formed T → Keeps plan T since old →
+pub keeps_fresh : (order : LetsStandInOrder) (plan : Plan) (T : Table) (since : Option Since) (old mid new last : KeptUnits) (flags : List Bool) (before middle start after : ℕ) → WellFormed T → Keeps plan T since old →
     LetsAlone plan old mid → LetsRefreshed plan since T (length plan.lets) old mid flags before middle → PairsAlone mid new →
     PatternsRefreshed plan since T (length plan.patterns) mid new start after → PassesNodes T new last → Keeps plan T (Some (fresh T)) last
 keeps_fresh order plan T since old mid new last flags before middle start after formed keeps alone lets pairs patterns passes = record {

@@ -7,7 +7,7 @@ use Rattle.std.proofs.lemmas.Bool.{cases_lt, true≢false}
 use Rattle.std.proofs.lemmas.List.{get_or_past}
 use Rattle.std.specs.FinSet.{from_list, insert, items}
 use Rattle.std.specs.List.{list_any}
-use Rattle.doc_table.specs.inner.Sound.{Formed}
+use Rattle.doc_tree.specs.Laws.{WellFormed}
 use Rattle.doc_tree.specs.cell.Cell.{Cell}
 use Rattle.doc_tree.specs.Table.{Table, is_live}
 use Rattle.doc_edit_laws.specs.Along.{Edit, Edits, EditsLeave, none, then}
@@ -144,7 +144,7 @@ one_edit : (T U : Table) (last : Cell → Bool) → Edit T U last → Edits T U 
 one_edit T U last edit = (then) T U (λ c. false) last none edit
 
 -- a node that lives only after an edit has a number past those before
-new_past : EditsLeave → (T U : Table) (last : Cell → Bool) (n : ℕ) → Formed T → Edit T U last → is_live U n ≡ true → is_live T n ≡ false → length T ≤ n
+new_past : EditsLeave → (T U : Table) (last : Cell → Bool) (n : ℕ) → WellFormed T → Edit T U last → is_live U n ≡ true → is_live T n ≡ false → length T ≤ n
 new_past leave T U last n formed edit lives dead = elim (cases_lt n (length T)) [
   | inl within ↦ absurd (true≢false (sym ((leave T U (λ c. false || last c) formed (one_edit T U last edit)).agree.no_return n within lives) ∙ dead))
   | inr past ↦ past
@@ -161,7 +161,7 @@ new_unit leave plan T (Some since) last kept p n known past =
 
 -- The units
 
-known_too : EditsLeave → (plan : Plan) (T U : Table) (since : Option Since) (last : Cell → Bool) (old new : KeptUnits) → Formed T → Edit T U last →
+known_too : EditsLeave → (plan : Plan) (T U : Table) (since : Option Since) (last : Cell → Bool) (old new : KeptUnits) → WellFormed T → Edit T U last →
     new.lets ≡ old.lets → new.found ≡ old.found → IfSome since (KeepsSince plan T old) → IfSome (touched_too since last) (KeepsSince plan U new)
 known_too leave plan T U None last old new formed edit lets found known = tt
 known_too leave plan T U (Some since) last old new formed edit lets found known = record {
@@ -176,7 +176,7 @@ known_too leave plan T U (Some since) last old new formed edit lets found known 
 }
 
 -- what is kept of units over a tree is kept over the tree that an edit makes, once what it touched is dropped
-pub marked : EditsLeave → (plan : Plan) (T U : Table) (since : Option Since) (held last : Cell → Bool) (old new : KeptUnits) (width : ℕ) → Formed T → Edit T U last →
+pub marked : EditsLeave → (plan : Plan) (T U : Table) (since : Option Since) (held last : Cell → Bool) (old new : KeptUnits) (width : ℕ) → WellFormed T → Edit T U last →
     ((c : Cell) → held c ≡ last c) → new.lets ≡ old.lets → new.found ≡ old.found → width ≡ old.found.patterns → Marks held 1 old.let_reads new.let_reads → Marks held width old.reads new.reads →
     Keeps plan T since old → Keeps plan U (touched_too since last) new
 marked leave plan T U since held last old new width formed edit same lets found width_is let_marks marks keeps = record {

@@ -1,8 +1,8 @@
 -- What is kept of the units of a plan over a tree: what each gave when all were last evaluated, and what it read, where no edit has
 -- touched that since.
 use Rattle.std.specs.Prelude.{◌≡◌, ℕ, ◌+◌, ◌*◌, ◌<◌, ◌≤◌, Bool, true, false, ◌||◌, length, Option, None, Some, IfSome, is_none, if◌then◌else◌}
-use Rattle.doc_table.specs.inner.Sound.{Formed}
 use Rattle.doc_tree.specs.cell.Cell.{Cell}
+use Rattle.doc_tree.specs.Laws.{WellFormed}
 use Rattle.doc_tree.specs.Table.{Table, is_live}
 use Rattle.doc_edit_laws.specs.Along.{Edits}
 use Rattle.xp_outcome.specs.Recorded.{Recorded, note_all, nothing_read}
@@ -36,7 +36,7 @@ place_of plan p n = n * length plan.patterns + p
 
 -- what is kept is of the tree over which all units were last evaluated; the edits since made T of it
 pub record KeepsSince (plan : Plan) (T : Table) (kept : KeptUnits) (since : Since) : Type 0 where
-  pub formed : Formed since.base
+  pub formed : WellFormed since.base
   pub edits : Edits since.base T since.touched
   pub lets : kept.lets ≡ lets_of plan since.base
   pub outcomes : (p n : ℕ) → p < length plan.patterns → is_live since.base n ≡ true → is_live T n ≡ true →

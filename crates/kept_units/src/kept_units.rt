@@ -8,7 +8,7 @@ ghost use Rattle.edit_costs.specs.Dirty.{Since, units_to_run};
 ghost use Rattle.kept_units.specs.Keeping.{Keeps, fresh};
 ghost use Rattle.kept_units.specs.inner.Refreshing.{PassesNodes, Reaches};
 
-use doc_tree::{MAX_NODE_NUMBERS, Tree};
+use doc_tree::Tree;
 use kept_reads::KeptReads;
 use rule_run::{Caller, Lets, PlanRun};
 use sch_compiled::{Findings, Plan};
@@ -68,7 +68,7 @@ impl KeptUnits {
         ensures steps { steps.old ≤ steps.new }
     {
         lets_stand_in_order();
-        tree.shows_forest();
+        tree.laws();
         let run = PlanRun {
             caller: Caller { alloc, tree },
             plan,
@@ -84,7 +84,7 @@ impl KeptUnits {
     fn pass_nodes(&mut self, tree: &Tree) -> Result<(), AllocError>
         ensures { OnOk result (PassesNodes tree.now.nodes self.old self.new) }
     {
-        let numbers = MAX_NODE_NUMBERS - tree.numbers_left();
+        let numbers = tree.numbers_made();
         self.reads.pass(numbers as usize)?;
         Ok(())
     }
@@ -95,7 +95,7 @@ impl KeptUnits {
         ensures { OnOk result (Reaches run.now.plan.now run.now.caller.tree.now.nodes self.old self.new) }
     {
         let plan = run.plan;
-        let numbers = MAX_NODE_NUMBERS - run.caller.tree.numbers_left();
+        let numbers = run.caller.tree.numbers_made();
         let alloc = run.caller.alloc;
         self.let_reads.prepare(alloc, plan.let_count() as usize)?;
         self.reads

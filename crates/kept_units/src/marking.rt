@@ -1,8 +1,8 @@
 //! Which units an edit touches.
 
 ghost use Rattle.std.specs.Prelude.{◌≡◌, Bool, Option};
-ghost use Rattle.doc_table.specs.inner.Sound.{Formed};
 ghost use Rattle.doc_tree.specs.cell.Cell.{Cell};
+ghost use Rattle.doc_tree.specs.Laws.{WellFormed};
 ghost use Rattle.doc_tree.specs.Table.{Table};
 ghost use Rattle.doc_edit_laws.specs.Along.{Edit};
 ghost use Rattle.sch_compiled.specs.declared.plan.Plan.{Plan};
@@ -22,7 +22,7 @@ impl KeptUnits {
     /// Takes no memory. Once a refresh has come behind an edit, goes to the readers of each touched cell alone, so that it costs the
     /// way up from a node, and a look at what these units have read; before, looks at what all units have read.
     pub fn mark(&mut self, tree: &Tree, touched: &Touched)
-        ensures { (plan : Plan) (T : Table) (since : Option Since) (last : Cell → Bool) → Formed T → Edit T tree.now.nodes last →
+        ensures { (plan : Plan) (T : Table) (since : Option Since) (last : Cell → Bool) → WellFormed T → Edit T tree.now.nodes last →
             ((c : Cell) → holds_cell tree.now.nodes touched.now c ≡ last c) → Keeps plan T since self.old →
             Keeps plan tree.now.nodes (touched_too since last) self.new }
     {

@@ -13,7 +13,7 @@ ghost use Rattle.kept_units.specs.inner.Refreshing.{GoesOn, IsReady, NodesRefres
 
 use crate::kept_units::KeptUnits;
 use crate::refreshing_lets::is_to_run;
-use doc_tree::{MAX_NODE_NUMBERS, NodeId};
+use doc_tree::NodeId;
 use edit_costs::clean_units_stand;
 use kept_reads::place_in_row;
 use rule_run::{KeptMatches, PlanRun, run_pair_with};
@@ -82,7 +82,7 @@ impl KeptUnits {
         clean_units_stand();
         rules_are_typed(at.run.plan, at.pattern);
         let mut matches = KeptMatches::new(at.run.caller.alloc);
-        let numbers = MAX_NODE_NUMBERS - at.run.caller.tree.numbers_left();
+        let numbers = at.run.caller.tree.numbers_made();
         let mut number = 0;
         while number < numbers {
             let next = self.go_on(at, number, numbers, &mut matches, steps)?;

@@ -1,47 +1,37 @@
 -- The names of items as they are written, read again.
 use Rattle.std.proofs.Common.{◌≡◌, ℕ, zero, suc, ◌+◌, Bool, true, false, not, ◌&&◌, ◌||◌, List, [], ◌∷◌, ◌++◌, length, map, Option, None, Some, is_some, refl, sym, ap, ap₂, ◌∙◌, true≢false, arith, append-nil}
-use Rattle.std.proofs.Math.Bool.{or-true}
-use Rattle.std.proofs.lemmas.List.Folds.{list_any-append}
 use Rattle.std.specs.Prelude.{if◌then◌else◌, nat_lt}
-use Rattle.std.specs.List.{list_any, list_all, before_first, after_first, position_or_len}
+use Rattle.std.specs.List.{list_any, list_all, before_first, after_first}
 use Rattle.std.specs.Option.{option_to_list}
 use Rattle.std.specs.Str.{bytes_eq, IsAscii}
 use borrow.Author.Tests.{ltb-true}
 use Rattle.std.proofs.lemmas.Str.{IsUtf8-from_ascii, chars-IsAscii}
-use Rattle.std.proofs.Math.Seq.{take-append_seam, drop-append-add}
 use Rattle.std.proofs.lemmas.Slice.Eq.{bytes_eq-Decides}
 use Rattle.std.proofs.lemmas.Bool.{false_from_ne_true}
-use Rattle.std.proofs.lemmas.Grind.{common_steps}
 use Rattle.sch_base.specs.Characters.{is_name_char, is_name_start, is_xml_char}
 use Rattle.sch_base.specs.Names.{is_colon, is_ncname, is_ncname_of, split_at_colon, QNamesSplit}
+use Rattle.sch_base.proofs.NameLemmas.{after_colon, before_colon, has_colon}
 use Rattle.pyx_core.specs.declared.event.Attr.{Attr}
 use Rattle.pyx_core.specs.LineTable.{is_qname}
+use Rattle.pyx_core.specs.Before.{is_nil}
 use Rattle.pyx_core.specs.Nesting.{is_attr, is_name, of_chars}
 use Rattle.doc_tree.specs.Scope.{Decl, namespace_in, xmlns_prefix}
 use Rattle.doc_tree.specs.Table.{Name}
 use Rattle.doc_tree.specs.QNames.{qname_of, spelled_name}
 use Rattle.doc_write.specs.TreeText.{declaring_name}
 use Rattle.name_scopes.specs.QNames.{prefix_part, local_part}
-use Rattle.name_scopes.specs.Declarations.{declaration_of, declarations, has_both_quotes, is_bad_declaration, is_empty, plain_attrs}
+use Rattle.name_scopes.specs.Declarations.{declaration_of, declarations, has_both_quotes, is_bad_declaration, plain_attrs}
 use Rattle.name_scopes.specs.Scoping.{AttributeInScope, attribute_namespace, is_good_declaration, is_part, is_qualified}
 use Rattle.std.proofs.lemmas.Bool.{and_parts, and_from}
 use Rattle.pyx_core.proofs.TextLemmas.{made_of, utf8_of, of_chars_append}
 use Rattle.name_scopes.proofs.Items.{Pair, PairsFit, decl_attr, pair_attr, start_attrs}
 
--- the place of the first colon
-colon_place : (prefix name : List ℕ) → list_any is_colon prefix ≡ false → position_or_len is_colon (prefix ++ 58 ∷ name) ≡ length prefix
-colon_place [] name none = refl
-colon_place (b ∷ prefix) name none = grind (arith, common_steps, colon_place prefix name)
-
-has_colon : (prefix name : List ℕ) → list_any is_colon (prefix ++ 58 ∷ name) ≡ true
-has_colon prefix name = list_any-append is_colon prefix (58 ∷ name) ∙ or-true (list_any is_colon prefix)
-
 -- two parts with a colon between them
 pub prefix-at : (prefix local : List ℕ) → list_any is_colon prefix ≡ false → prefix_part (prefix ++ 58 ∷ local) ≡ prefix
-prefix-at prefix local none = rw (has_colon prefix local, colon_place prefix local none) (take-append_seam prefix (58 ∷ local))
+prefix-at prefix local none = rw (has_colon prefix local) (before_colon prefix local none)
 
 pub local-at : (prefix local : List ℕ) → list_any is_colon prefix ≡ false → local_part (prefix ++ 58 ∷ local) ≡ local
-local-at prefix local none = rw (has_colon prefix local, colon_place prefix local none) (drop-append-add prefix (58 ∷ local) 1)
+local-at prefix local none = rw (has_colon prefix local) (after_colon prefix local none)
 
 -- one part
 pub prefix-none : (local : List ℕ) → list_any is_colon local ≡ false → prefix_part local ≡ []
@@ -89,12 +79,12 @@ unfolding is_xml_char
 colon_made = ascii-made (58 ∷ []) refl refl
 
 pub spelled : QNamesSplit → (name : Name) → is_qualified name ≡ true → Spelled name
-spelled splits name h = by name.prefix refl (and_parts (is_empty name.prefix || is_part name.prefix) (is_part name.local) h)
+spelled splits name h = by name.prefix refl (and_parts (is_nil name.prefix || is_part name.prefix) (is_part name.local) h)
   where
     local : is_part name.local ≡ true → list_any is_colon name.local ≡ false
     local part = without_colon splits name.local part
 
-    by : (prefix : List ℕ) → name.prefix ≡ prefix → ((is_empty prefix || is_part prefix) ≡ true) × (is_part name.local ≡ true) → Spelled name
+    by : (prefix : List ℕ) → name.prefix ≡ prefix → ((is_nil prefix || is_part prefix) ≡ true) × (is_part name.local ≡ true) → Spelled name
     by [] e parts =
         let spells : qname_of name ≡ name.local = ap (λ p. spelled_name p name.local) e in
         let none = local parts.1 in
@@ -119,7 +109,7 @@ spelled splits name h = by name.prefix refl (and_parts (is_empty name.prefix || 
 
 -- declarations
 
-xmlns-colon : list_any is_colon xmlns_prefix ≡ false
+pub xmlns-colon : list_any is_colon xmlns_prefix ≡ false
 unfolding xmlns_prefix
 xmlns-colon = refl
 
@@ -134,11 +124,11 @@ xmlns-named = ap is_ncname_of (chars-IsAscii xmlns_prefix (ascii xmlns_prefix re
 xmlns-part : is_part xmlns_prefix ≡ true
 xmlns-part = and_from (of_chars xmlns_prefix) (is_ncname xmlns_prefix) xmlns-made xmlns-named
 
-xmlns-same : bytes_eq xmlns_prefix xmlns_prefix ≡ true
+pub xmlns-same : bytes_eq xmlns_prefix xmlns_prefix ≡ true
 xmlns-same = (bytes_eq-Decides xmlns_prefix xmlns_prefix).1 refl
 
 -- a text with a colon is not `xmlns`
-colon_apart : (prefix local : List ℕ) → bytes_eq (prefix ++ 58 ∷ local) xmlns_prefix ≡ false
+pub colon_apart : (prefix local : List ℕ) → bytes_eq (prefix ++ 58 ∷ local) xmlns_prefix ≡ false
 colon_apart prefix local = false_from_ne_true (bytes_eq (prefix ++ 58 ∷ local) xmlns_prefix) (λ (same : bytes_eq (prefix ++ 58 ∷ local) xmlns_prefix ≡ true).
     true≢false (sym (has_colon prefix local) ∙ ap (list_any is_colon) ((bytes_eq-Decides (prefix ++ 58 ∷ local) xmlns_prefix).0 same) ∙ xmlns-colon))
 
@@ -169,8 +159,8 @@ neither qname value one other = rw (one, other) refl
 pub no_declaration : QNamesSplit → (scope : List Decl) (a : Pair) → AttributeInScope scope a.0 a.1 → declaration_of (pair_attr a) ≡ None
 no_declaration splits scope a fits = by a.0.prefix refl
   where
-    parts : ((is_empty a.0.prefix || is_part a.0.prefix) ≡ true) × (is_part a.0.local ≡ true)
-    parts = and_parts (is_empty a.0.prefix || is_part a.0.prefix) (is_part a.0.local) fits.named
+    parts : ((is_nil a.0.prefix || is_part a.0.prefix) ≡ true) × (is_part a.0.local ≡ true)
+    parts = and_parts (is_nil a.0.prefix || is_part a.0.prefix) (is_part a.0.local) fits.named
 
     read : Spelled a.0
     read = spelled splits a.0 fits.named
@@ -208,7 +198,7 @@ pub tag-attributes : QNamesSplit → (scope decls : List Decl) (attrs : List Pai
 tag-attributes splits scope decls attrs fit = plain-none decls (map pair_attr attrs) ∙ all_plain splits scope attrs fit
 
 -- the names of the attributes that declare, and of the others, are QNames
-declaring-named : QNamesSplit → (prefix : List ℕ) → (is_empty prefix || is_part prefix) ≡ true → is_name (declaring_name prefix) ≡ true
+declaring-named : QNamesSplit → (prefix : List ℕ) → (is_nil prefix || is_part prefix) ≡ true → is_name (declaring_name prefix) ≡ true
 declaring-named splits [] h =
     let is = and_parts (of_chars xmlns_prefix) (is_ncname xmlns_prefix) xmlns-part in
     and_from (of_chars xmlns_prefix) (is_qname xmlns_prefix) is.0 (ap is_some (splits.local xmlns_prefix (utf8_of xmlns_prefix is.0) is.1))
@@ -228,7 +218,7 @@ good-parts false b c d h = absurd (cc)
 
 -- what a good declaration is
 pub record GoodDecl (decl : Decl) : Type 0 where
-  pub prefix : (is_empty decl.0 || is_part decl.0) ≡ true
+  pub prefix : (is_nil decl.0 || is_part decl.0) ≡ true
   pub made : of_chars decl.1 ≡ true
   pub may_be : is_bad_declaration decl ≡ false
   pub quoted : has_both_quotes decl ≡ false
@@ -239,7 +229,7 @@ not-true false h = refl
 
 pub good_decl : (decl : Decl) → is_good_declaration decl ≡ true → GoodDecl decl
 good_decl decl h =
-    let parts = good-parts (is_empty decl.0 || is_part decl.0) (of_chars decl.1) (not (is_bad_declaration decl)) (not (has_both_quotes decl)) h in
+    let parts = good-parts (is_nil decl.0 || is_part decl.0) (of_chars decl.1) (not (is_bad_declaration decl)) (not (has_both_quotes decl)) h in
     record {
       prefix = parts.0;
       made = parts.1;

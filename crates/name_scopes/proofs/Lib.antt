@@ -1,4 +1,3 @@
-pub mod Chains
 pub mod NumberLemmas
 pub mod BindingLemmas
 pub mod TagLemmas
@@ -17,6 +16,7 @@ pub mod WholeLemmas
 pub mod Items
 pub mod ItemText
 pub mod ItemNames
+pub mod DeclaringNames
 pub mod ItemLines
 pub mod ItemNest
 pub mod ItemFaults

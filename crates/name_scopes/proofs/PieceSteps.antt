@@ -37,8 +37,16 @@ piece-none around loader is_tree is_place is_scope = record {
   top = ap (λ (t : Contents). length (kids_of t.nodes 0)) is_tree;
 }
 
-plain-more : (taken : List Event) (e : Event) → sum_by plain_text (taken ++ e ∷ []) ≡ sum_by plain_text taken + plain_text e
+pub plain-more : (taken : List Event) (e : Event) → sum_by plain_text (taken ++ e ∷ []) ≡ sum_by plain_text taken + plain_text e
 plain-more taken e = sum_by-append plain_text taken (e ∷ []) ∙ ap (λ (k : ℕ). sum_by plain_text taken + k) (sum_by-cons plain_text e [] ∙ omega arith)
+
+-- the text of an event that is no tag is that of its node
+pub leaf-plain : (e : Event) → IsLeaf e → plain_text e ≡ length (value_in (leaf_of e))
+leaf-plain (event.Start name attrs) leaf = absurd leaf
+leaf-plain (event.End name) leaf = absurd leaf
+leaf-plain (event.Chars text) leaf = refl
+leaf-plain (event.Pi target body) leaf = refl
+leaf-plain (event.Comment text) leaf = refl
 
 module _ (around : List Decl) (taken : List Event) (place : Place) (standing : Standing) (old : Loader) (loads : PieceLoads around taken place standing old) where
   -- a start tag
@@ -102,16 +110,6 @@ module _ (around : List Decl) (taken : List Event) (place : Place) (standing : S
 
   -- an event that is no tag
   module _ (e : Event) (leaf : IsLeaf e) (comes : PieceComes around taken place standing e) where
-    pub leaf-plain : plain_text e ≡ length (value_in (leaf_of e))
-    leaf-plain = by e leaf
-      where
-        by : (e : Event) → IsLeaf e → plain_text e ≡ length (value_in (leaf_of e))
-        by (event.Start name attrs) leaf = absurd leaf
-        by (event.End name) leaf = absurd leaf
-        by (event.Chars text) leaf = refl
-        by (event.Pi target body) leaf = refl
-        by (event.Comment text) leaf = refl
-
     one-node : standing.nodes + 1 ≤ MAX_LIVE_NODES
     one-node = by e leaf comes.room
       where
@@ -123,7 +121,7 @@ module _ (around : List Decl) (taken : List Event) (place : Place) (standing : S
         by (event.Comment text) leaf h = h
 
     pub leaf-little : text_bytes old.tree.nodes + length (value_in (leaf_of e)) ≤ MAX_LIVE_TEXT_BYTES
-    leaf-little = omega (arith, comes.little, loads.text, leaf-plain)
+    leaf-little = omega (arith, comes.little, loads.text, leaf-plain e leaf)
 
     -- there is room for it
     pub leaf-few : has_too_many old.tree.nodes ≡ false
@@ -138,7 +136,7 @@ module _ (around : List Decl) (taken : List Event) (place : Place) (standing : S
       builds = subst (Builds around (taken ++ e ∷ []) (after Document place e) (moved standing e) new.tree.nodes) (sym same_place)
           (builds-leaf around taken place standing old.tree.nodes old.place loads.builds new.tree.nodes n ways formed laws e leaf comes.fits grew);
       scope_is = same_scope ∙ (loads.scope_is ∙ ap (λ (s : List (List Decl)). in_scope s ++ around) (scopes-after around taken place standing old.tree.nodes old.place loads.builds new.tree.nodes n ways formed laws e leaf));
-      text = grew.more_text ∙ (ap₂ (λ (a b : ℕ). a + b) loads.text (sym leaf-plain) ∙ sym (plain-more taken e));
+      text = grew.more_text ∙ (ap₂ (λ (a b : ℕ). a + b) loads.text (sym (leaf-plain e leaf)) ∙ sym (plain-more taken e));
       top = ap (λ (l : List ℕ). length l) (kids-stay old.tree.nodes new.tree.nodes old.place n (leaf_of e) grew ways formed (open-apart old.tree.nodes place.opened standing.scopes old.place formed (comes.inside leaf) loads.builds.tells.way))
           ∙ (loads.top ∙ ap (λ (b : Bool). if b then 1 else 0) (begun ∙ sym (still e leaf)));
     }

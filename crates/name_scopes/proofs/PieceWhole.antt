@@ -1,5 +1,5 @@
 -- All events of a fragment, one by one, and the piece that they are.
-use Rattle.std.proofs.Common.{◌≡◌, ◌≢◌, ℕ, ◌+◌, ◌≤◌, suc, pred, zero, Bool, true, false, ◌&&◌, ◌||◌, List, [], ◌∷◌, ◌++◌, length, drop, take, sum_by, None, Some, refl, sym, ap, ap₂, ◌∙◌, subst, true≢false, arith, append-nil, nat_lt, ltb-false}
+use Rattle.std.proofs.Common.{◌≡◌, ◌≢◌, ℕ, ◌+◌, ◌≤◌, suc, pred, zero, Bool, true, false, ◌&&◌, ◌||◌, List, [], ◌∷◌, ◌++◌, length, drop, take, sum_by, Option, None, Some, is_none, refl, sym, ap, ap₂, ◌∙◌, subst, true≢false, arith, append-nil, nat_lt, ltb-false}
 use Rattle.std.specs.Prelude.{if◌then◌else◌}
 use Rattle.std.specs.List.{list_any}
 use Rattle.std.proofs.lemmas.Bool.{le-ltb, or_parts}
@@ -17,15 +17,17 @@ use Rattle.doc_tree.specs.limits.TheConstants.{MAX_DEPTH, MAX_LIVE_NODES, MAX_LI
 use Rattle.doc_tree.specs.Table.{Table, kids_of}
 use Rattle.doc_tree.specs.Walks.{above, order}
 use Rattle.doc_tree.specs.Laws.{HasWaysUp}
-use Rattle.doc_tree.specs.Scope.{Decl, scope_at}
+use Rattle.doc_tree.specs.Scope.{Decl, namespace_in, scope_at}
+use Rattle.doc_tree.proofs.RefusalLemmas.{none-of-four}
 use Rattle.name_scopes.specs.declared.build.Loader.{Loader}
+use Rattle.name_scopes.specs.declared.fault.DocKind.{DocKind}
 use Rattle.name_scopes.specs.declared.fault.DocKind.TheVariants as kind
-use Rattle.name_scopes.specs.Declarations.{declarations, is_bad_declaration, has_both_quotes}
-use Rattle.name_scopes.specs.DocFaults.{Standing, begin, has_pair, in_scope, outer_scopes, same_qname, tag_fault, moved}
+use Rattle.name_scopes.specs.Declarations.{declarations, plain_attrs}
+use Rattle.name_scopes.specs.DocFaults.{Standing, begin, declaring_fault, has_pair, in_scope, lacks_prefix, outer_scopes, same_qname, tag_fault, moved}
+use Rattle.name_scopes.specs.QNames.{prefix_part}
 use Rattle.name_scopes.specs.Fragments.{IsFragment, event_nodes, is_too_deep, names_fault, own_fault, own_tag_fault, piece_refusal, plain_text, some_tag, tag_doubles, tag_lacks_prefix}
 use Rattle.name_scopes.specs.inner.Build.{AreOpen, IsLeaf}
 use Rattle.name_scopes.specs.inner.Piece.{IsAcceptable, IsPiece, NamesFit, PieceComes, PieceIsReady, PieceLoads, begins_element, is_start, scopes_after}
-use Rattle.name_scopes.proofs.Chains.{none-of-four}
 use Rattle.name_scopes.proofs.StepLemmas.{or-none}
 use Rattle.name_scopes.proofs.PieceTests.{tested-next}
 use Rattle.name_scopes.proofs.WholeLemmas.{closed-lines}
@@ -75,16 +77,18 @@ same-after place (event.Comment text) begun = ap (λ (b : Bool). record { opened
 scopes-around : (scopes : List (List Decl)) (around : List Decl) → in_scope (scopes ++ around ∷ []) ≡ in_scope scopes ++ around
 scopes-around scopes around = flat_map-append (λ (decls : List Decl). decls) scopes (around ∷ []) ∙ ap (λ (s : List Decl). in_scope scopes ++ s) (append-nil around)
 
-none-left : (lacks same doubles bad quoted : Bool) → (if same then Some kind.SameAttribute else if bad then Some kind.BadDeclaration else if quoted then Some kind.BothQuotes else None) ≡ None → lacks ≡ false → doubles ≡ false →
-    (if lacks then Some kind.NoPrefix else if same || doubles then Some kind.SameAttribute else if bad then Some kind.BadDeclaration else if quoted then Some kind.BothQuotes else None) ≡ None
-none-left true same doubles bad quoted own has apart = absurd (true≢false has)
-none-left false true doubles bad quoted own has apart = absurd (cc)
-none-left false false true bad quoted own has apart = absurd (true≢false apart)
-none-left false false false bad quoted own has apart = own
+none-left : (unknown lacks same doubles : Bool) (others : Option DocKind) → (if same then Some kind.SameAttribute else others) ≡ None → (unknown || lacks) ≡ false → doubles ≡ false →
+    (if unknown then Some kind.NoPrefix else if lacks then Some kind.NoPrefix else if same || doubles then Some kind.SameAttribute else others) ≡ None
+none-left true lacks same doubles others own has apart = absurd (true≢false has)
+none-left false true same doubles others own has apart = absurd (true≢false has)
+none-left false false true doubles others own has apart = absurd (cc)
+none-left false false false true others own has apart = absurd (true≢false apart)
+none-left false false false false others own has apart = own
 
 -- what breaks no rule by itself, lacks no prefix and has no two attributes of one name has no fault
 tag-none : (scope : List Decl) (name : List ℕ) (attrs : List Attr) → own_tag_fault attrs ≡ None → tag_lacks_prefix scope name attrs ≡ false → tag_doubles scope name attrs ≡ false → tag_fault scope name attrs ≡ None
-tag-none scope name attrs own has apart = none-left (tag_lacks_prefix scope name attrs) (has_pair same_qname attrs) (tag_doubles scope name attrs) (list_any is_bad_declaration (declarations attrs)) (list_any has_both_quotes (declarations attrs)) own has apart
+tag-none scope name attrs own has apart =
+    none-left (is_none (namespace_in scope (prefix_part name))) (list_any (lacks_prefix scope) (plain_attrs attrs)) (has_pair same_qname attrs) (tag_doubles scope name attrs) (declaring_fault attrs) own has apart
 
 names-fit : (scopes : List (List Decl)) (around : List Decl) (e : Event) (rest : List Event) → own_fault e ≡ None → some_tag tag_lacks_prefix (scopes ++ around ∷ []) (e ∷ rest) ≡ false →
     some_tag tag_doubles (scopes ++ around ∷ []) (e ∷ rest) ≡ false → NamesFit (in_scope scopes ++ around) e
@@ -314,15 +318,15 @@ pub acceptable : (T : Table) (p : ℕ) (events : List Event) → piece_refusal T
     IsAcceptable (scope_at T p) events
 acceptable T p events none rest ordered fragment names little =
     let nodes : ℕ = length (order T) + sum_by event_nodes events in
-    let no_reason = none-of-four refusal.NoPrefix refusal.SameAttribute refusal.TooManyNodes refusal.TooDeep
-    (some_tag tag_lacks_prefix (scope_at T p ∷ []) events) (some_tag tag_doubles (scope_at T p ∷ []) events) (nat_lt MAX_LIVE_NODES nodes) (is_too_deep (length (above T p)) events) none in
+    let no_reason = none-of-four (some_tag tag_lacks_prefix (scope_at T p ∷ []) events) (some_tag tag_doubles (scope_at T p ∷ []) events) (nat_lt MAX_LIVE_NODES nodes) (is_too_deep (length (above T p)) events)
+    refusal.NoPrefix refusal.SameAttribute refusal.TooManyNodes refusal.TooDeep none in
     record {
       fragment = fragment;
       names = names;
-      lacks = no_reason.first;
-      doubles = no_reason.second;
-      room = fewer (length rest) (sum_by event_nodes events) (length (order T)) (ap (λ (l : List ℕ). length l) ordered) (ltb-false MAX_LIVE_NODES nodes no_reason.third);
-      shallow = shallow-higher 1 (length (above T p)) events (omega arith) no_reason.fourth;
+      lacks = no_reason.0;
+      doubles = no_reason.1;
+      room = fewer (length rest) (sum_by event_nodes events) (length (order T)) (ap (λ (l : List ℕ). length l) ordered) (ltb-false MAX_LIVE_NODES nodes no_reason.2);
+      shallow = shallow-higher 1 (length (above T p)) events (omega arith) no_reason.3;
       little = little;
     }
   where

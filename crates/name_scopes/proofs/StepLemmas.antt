@@ -29,8 +29,8 @@ use Rattle.name_scopes.specs.declared.fault.DocKind.TheVariants.{NoPrefix, TooMa
 use Rattle.name_scopes.specs.QNames.{prefix_part}
 use Rattle.name_scopes.specs.Declarations.{declarations, plain_attrs}
 use Rattle.name_scopes.specs.ScopedTree.{written, attribute_line, said_by, unscoped}
-use Rattle.name_scopes.specs.DocFaults.{Standing, in_scope, tag_fault, tag_nodes, event_fault, moved}
-use Rattle.name_scopes.specs.inner.Build.{Receives, IsTooDeep, TakesEvent, Says, Builds, Loads, AreOpen, Begins, attrs_fault, room_fault, scoped_line, start_lines, event_text}
+use Rattle.name_scopes.specs.DocFaults.{Standing, attrs_fault, in_scope, tag_fault, tag_nodes, event_fault, moved}
+use Rattle.name_scopes.specs.inner.Build.{Receives, IsTooDeep, TakesEvent, Says, Builds, Loads, AreOpen, Begins, room_fault, scoped_line, start_lines, event_text}
 use Rattle.name_scopes.proofs.OpenElements.{open-apart, open-root, open-scope, open-depth}
 use Rattle.name_scopes.proofs.TellLemmas.{tells-receives}
 
@@ -86,10 +86,6 @@ start-faulty standing name attrs nodes what same h =
     by None true h = sym h
     by None false h = absurd (cc)
 
--- a start tag whose own prefix is in scope breaks what its attributes break
-known-fault : (scope : List Decl) (name : List ℕ) (attrs : List Attr) → is_none (namespace_in scope (prefix_part name)) ≡ false → tag_fault scope name attrs ≡ attrs_fault scope attrs
-known-fault scope name attrs known = rw known refl
-
 -- what a check that finds nothing says of a start tag whose own prefix is in scope
 pub record Passes (scope : List Decl) (name : List ℕ) (attrs : List Attr) (nodes : ℕ) : Type 0 where
   pub good : tag_fault scope name attrs ≡ None
@@ -98,7 +94,7 @@ pub record Passes (scope : List Decl) (name : List ℕ) (attrs : List Attr) (nod
 pub passes : (scope : List Decl) (name : List ℕ) (attrs : List Attr) (nodes : ℕ) → is_none (namespace_in scope (prefix_part name)) ≡ false → None ≡ option_or (attrs_fault scope attrs) (room_fault (nodes + tag_nodes attrs)) → Passes scope name attrs nodes
 passes scope name attrs nodes known h =
     let both = or-none (attrs_fault scope attrs) (room_fault (nodes + tag_nodes attrs)) (sym h) in
-    record { good = known-fault scope name attrs known ∙ both.0; room = ltb-false MAX_LIVE_NODES (nodes + tag_nodes attrs) (room-none (nodes + tag_nodes attrs) both.1) }
+    record { good = rw known both.0; room = ltb-false MAX_LIVE_NODES (nodes + tag_nodes attrs) (room-none (nodes + tag_nodes attrs) both.1) }
 
 start-limit : (standing : Standing) (name : List ℕ) (attrs : List Attr) (deep : Bool) → tag_fault (in_scope (declarations attrs ∷ standing.scopes)) name attrs ≡ None → standing.nodes + tag_nodes attrs ≤ MAX_LIVE_NODES →
     nat_lt MAX_DEPTH (suc (length standing.scopes)) ≡ deep → event_fault standing (event.Start name attrs) ≡ (if deep then Some TooDeep else None)
@@ -187,7 +183,7 @@ module _ (taken : List Event) (place : Place) (standing : Standing) (old : Loade
   pub check-faulty : (what : DocKind) → is_none (namespace_in scope (prefix_part name)) ≡ false → Some what ≡ option_or (attrs_fault scope attrs) (room_fault (length (order old.tree.nodes) + tag_nodes attrs)) → event_fault standing (event.Start name attrs) ≡ Some what
   check-faulty what known h =
       start-faulty standing name attrs (length (order old.tree.nodes)) what loads.builds.count
-      (h ∙ ap (λ (o : Option DocKind). option_or o (room_fault (length (order old.tree.nodes) + tag_nodes attrs))) (sym (known-fault scope name attrs known)) ∙ ap (λ (s : List Decl). option_or (tag_fault s name attrs) (room_fault (length (order old.tree.nodes) + tag_nodes attrs))) tag-scope)
+      (rw known h ∙ ap (λ (s : List Decl). option_or (tag_fault s name attrs) (room_fault (length (order old.tree.nodes) + tag_nodes attrs))) tag-scope)
 
   check-passes : HasWaysUp old.tree.nodes → Passes scope name attrs (length (order old.tree.nodes)) → nat_lt MAX_DEPTH (length (above old.tree.nodes old.place)) ≡ false → event_fault standing (event.Start name attrs) ≡ None
   check-passes ways p shallow =

@@ -11,16 +11,17 @@ use Rattle.std.proofs.lemmas.Str.{chars-nil}
 use Rattle.sch_base.specs.Names.{is_colon, is_ncname, is_ncname_of, split_at_colon}
 use Rattle.pyx_core.specs.declared.event.Attr.{Attr}
 use Rattle.pyx_core.specs.LineTable.{is_qname}
+use Rattle.pyx_core.specs.Before.{is_nil}
 use Rattle.pyx_core.specs.Nesting.{is_attr, is_name, of_chars}
 use Rattle.doc_tree.specs.Scope.{Decl, first_declared, namespace_in, xmlns_prefix}
 use Rattle.doc_write.specs.TreeText.{declaring_name}
 use Rattle.name_scopes.specs.declared.fault.DocKind.TheVariants.{NoPrefix, SameAttribute, BadDeclaration, BothQuotes}
 use Rattle.name_scopes.specs.QNames.{prefix_part, local_part}
-use Rattle.name_scopes.specs.Declarations.{is_empty, declaration_of, declarations, is_plain, plain_attrs, is_bad_declaration, has_both_quotes}
+use Rattle.name_scopes.specs.Declarations.{declaration_of, declarations, is_plain, plain_attrs, is_bad_declaration, has_both_quotes}
 use Rattle.name_scopes.specs.Scoping.{attribute_namespace, is_part, declares_twice, is_good_declaration, ElementInScope, AttributeInScope}
 use Rattle.name_scopes.specs.DocFaults.{tag_fault, lacks_prefix, has_pair, same_qname, same_expanded}
 use Rattle.name_scopes.specs.inner.Build.{element_name, attribute_name}
-use Rattle.name_scopes.proofs.Chains.{none-of-four}
+use Rattle.doc_tree.proofs.RefusalLemmas.{none-of-five}
 use Rattle.pyx_core.proofs.TextLemmas.{front_ascii, behind_front}
 
 -- a start tag that breaks no rule of names
@@ -34,16 +35,15 @@ pub record TagIsGood (scope : List Decl) (name : List ℕ) (attrs : List Attr) :
 
 pub tag-good : (scope : List Decl) (name : List ℕ) (attrs : List Attr) → tag_fault scope name attrs ≡ None → TagIsGood scope name attrs
 tag-good scope name attrs h =
-    let parts = none-of-four NoPrefix SameAttribute BadDeclaration BothQuotes
-    (is_none (namespace_in scope (prefix_part name)) || list_any (lacks_prefix scope) (plain_attrs attrs)) (has_pair same_qname attrs || has_pair (same_expanded scope) (plain_attrs attrs))
-    (list_any is_bad_declaration (declarations attrs)) (list_any has_both_quotes (declarations attrs)) h in
-    let names = or_parts (is_none (namespace_in scope (prefix_part name))) (list_any (lacks_prefix scope) (plain_attrs attrs)) parts.first in
-    let pairs = or_parts (has_pair same_qname attrs) (has_pair (same_expanded scope) (plain_attrs attrs)) parts.second in
-    record { known = names.0; all_known = names.1; qnames = pairs.0; expanded = pairs.1; may_be = parts.third; quoted = parts.fourth }
+    let parts = none-of-five
+    (is_none (namespace_in scope (prefix_part name))) (list_any (lacks_prefix scope) (plain_attrs attrs)) (has_pair same_qname attrs || has_pair (same_expanded scope) (plain_attrs attrs))
+    (list_any is_bad_declaration (declarations attrs)) (list_any has_both_quotes (declarations attrs)) NoPrefix NoPrefix SameAttribute BadDeclaration BothQuotes h in
+    let pairs = or_parts (has_pair same_qname attrs) (has_pair (same_expanded scope) (plain_attrs attrs)) parts.2 in
+    record { known = parts.0; all_known = parts.1; qnames = pairs.0; expanded = pairs.1; may_be = parts.3; quoted = parts.4 }
 
 -- the parts of a QName
 
-at-colon : (q : List ℕ) → list_any is_colon q ≡ true → q ≡ before_first is_colon q ++ 58 ∷ after_first is_colon q
+pub at-colon : (q : List ℕ) → list_any is_colon q ≡ true → q ≡ before_first is_colon q ++ 58 ∷ after_first is_colon q
 at-colon [] h = absurd (true≢false (sym h))
 at-colon (b ∷ q) h = by (b == 58) refl h (at-colon q)
   where
@@ -57,7 +57,7 @@ at-colon (b ∷ q) h = by (b == 58) refl h (at-colon q)
         ap (λ (l : List ℕ). b ∷ l) (rest h) ∙ ap₂ (λ (m n : ℕ). take m (b ∷ q) ++ 58 ∷ drop n (b ∷ q)) front behind
 
 pub record Parted (q : List ℕ) : Type 0 where
-  pub qualified : ((is_empty (prefix_part q) || is_part (prefix_part q)) && is_part (local_part q)) ≡ true
+  pub qualified : ((is_nil (prefix_part q) || is_part (prefix_part q)) && is_part (local_part q)) ≡ true
   pub some_local : local_part q ≢ []
   pub without : prefix_part q ≡ [] → local_part q ≡ q
   pub with_prefix : prefix_part q ≢ [] → q ≡ prefix_part q ++ 58 ∷ local_part q
@@ -102,7 +102,7 @@ parted q name = by (list_any is_colon q) refl (and_parts (of_chars q) (is_qname 
               let cut : of_chars (before_first is_colon q ++ 58 ∷ after_first is_colon q) ≡ true = ap of_chars (sym (at-colon q e)) ∙ made in
               let front : is_part (before_first is_colon q) ≡ true = part (before_first is_colon q) (front_ascii 58 (before_first is_colon q) (after_first is_colon q) (omega arith) cut) names.0 in
               let back : is_part (after_first is_colon q) ≡ true = part (after_first is_colon q) (behind_front 58 (before_first is_colon q) (after_first is_colon q) (omega arith) cut) names.1 in
-              rw (prefix, local) (ap₂ (λ a b. (is_empty (before_first is_colon q) || a) && b) front back ∙ ap (λ b. b && true) (or-right (is_empty (before_first is_colon q))));
+              rw (prefix, local) (ap₂ (λ a b. (is_nil (before_first is_colon q) || a) && b) front back ∙ ap (λ b. b && true) (or-right (is_nil (before_first is_colon q))));
           some_local = λ none. some-ncname (after_first is_colon q) names.1 (sym local ∙ none);
           without = λ none. absurd (some-ncname (before_first is_colon q) names.0 (sym prefix ∙ none));
           with_prefix = λ some. at-colon q e ∙ ap₂ (λ l r. l ++ 58 ∷ r) (sym prefix) (sym local);
@@ -115,7 +115,7 @@ parted q name = by (list_any is_colon q) refl (and_parts (of_chars q) (is_qname 
 
 -- declarations and their prefixes
 
-some-xmlns : xmlns_prefix ≢ []
+pub some-xmlns : xmlns_prefix ≢ []
 unfolding xmlns_prefix
 some-xmlns e = absurd (cc)
 
@@ -126,7 +126,7 @@ named-local (b ∷ local) some = refl
 -- what is declared by an attribute
 pub record Declares (attr : Attr) (d : Decl) : Type 0 where
   pub name_is : attr.name ≡ declaring_name d.0
-  pub prefix_is : (is_empty d.0 || is_part d.0) ≡ true
+  pub prefix_is : (is_nil d.0 || is_part d.0) ≡ true
   pub uri_is : d.1 ≡ attr.value
 
 pub declares : (attr : Attr) (d : Decl) → is_name attr.name ≡ true → declaration_of attr ≡ Some d → Declares attr d
@@ -139,7 +139,7 @@ declares attr d h e = by (bytes_eq attr.name xmlns_prefix) refl (bytes_eq (prefi
         let prefix : d.0 ≡ [] = sym (ap (λ (x : Decl). x.0) is) in
         record {
           name_is = (bytes_eq-Decides attr.name xmlns_prefix).0 et ∙ sym (ap declaring_name prefix);
-          prefix_is = ap (λ p. is_empty p || is_part p) prefix;
+          prefix_is = ap (λ p. is_nil p || is_part p) prefix;
           uri_is = sym (ap (λ (x : Decl). x.1) is);
         }
     by false et true eu e =
@@ -147,10 +147,10 @@ declares attr d h e = by (bytes_eq attr.name xmlns_prefix) refl (bytes_eq (prefi
         let local : local_part attr.name ≡ d.0 = ap (λ (x : Decl). x.0) is in
         let p : Parted attr.name = parted attr.name h in
         let prefix : prefix_part attr.name ≡ xmlns_prefix = (bytes_eq-Decides (prefix_part attr.name) xmlns_prefix).0 eu in
-        let ncname = and_parts (is_empty (prefix_part attr.name) || is_part (prefix_part attr.name)) (is_part (local_part attr.name)) p.qualified in
+        let ncname = and_parts (is_nil (prefix_part attr.name) || is_part (prefix_part attr.name)) (is_part (local_part attr.name)) p.qualified in
         record {
           name_is = p.with_prefix (λ none. some-xmlns (sym prefix ∙ none)) ∙ (ap₂ (λ (l r : List ℕ). l ++ 58 ∷ r) prefix local ∙ named-local d.0 (λ none. p.some_local (local ∙ none)));
-          prefix_is = ap (λ b. is_empty d.0 || b) (ap is_part (sym local) ∙ ncname.1) ∙ or-right (is_empty d.0);
+          prefix_is = ap (λ b. is_nil d.0 || b) (ap is_part (sym local) ∙ ncname.1) ∙ or-right (is_nil d.0);
           uri_is = sym (ap (λ (x : Decl). x.1) is);
         }
     by false et false eu e = absurd (cc)
@@ -232,7 +232,7 @@ good-declarations (a ∷ attrs) ok may quoted =
         let m = or_parts (is_bad_declaration d) (list_any is_bad_declaration (declarations attrs)) may in
         let q = or_parts (has_both_quotes d) (list_any has_both_quotes (declarations attrs)) quoted in
         let s : Declares a d = declares a d named e in
-        ap₂ (λ x y. x && y) (good-one (is_empty d.0 || is_part d.0) (of_chars d.1) (is_bad_declaration d) (has_both_quotes d) s.prefix_is (ap of_chars s.uri_is ∙ made) m.0 q.0) (rest m.1 q.1)
+        ap₂ (λ x y. x && y) (good-one (is_nil d.0 || is_part d.0) (of_chars d.1) (is_bad_declaration d) (has_both_quotes d) s.prefix_is (ap of_chars s.uri_is ∙ made) m.0 q.0) (rest m.1 q.1)
 
 -- the names have their namespaces
 some-namespace : (o : Option (List ℕ)) → is_none o ≡ false → o ≡ Some (unwrap_or o [])

@@ -57,14 +57,23 @@ abbrev pub has_pair : {A : Type 0} → (A → A → Bool) → List A → Bool
 has_pair same [] = false
 has_pair same (x ∷ xs) = list_any (same x) xs || has_pair same xs
 
--- the first rule of names that a start tag breaks, where this scope has its own declarations
-abbrev pub tag_fault : List Decl → List ℕ → List Attr → Option DocKind
-tag_fault scope name attrs =
-    if is_none (namespace_in scope (prefix_part name)) || list_any (lacks_prefix scope) (plain_attrs attrs) then Some NoPrefix
-    else if has_pair same_qname attrs || has_pair (same_expanded scope) (plain_attrs attrs) then Some SameAttribute
-    else if list_any is_bad_declaration (declarations attrs) then Some BadDeclaration
+-- the first rule that the declarations among the attributes break
+abbrev pub declaring_fault : List Attr → Option DocKind
+declaring_fault attrs =
+    if list_any is_bad_declaration (declarations attrs) then Some BadDeclaration
     else if list_any has_both_quotes (declarations attrs) then Some BothQuotes
     else None
+
+-- the first rule of names that the attributes of a start tag break, where this scope has its own declarations
+abbrev pub attrs_fault : List Decl → List Attr → Option DocKind
+attrs_fault scope attrs =
+    if list_any (lacks_prefix scope) (plain_attrs attrs) then Some NoPrefix
+    else if has_pair same_qname attrs || has_pair (same_expanded scope) (plain_attrs attrs) then Some SameAttribute
+    else declaring_fault attrs
+
+-- the same of a start tag
+abbrev pub tag_fault : List Decl → List ℕ → List Attr → Option DocKind
+tag_fault scope name attrs = if is_none (namespace_in scope (prefix_part name)) then Some NoPrefix else attrs_fault scope attrs
 
 -- the first limit that the nodes of a start tag pass: so many nodes, and so deep an element
 abbrev pub limit_fault : ℕ → ℕ → Option DocKind

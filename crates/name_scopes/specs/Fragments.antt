@@ -19,8 +19,8 @@ use Rattle.name_scopes.specs.declared.fault.DocKind.{DocKind}
 use Rattle.name_scopes.specs.declared.fault.DocKind.TheVariants as kind
 use Rattle.name_scopes.specs.declared.refusal.PieceError.{PieceError}
 use Rattle.name_scopes.specs.declared.refusal.PieceError.TheVariants.{Refused, Memory}
-use Rattle.name_scopes.specs.Declarations.{declarations, plain_attrs, is_bad_declaration, has_both_quotes}
-use Rattle.name_scopes.specs.DocFaults.{has_pair, in_scope, lacks_prefix, outer_scopes, same_expanded, same_qname, tag_nodes}
+use Rattle.name_scopes.specs.Declarations.{declarations, plain_attrs}
+use Rattle.name_scopes.specs.DocFaults.{declaring_fault, has_pair, in_scope, lacks_prefix, outer_scopes, same_expanded, same_qname, tag_nodes}
 use Rattle.name_scopes.specs.QNames.{prefix_part}
 use Rattle.name_scopes.specs.ScopedTree.{said_by, unscoped}
 use Rattle.name_scopes.specs.Scoping.{ContentInScope}
@@ -32,11 +32,7 @@ pub record IsFragment (events : List Event) : Type 0 where
 
 -- the first rule that the attributes of a start tag break whatever is in scope around it
 abbrev pub own_tag_fault : List Attr → Option DocKind
-own_tag_fault attrs =
-    if has_pair same_qname attrs then Some kind.SameAttribute
-    else if list_any is_bad_declaration (declarations attrs) then Some kind.BadDeclaration
-    else if list_any has_both_quotes (declarations attrs) then Some kind.BothQuotes
-    else None
+own_tag_fault attrs = if has_pair same_qname attrs then Some kind.SameAttribute else declaring_fault attrs
 
 abbrev pub own_fault : Event → Option DocKind
 own_fault (event.Start name attrs) = own_tag_fault attrs

@@ -5,7 +5,9 @@ use Rattle.pyx_core.specs.declared.mode.Mode.TheVariants.{Document}
 use Rattle.pyx_core.specs.Nesting.{bare}
 use Rattle.pyx_core.specs.Reading.{events_of, fault_of}
 use Rattle.doc_tree.specs.Kinds.{is_document}
+use Rattle.doc_tree.specs.Laws.{WellFormed}
 use Rattle.doc_tree.specs.Lines.{lines}
+use Rattle.doc_tree.specs.SameTree.{SameTree}
 use Rattle.doc_tree.specs.Table.{Table}
 use Rattle.doc_write.specs.TreeText.{tree_text}
 use Rattle.name_scopes.specs.DocFaults.{doc_fault}
@@ -22,15 +24,17 @@ pub record ComesBack (T : Table) : Type 0 where
   pub lines_are : map unscoped (lines T) ≡ flat_map said_by (bare (events_of Document (tree_text T)))
 
 -- the text of a document in scope comes back
-abbrev pub TextComesBack : Table → Type 0
-TextComesBack T = InScope T → is_document T ≡ true → ComesBack T
+abbrev pub TextComesBack : Type 0
+TextComesBack = (T : Table) → WellFormed T → InScope T → is_document T ≡ true → ComesBack T
 
--- a tree of the events of its text says what the document says, with the same namespaces: it is the document again, up
--- to the numbers of nodes
-abbrev pub TreeComesBack : Table → Table → Type 0
-TreeComesBack T U =
-    InScope T → is_document T ≡ true → Scoped (bare (events_of Document (tree_text T))) U → lines U ≡ lines T
+-- a tree of the events of its text is the same tree (XPath 1.0, section 5), and says what the document says, with the same
+-- namespaces
+abbrev pub TreeComesBack : Type 0
+TreeComesBack =
+    (T U : Table) → WellFormed T → InScope T → is_document T ≡ true → Scoped (bare (events_of Document (tree_text T))) U →
+    SameTree T U × (lines U ≡ lines T)
 
 -- the namespaces of a tree in scope follow from all else that it says
-abbrev pub NamespacesFollow : Table → Table → Type 0
-NamespacesFollow T U = InScope T → InScope U → map unscoped (lines T) ≡ map unscoped (lines U) → lines T ≡ lines U
+abbrev pub NamespacesFollow : Type 0
+NamespacesFollow =
+    (T U : Table) → WellFormed T → WellFormed U → InScope T → InScope U → map unscoped (lines T) ≡ map unscoped (lines U) → lines T ≡ lines U

@@ -8,7 +8,8 @@ use Rattle.pyx_core.specs.Nesting.{is_pi_name, of_chars}
 use Rattle.doc_tree.specs.Table.{Table, Name, Content, root, element, attribute, text, comment, instruction, content_of}
 use Rattle.doc_tree.specs.Scope.{Decl, namespace_in, scope_at, xmlns_prefix}
 pub use Rattle.doc_tree.specs.Scope.{attribute_namespace}
-use Rattle.name_scopes.specs.Declarations.{is_empty, is_bad_declaration, has_both_quotes}
+use Rattle.pyx_core.specs.Before.{is_nil}
+use Rattle.name_scopes.specs.Declarations.{is_bad_declaration, has_both_quotes}
 
 -- whether a text is an NCName
 abbrev pub is_part : List ℕ → Bool
@@ -16,7 +17,7 @@ is_part name = of_chars name && is_ncname name
 
 -- the prefix is empty or an NCName, and the local part is an NCName (section 4)
 abbrev pub is_qualified : Name → Bool
-is_qualified name = (is_empty name.prefix || is_part name.prefix) && is_part name.local
+is_qualified name = (is_nil name.prefix || is_part name.prefix) && is_part name.local
 
 -- whether some prefix is declared twice
 abbrev pub declares_twice : List Decl → Bool
@@ -26,7 +27,7 @@ declares_twice (decl ∷ decls) = list_any (λ later. bytes_eq decl.0 later.0) d
 -- a declaration that may be: its prefix is empty or an NCName, its namespace is made of Chars, and it breaks no rule
 abbrev pub is_good_declaration : Decl → Bool
 is_good_declaration decl =
-    (is_empty decl.0 || is_part decl.0) && of_chars decl.1 && not (is_bad_declaration decl) && not (has_both_quotes decl)
+    (is_nil decl.0 || is_part decl.0) && of_chars decl.1 && not (is_bad_declaration decl) && not (has_both_quotes decl)
 
 -- an element, where these declarations are in scope, its own among them
 pub record ElementInScope (scope : List Decl) (name : Name) (decls : List Decl) : Type 0 where

@@ -1,8 +1,7 @@
 //! What stands around a node that comes under another.
 
-ghost use Rattle.std.specs.Prelude.{◌≡◌, ◌++◌, ◌≤◌, length, drop, OnOk};
+ghost use Rattle.std.specs.Prelude.{◌≡◌, ◌++◌, OnOk};
 ghost use Rattle.doc_tree.specs.Table.{decls_of};
-ghost use Rattle.doc_tree.specs.Walks.{above};
 ghost use Rattle.doc_tree.specs.Scope.{scope_at};
 
 use crate::scope::Scope;
@@ -32,15 +31,4 @@ fn declare_at(scope: &mut Scope, tree: &Tree, n: NodeId) -> Result<(), AllocErro
         scope.declare(tree.decl_prefix(n, left), tree.decl_uri(n, left))?;
     }
     Ok(())
-}
-
-/// How many nodes stand at a node and above it.
-pub(crate) fn count_above(tree: &Tree, n: NodeId) -> usize
-    ensures { result ≡ length (above tree.now.nodes n) }
-{
-    tree.laws();
-    match tree.parent(n) {
-        Some(parent) => count_above(tree, parent) + 1,
-        None => 1,
-    }
 }

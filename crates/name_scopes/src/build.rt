@@ -13,8 +13,8 @@ ghost use Rattle.doc_tree.specs.Walks.{above, order, text_bytes};
 ghost use Rattle.doc_tree.specs.Growth.{AttributeFits, FitsUnder, Grew, has_too_many};
 ghost use Rattle.name_scopes.specs.Declarations.{declaration_of, declarations, plain_attrs};
 ghost use Rattle.name_scopes.specs.Scoping.{declares_twice};
-ghost use Rattle.name_scopes.specs.DocFaults.{Standing, has_pair, lacks_prefix, moved, same_expanded, tag_fault, tag_nodes};
-ghost use Rattle.name_scopes.specs.inner.Build.{AttributesAll, Begins, Comes, DeclaresAll, IsLeaf, IsNamed, IsNew, IsReady, IsTooDeep, Loads, Receives, TakesEvent, attribute_name, attrs_fault, leaf_of, room_fault, value_bytes};
+ghost use Rattle.name_scopes.specs.DocFaults.{Standing, attrs_fault, has_pair, lacks_prefix, moved, same_expanded, tag_fault, tag_nodes};
+ghost use Rattle.name_scopes.specs.inner.Build.{AttributesAll, Begins, Comes, DeclaresAll, IsLeaf, IsNamed, IsNew, IsReady, IsTooDeep, Loads, Receives, TakesEvent, attribute_name, leaf_of, room_fault, value_bytes};
 
 use crate::declarations::{declared_prefix, is_plain};
 use crate::fault::{DocKind, EventError};

@@ -1,26 +1,46 @@
 //! The attributes that declare namespaces (Namespaces in XML 1.0, section 3).
 
-ghost use Rattle.std.specs.Prelude.{◌≡◌, None, Some, MatchOption};
-ghost use Rattle.name_scopes.specs.Declarations.{declaration_of, is_plain};
+ghost use Rattle.std.specs.Prelude.{◌≡◌, ◌≢◌, ◌++◌, List, ℕ, None, Some, MatchOption};
+ghost use Rattle.doc_tree.specs.Scope.{xmlns_prefix};
+ghost use Rattle.name_scopes.specs.Declarations.{declaration_of, declares_namespace, is_plain};
 
-use crate::qnames::split;
-use doc_tree::is_xmlns;
 use pyx_core::Attr;
 
+/// Whether an attribute of this name declares a namespace: it is `xmlns`, or has the prefix `xmlns`.
+///
+/// Looks at the start of the name alone.
+pub fn declares_namespace(name: &str) -> bool
+    ensures { result ≡ declares_namespace name.now }
+{
+    match after_xmlns(name) {
+        Some(rest) => rest.is_empty() || rest.starts_with(':'),
+        None => false,
+    }
+}
+
 /// The prefix that an attribute declares, empty for the default namespace; None for another attribute. Its value is
-/// the namespace.
+/// the namespace. Looks at the start of the name alone.
 pub(crate) fn declared_prefix(attr: &Attr) -> Option<&str>
     ensures { MatchOption result (declaration_of attr.now ≡ None) (λ prefix. declaration_of attr.now ≡ Some (prefix.now, attr.now.value)) }
 {
-    let name = attr.name.as_str();
-    if is_xmlns(name) {
-        return Some("");
+    match after_xmlns(attr.name.as_str()) {
+        Some(rest) => {
+            if rest.is_empty() {
+                Some(rest)
+            } else {
+                rest.strip_prefix(':')
+            }
+        }
+        None => None,
     }
-    let parts = split(name);
-    if is_xmlns(parts.prefix) {
-        return Some(parts.local);
-    }
-    None
+}
+
+/// What follows the word `xmlns` at the start of a name.
+#[tactic(auto, unfolding(doc_tree::specs::Scope::xmlns_prefix))]
+fn after_xmlns(name: &str) -> Option<&str>
+    ensures { MatchOption result ((rest : List ℕ) → name.now ≢ xmlns_prefix ++ rest) (λ rest. name.now ≡ xmlns_prefix ++ rest.now) }
+{
+    name.strip_prefix("xmlns")
 }
 
 /// Whether an attribute declares nothing.

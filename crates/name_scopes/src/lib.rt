@@ -18,10 +18,12 @@ mod scope;
 mod subtree;
 mod tag;
 
+pub use declarations::declares_namespace;
 pub use doc_write::write_tree;
 pub use fault::{DocFault, DocKind, LoadError};
 pub use load::load_tree;
 pub use own_names::check_names;
+pub use qnames::{QName, split};
 pub use refusal::PieceError;
 pub use round_trip::{namespaces_follow, one_tree, text_comes_back, tree_comes_back};
 pub use subtree::load_subtree;

@@ -6,7 +6,7 @@ ghost use Rattle.name_scopes.specs.DocFaults.{has_pair, same_qname};
 ghost use Rattle.name_scopes.specs.Fragments.{names_fault, own_fault, own_tag_fault};
 
 use crate::fault::DocKind;
-use crate::tag::{declare_badly, hold_both_quotes};
+use crate::tag::declaring_fault;
 use pyx_core::{Attr, Event, EventList};
 
 /// Finds what a fragment breaks whatever is in scope around it: the first start tag with two attributes of one QName, with
@@ -45,13 +45,7 @@ fn own_tag_fault(attrs: &[Attr]) -> Option<DocKind>
     if pair_qnames(attrs) {
         return Some(DocKind::SameAttribute);
     }
-    if declare_badly(attrs) {
-        return Some(DocKind::BadDeclaration);
-    }
-    if hold_both_quotes(attrs) {
-        return Some(DocKind::BothQuotes);
-    }
-    None
+    declaring_fault(attrs)
 }
 
 /// Whether two attributes have one QName.

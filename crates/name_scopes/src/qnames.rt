@@ -5,14 +5,14 @@ ghost use Rattle.name_scopes.specs.QNames.{prefix_part, local_part};
 
 /// A QName in two parts.
 #[derive(Clone, Copy)]
-pub(crate) struct QName<'a> {
+pub struct QName<'a> {
     /// Empty where there is no colon.
-    pub(crate) prefix: &'a str,
-    pub(crate) local: &'a str,
+    pub prefix: &'a str,
+    pub local: &'a str,
 }
 
-/// Splits a QName at its first colon.
-pub(crate) fn split(name: &str) -> QName
+/// Splits a QName at its first colon. A name without a colon is its own local part.
+pub fn split(name: &str) -> QName
     ensures prefix { result.prefix.now ≡ prefix_part name.now }
     ensures local { result.local.now ≡ local_part name.now }
 {

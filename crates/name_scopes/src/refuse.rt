@@ -4,11 +4,12 @@ ghost use Rattle.std.specs.Prelude.{◌≡◌, ◌≤◌, ◌<◌, ◌+◌, [], 
 ghost use Rattle.std.specs.List.{list_any};
 ghost use Rattle.pyx_core.specs.declared.event.Event.{Event};
 ghost use Rattle.doc_tree.specs.limits.TheConstants.{MAX_DEPTH};
+ghost use Rattle.doc_tree.specs.Kinds.{holds_kids};
 ghost use Rattle.doc_tree.specs.Scope.{scope_at};
+ghost use Rattle.doc_tree.specs.Table.{kind_of};
 ghost use Rattle.name_scopes.specs.Fragments.{event_nodes, is_start, is_too_deep, piece_refusal, tag_doubles, tag_lacks_prefix};
 ghost use Rattle.name_scopes.specs.inner.Piece.{Stands, deep_from, holds_of_tag, names_refusal};
 
-use crate::around::count_above;
 use crate::build::count_plain;
 use crate::open_tags::OpenTags;
 use crate::scope::Scope;
@@ -27,6 +28,7 @@ pub(crate) fn refuse_piece(
     parent: NodeId,
     events: &[Event],
 ) -> Result<Option<EditRefusal>, AllocError>
+    requires { holds_kids (kind_of tree.now.nodes parent) ≡ true }
     ensures found { IfOk result (λ found. found ≡ piece_refusal tree.now.nodes parent events.now) }
     ensures memory { OnErr result (list_any is_start events.now ≡ true) }
 {
@@ -38,7 +40,7 @@ pub(crate) fn refuse_piece(
     if !bring_few(left as usize, events) {
         return Ok(Some(EditRefusal::TooManyNodes));
     }
-    if are_too_deep(count_above(tree, parent), events) {
+    if are_too_deep(tree.depth(parent) as usize + 1, events) {
         return Ok(Some(EditRefusal::TooDeep));
     }
     Ok(None)

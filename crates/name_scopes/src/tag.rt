@@ -9,13 +9,12 @@ ghost use Rattle.doc_tree.specs.Scope.{namespace_in};
 ghost use Rattle.name_scopes.specs.QNames.{prefix_part};
 ghost use Rattle.name_scopes.specs.Scoping.{attribute_namespace};
 ghost use Rattle.name_scopes.specs.Declarations.{declarations, declaration_of, plain_attrs, is_bad_declaration, has_both_quotes, xmlns_namespace};
-ghost use Rattle.name_scopes.specs.inner.Build.{attrs_fault};
-ghost use Rattle.name_scopes.specs.DocFaults.{lacks_prefix, has_pair, same_qname, same_expanded, expanded_attr};
+ghost use Rattle.name_scopes.specs.DocFaults.{attrs_fault, declaring_fault, lacks_prefix, has_pair, same_qname, same_expanded, expanded_attr};
 
 use crate::declarations::{declared_prefix, is_plain};
 use crate::fault::DocKind;
 use crate::own_names::pair_qnames;
-use crate::qnames::split;
+use crate::qnames::{QName, split};
 use crate::scope::Scope;
 use doc_tree::{NameId, NameTable, WordTable, is_xml, is_xmlns, xml_namespace};
 use pyx_core::Attr;
@@ -40,13 +39,20 @@ pub(crate) fn check_attrs(
     if repeat_name(alloc, scope, attrs)? {
         return Ok(Some(DocKind::SameAttribute));
     }
+    Ok(declaring_fault(attrs))
+}
+
+/// The first rule that the declarations among attributes break.
+pub(crate) fn declaring_fault(attrs: &[Attr]) -> Option<DocKind>
+    ensures { result ≡ declaring_fault attrs.now }
+{
     if declare_badly(attrs) {
-        return Ok(Some(DocKind::BadDeclaration));
+        return Some(DocKind::BadDeclaration);
     }
     if hold_both_quotes(attrs) {
-        return Ok(Some(DocKind::BothQuotes));
+        return Some(DocKind::BothQuotes);
     }
-    Ok(None)
+    None
 }
 
 /// Whether the prefix of an element isn't in scope.
@@ -117,21 +123,21 @@ fn pair_expanded(scope: &Scope, attrs: &[Attr]) -> bool
 fn share_expanded(scope: &Scope, attr: &Attr, others: &[Attr]) -> bool
     ensures { result ≡ list_any (same_expanded scope.now attr.now) (plain_attrs others.now) }
 {
+    let name = split(attr.name.as_str());
     for other in others {
-        if is_plain(other) && same_expanded(scope, attr, other) {
+        if is_plain(other) && same_expanded(scope, name, split(other.name.as_str())) {
             return true;
         }
     }
     false
 }
 
-/// Whether two attributes have one expanded name.
-fn same_expanded(scope: &Scope, a: &Attr, b: &Attr) -> bool
-    ensures { result ≡ same_expanded scope.now a.now b.now }
+/// Whether two QNames of attributes are one expanded name.
+fn same_expanded(scope: &Scope, a: QName, b: QName) -> bool
+    ensures { result ≡ (bytes_eq a.entry.local.now b.entry.local.now
+        && bytes_eq (unwrap_or (attribute_namespace scope.now a.entry.prefix.now) []) (unwrap_or (attribute_namespace scope.now b.entry.prefix.now) [])) }
 {
-    let first = split(a.name.as_str());
-    let second = split(b.name.as_str());
-    first.local == second.local && known_uri(scope, first.prefix) == known_uri(scope, second.prefix)
+    a.local == b.local && known_uri(scope, a.prefix) == known_uri(scope, b.prefix)
 }
 
 /// The namespace of an attribute's prefix, empty where it isn't in scope.
@@ -223,7 +229,7 @@ fn number_expanded(
 }
 
 /// Whether a declaration among the attributes may not be.
-pub(crate) fn declare_badly(attrs: &[Attr]) -> bool
+fn declare_badly(attrs: &[Attr]) -> bool
     ensures { result ≡ list_any is_bad_declaration (declarations attrs.now) }
 {
     for attr in attrs {
@@ -264,7 +270,7 @@ fn is_xmlns_namespace(uri: &str) -> bool
 }
 
 /// Whether a namespace among the declarations has both kinds of quotes.
-pub(crate) fn hold_both_quotes(attrs: &[Attr]) -> bool
+fn hold_both_quotes(attrs: &[Attr]) -> bool
     ensures { result ≡ list_any has_both_quotes (declarations attrs.now) }
 {
     for attr in attrs {

@@ -1,3 +1,4 @@
+pub mod PieceSizes
 pub mod TreeSteps
 pub mod DocumentTrees
 pub mod PieceTrees

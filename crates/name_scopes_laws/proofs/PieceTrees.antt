@@ -11,6 +11,7 @@ use Rattle.doc_table.specs.inner.Sound.{Formed}
 use Rattle.doc_table.proofs.Appending.{Appended, appended}
 use Rattle.doc_table.proofs.DeclareLemmas.{has-scopes}
 use Rattle.doc_table.proofs.SoundLemmas.{sound_alone}
+use Rattle.doc_table.proofs.Forests.{formed-of}
 use Rattle.doc_table.proofs.TreeLaws.{ordered, ways-up, well-formed}
 use Rattle.doc_tree.specs.limits.TheConstants.{MAX_DEPTH, MAX_LIVE_TEXT_BYTES}
 use Rattle.doc_tree.specs.Growth.{FitsUnder, with_node}
@@ -200,7 +201,7 @@ fragment-piece around (e ∷ rest) ok = by (is_start e) refl
         subst (Made around) (sym (alone around (e ∷ rest) ok e refl is)) (leaf-piece around e (leaf-by e is fits) fits small)
 
 pub fragments-have-pieces : FragmentsHavePieces
-fragments-have-pieces T p events formed fragment names little none =
-    let first = (ordered T formed).root_first in
+fragments-have-pieces T p events form fragment names little none =
+    let first = (ordered T (formed-of T form)).root_first in
     let made = fragment-piece (scope_at T p) events (acceptable T p events none first.0 first.1 fragment names little) in
     (made.0, well-formed made.0 made.1, made.2.scoped)

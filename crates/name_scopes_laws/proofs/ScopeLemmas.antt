@@ -12,10 +12,11 @@ use Rattle.doc_table.specs.inner.Forest.{Forest, Whole}
 use Rattle.doc_table.specs.inner.Sound.{Formed}
 use Rattle.doc_table.proofs.Appending.{holder-live}
 use Rattle.doc_table.proofs.ListLemmas.{In, eq_or}
-use Rattle.doc_table.proofs.TreeLaws.{ways-up}
+use Rattle.doc_table.proofs.Forests.{formed-of}
+use Rattle.doc_table.proofs.TreeLaws.{ways-up, well-formed}
 use Rattle.doc_table.proofs.Ways.{climb-none, parent-live}
 use Rattle.doc_tree.specs.Scope.{Decl, scope_at}
-use Rattle.doc_edits.specs.Changes.{with_text, saying, said, removed, removed_from, Meeting, meeting, kids_beside, deleted_by, gained, nodes_in, given_number, given_parent, inserted}
+use Rattle.doc_edits.specs.Changes.{with_text, saying, said, removed, removed_from, Meeting, meeting, kids_beside, deleted, deleted_by, gained, nodes_in, given_number, given_parent, inserted}
 use Rattle.doc_edits.specs.Keeping.{SayingsKeepTrees, DeletionsKeepTrees, GainsKeepTrees, InsertionsKeepTrees}
 use Rattle.doc_edits.proofs.ClearLemmas.{cut}
 use Rattle.doc_edits.proofs.PruneLemmas.{Cut, cut_at}
@@ -110,8 +111,9 @@ said-keeps : (new : List ℕ) (T : Table) (n m : ℕ) → Keeps T (said T n new)
 said-keeps new T n m = record { parent = said-parent new T n m; decls = said-decls new T n m }
 
 pub sayings-keep-scope : SayingsKeepTrees → SayingsKeepScope
-sayings-keep-scope sayings T n new formed scoped may made m =
-    let after : Formed (said T n new) = sayings T n new formed may in
+sayings-keep-scope sayings T n new form scoped may made m =
+    let formed : Formed T = formed-of T form in
+    let after : Formed (said T n new) = formed-of (said T n new) (sayings T n new form may) in
     living (said T n new) m (λ live.
     placed (said T n new) m (scope_at T m) (content_of (said T n new) m)
     (same-scope T (said T n new) formed.forest after.forest formed.whole after.whole (λ k l. said-keeps new T n k) m (sym (said-live new T n m) ∙ live)) refl
@@ -174,7 +176,7 @@ module _ (T : Table) (n r l : ℕ) (new : List ℕ) (made : of_chars new ≡ tru
       (subst (λ (o : Option Content). ContentInScope (scope_at T m) o) (sym (stays-rest m live).content) (scoped m))))
 
 deletion-scoped : DeletionsKeepTrees → (T : Table) (n : ℕ) → Formed T → InScope T → InScope (deleted_by T n (meeting T n (kids_beside T (parent_of T n))))
-deletion-scoped deletions T n formed scoped = by (meeting T n (kids_beside T (parent_of T n))) (deletions T n formed)
+deletion-scoped deletions T n formed scoped = by (meeting T n (kids_beside T (parent_of T n))) (formed-of (deleted T n) (deletions T n (well-formed T formed)))
   where
     by : (o : Option Meeting) → Formed (deleted_by T n o) → InScope (deleted_by T n o)
     by None after = removal-scoped T n formed scoped
@@ -184,7 +186,10 @@ deletion-scoped deletions T n formed scoped = by (meeting T n (kids_beside T (pa
         formed scoped after
 
 pub deletions-keep-scope : DeletionsKeepTrees → DeletionsKeepScope
-deletions-keep-scope deletions = record { deletion = deletion-scoped deletions; removal = removal-scoped }
+deletions-keep-scope deletions = record {
+  deletion = λ T n form. deletion-scoped deletions T n (formed-of T form);
+  removal = λ T n form. removal-scoped T n (formed-of T form);
+}
 
 -- an attribute more
 module _ (T : Table) (n : ℕ) (name : Name) (value : List ℕ) where
@@ -283,8 +288,8 @@ module _ (T P : Table) (p before : ℕ) (live : is_live T p ≡ true) (t : Forme
 
 pub additions-keep-scope : GainsKeepTrees → InsertionsKeepTrees → AdditionsKeepScope
 additions-keep-scope gains insertions = record {
-  gain = λ T n name value formed scoped may here.
-      gained-scoped T n name value (holder-live T n (ap holds_kids may.under)) formed (gains T n name value formed may) scoped here;
+  gain = λ T n name value form scoped may here.
+      gained-scoped T n name value (holder-live T n (ap holds_kids may.under)) (formed-of T form) (formed-of (gained T n name value) (gains T n name value form may)) scoped here;
   insertion = λ T p before P t f scoped may piece.
-      inserted-scoped T P p before (holder-live T p may.under) t f (insertions T p before P t f may) scoped piece;
+      inserted-scoped T P p before (holder-live T p may.under) (formed-of T t) (formed-of P f) (formed-of (inserted T p before P) (insertions T p before P t f may)) scoped piece;
 }

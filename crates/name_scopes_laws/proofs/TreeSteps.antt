@@ -22,13 +22,15 @@ use Rattle.doc_tree.specs.Table.{Content, Table, attribute, decls_at, element, k
 use Rattle.doc_tree.specs.Walks.{above, order, text_bytes}
 use Rattle.name_scopes.specs.Declarations.{declarations, is_plain, plain_attrs}
 use Rattle.name_scopes.specs.DocFaults.{Standing, event_fault, has_pair, in_scope, lacks_prefix, limit_fault, moved, same_expanded, tag_fault, tag_nodes}
+use Rattle.name_scopes.specs.Fragments.{plain_text}
 use Rattle.name_scopes.specs.declared.fault.DocKind.TheVariants.{TooDeep, TooManyNodes}
-use Rattle.name_scopes.specs.inner.Build.{AttributesAll, Begins, Builds, DeclaresAll, IsLeaf, Receives, attribute_name, element_name, event_text, leaf_of, value_bytes}
+use Rattle.name_scopes.specs.inner.Build.{AttributesAll, Begins, Builds, DeclaresAll, IsLeaf, Receives, attribute_name, element_name, leaf_of, value_bytes}
 use Rattle.name_scopes.proofs.BeginLemmas.{begun, begun-receives}
-use Rattle.name_scopes.proofs.LeafLemmas.{builds-end, builds-leaf, end-parent, leaf-bytes, leaf-fits, leaf-full}
+use Rattle.name_scopes.proofs.LeafLemmas.{builds-end, builds-leaf, end-parent, leaf-fits, leaf-full}
 use Rattle.name_scopes.proofs.NumberLemmas.{holder-live}
 use Rattle.name_scopes.proofs.OpenElements.{open-depth}
-use Rattle.name_scopes.proofs.StartLemmas.{Attributing, Declaring, attributing-more, attributing-none, attributing-same, bytes-room, declaring-more, declaring-none, fits-next, kept-room, plain-bytes}
+use Rattle.name_scopes.proofs.PieceSteps.{leaf-plain, plain-more}
+use Rattle.name_scopes.proofs.StartLemmas.{Attributing, Declaring, attributing-more, attributing-none, attributing-same, bytes-room, declaring-more, declaring-none, fits-next, kept-room}
 use Rattle.name_scopes.proofs.StepLemmas.{builds-receives, builds-scope, builds-start}
 use Rattle.name_scopes.proofs.TagFacts.{AreAttrs, TagIsGood, tag-good}
 
@@ -38,6 +40,7 @@ pub record Grown (taken : List Event) (place : Place) (standing : Standing) : Ty
   pub node : ℕ
   pub formed : Formed tree
   pub builds : Builds [] taken place standing tree node
+  pub bytes : text_bytes tree ≡ sum_by plain_text taken
 
 pub or-none : {A : Type 0} (a b : Option A) → option_or a b ≡ None → (a ≡ None) × (b ≡ None)
 or-none None b h = (refl, h)
@@ -147,7 +150,8 @@ module _ (T : Table) (p : ℕ) (formed : Formed T) (receives : Receives T p) (sc
         fits.named fits.attributes good,
   )
 
-module _ (taken : List Event) (place : Place) (standing : Standing) (T : Table) (p : ℕ) (formed : Formed T) (builds : Builds [] taken place standing T p) where
+module _ (taken : List Event) (place : Place) (standing : Standing) (T : Table) (p : ℕ) (formed : Formed T) (builds : Builds [] taken place standing T p)
+    (bytes : text_bytes T ≡ sum_by plain_text taken) where
   receives : Receives T p
   receives = builds-receives [] taken place standing T p builds
 
@@ -158,10 +162,10 @@ module _ (taken : List Event) (place : Place) (standing : Standing) (T : Table) 
       by true is = absurd (let full : event_fault standing e ≡ Some TooManyNodes = leaf-full [] taken place standing T p builds e leaf is in cc)
       by false is = refl
 
-  leaf-on : (e : Event) → IsLeaf e → Fits Document place e → sum_by event_text taken + event_text e ≤ MAX_LIVE_TEXT_BYTES → event_fault standing e ≡ None →
+  leaf-on : (e : Event) → IsLeaf e → Fits Document place e → sum_by plain_text taken + plain_text e ≤ MAX_LIVE_TEXT_BYTES → event_fault standing e ≡ None →
       Grown (taken ++ e ∷ []) (after Document place e) (moved standing e)
   leaf-on e leaf fits little none =
-      let short : text_bytes T + length (value_in (leaf_of e)) ≤ MAX_LIVE_TEXT_BYTES = omega (arith, little, builds.tells.little, leaf-bytes e leaf) in
+      let short : text_bytes T + length (value_in (leaf_of e)) ≤ MAX_LIVE_TEXT_BYTES = omega (arith, little, bytes, leaf-plain e leaf) in
       let a : Appended T p (leaf_of e) =
       appended T p (leaf_of e) formed receives.holder (leaf-fits [] taken place standing T p builds e leaf fits) receives.last receives.all_live
       (within T p (leaf_of e) (leaf-few e leaf none) (leaf-shallow T p e leaf) short) in
@@ -170,6 +174,7 @@ module _ (taken : List Event) (place : Place) (standing : Standing) (T : Table) 
         node = p;
         formed = a.formed;
         builds = builds-leaf [] taken place standing T p builds (with_node T p (leaf_of e)) (length T) (ways-up T formed) (well-formed T formed) (has-scopes T formed) e leaf fits a.grew;
+        bytes = omega (arith, a.grew.more_text, bytes, leaf-plain e leaf, plain-more taken e);
       }
 
   end-on : (name : List ℕ) → Fits Document place (event.End name) → Grown (taken ++ event.End name ∷ []) (after Document place (event.End name)) (moved standing (event.End name))
@@ -182,10 +187,11 @@ module _ (taken : List Event) (place : Place) (standing : Standing) (T : Table) 
         node = q;
         formed = formed;
         builds = (builds-end [] taken place standing T p builds q name (ways-up T formed) is fits).builds_on;
+        bytes = omega (arith, bytes, plain-more taken (event.End name));
       }
 
   -- an element begins
-  module _ (name : List ℕ) (attrs : List Attr) (fits : StartFits place name attrs) (little : sum_by event_text taken + sum_by value_bytes attrs ≤ MAX_LIVE_TEXT_BYTES)
+  module _ (name : List ℕ) (attrs : List Attr) (fits : StartFits place name attrs) (little : sum_by plain_text taken + sum_by value_bytes (plain_attrs attrs) ≤ MAX_LIVE_TEXT_BYTES)
       (none : event_fault standing (event.Start name attrs) ≡ None) where
     scope : List Decl
     scope = in_scope (declarations attrs ∷ standing.scopes)
@@ -207,7 +213,7 @@ module _ (taken : List Event) (place : Place) (standing : Standing) (T : Table) 
     begun-here : (U : Table) × Formed U × Begins T U p (length T) scope name attrs
     begun-here =
         let shallow : nat_lt MAX_DEPTH (length (above T p)) ≡ false = ap (nat_lt MAX_DEPTH) (open-depth T place.opened standing.scopes p (ways-up T formed) builds.tells.way) ∙ room.1 in
-        element-begun T p formed receives scope place name attrs fits good (omega (arith, builds.count, room.0)) shallow (omega (arith, builds.tells.little, little, plain-bytes attrs))
+        element-begun T p formed receives scope place name attrs fits good (omega (arith, builds.count, room.0)) shallow (omega (arith, bytes, little))
 
     start-on : Grown (taken ++ event.Start name attrs ∷ []) (after Document place (event.Start name attrs)) (moved standing (event.Start name attrs))
     start-on =
@@ -217,13 +223,14 @@ module _ (taken : List Event) (place : Place) (standing : Standing) (T : Table) 
           node = length T;
           formed = begun-here.1;
           builds = builds-start [] taken place standing T p builds begun-here.0 (length T) scope name attrs (well-formed T formed) fits here begun-here.2;
+          bytes = omega (arith, begun-here.2.more_text, bytes, plain-more taken (event.Start name attrs));
         }
 
 -- an event without fault leads a tree on
 pub event-on : (taken : List Event) (place : Place) (standing : Standing) → Grown taken place standing → (e : Event) → Fits Document place e →
-    sum_by event_text taken + event_text e ≤ MAX_LIVE_TEXT_BYTES → event_fault standing e ≡ None → Grown (taken ++ e ∷ []) (after Document place e) (moved standing e)
-event-on taken place standing g (event.Start name attrs) fits little none = start-on taken place standing g.tree g.node g.formed g.builds name attrs fits little none
-event-on taken place standing g (event.End name) fits little none = end-on taken place standing g.tree g.node g.formed g.builds name fits
-event-on taken place standing g (event.Chars characters) fits little none = leaf-on taken place standing g.tree g.node g.formed g.builds (event.Chars characters) tt fits little none
-event-on taken place standing g (event.Pi target body) fits little none = leaf-on taken place standing g.tree g.node g.formed g.builds (event.Pi target body) tt fits little none
-event-on taken place standing g (event.Comment characters) fits little none = leaf-on taken place standing g.tree g.node g.formed g.builds (event.Comment characters) tt fits little none
+    sum_by plain_text taken + plain_text e ≤ MAX_LIVE_TEXT_BYTES → event_fault standing e ≡ None → Grown (taken ++ e ∷ []) (after Document place e) (moved standing e)
+event-on taken place standing g (event.Start name attrs) fits little none = start-on taken place standing g.tree g.node g.formed g.builds g.bytes name attrs fits little none
+event-on taken place standing g (event.End name) fits little none = end-on taken place standing g.tree g.node g.formed g.builds g.bytes name fits
+event-on taken place standing g (event.Chars characters) fits little none = leaf-on taken place standing g.tree g.node g.formed g.builds g.bytes (event.Chars characters) tt fits little none
+event-on taken place standing g (event.Pi target body) fits little none = leaf-on taken place standing g.tree g.node g.formed g.builds g.bytes (event.Pi target body) tt fits little none
+event-on taken place standing g (event.Comment characters) fits little none = leaf-on taken place standing g.tree g.node g.formed g.builds g.bytes (event.Comment characters) tt fits little none

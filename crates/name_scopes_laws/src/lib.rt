@@ -1,11 +1,12 @@
 //! What holds of every text that is a document, and what edits keep of one: its names are in scope.
 #![tactic(auto)]
 
-ghost use Rattle.name_scopes_laws.specs.Documents.{DocumentsHaveTrees};
+ghost use Rattle.name_scopes_laws.specs.Documents.{DocumentsComeBack, DocumentsHaveTrees};
 ghost use Rattle.name_scopes_laws.specs.Pieces.{FragmentsHavePieces};
 ghost use Rattle.name_scopes_laws.specs.Scopes.{AdditionsKeepScope, DeletionsKeepScope, SayingsKeepScope};
 
 use doc_edits::{additions_keep_trees, deletions_keep_trees, sayings_keep_trees};
+use name_scopes::{text_comes_back, tree_comes_back};
 use pyx_core::events_nest;
 
 /// Each text without fault has a tree.
@@ -13,6 +14,15 @@ pub fn documents_have_trees()
     ensures { DocumentsHaveTrees }
 {
     events_nest();
+}
+
+/// The text of each document in scope has a tree, which is the document again, but for the numbers of its nodes.
+pub fn documents_come_back()
+    ensures { DocumentsComeBack }
+{
+    events_nest();
+    text_comes_back();
+    tree_comes_back();
 }
 
 /// Each fragment has a piece under each node under which no reason keeps it from coming.

@@ -27,7 +27,6 @@ use Rattle.edit_session.specs.Pairs.{has_too_many_pairs, pair_cap_for}
 use Rattle.edit_session.specs.Standing.{Standing, evaluated_over}
 use Rattle.edit_session.specs.State.{shows, state_text}
 use Rattle.edit_session.specs.declared.state.Shown.{Shown}
-use Rattle.sch_cli.specs.declared.following.Follower.{Follower}
 use Rattle.sch_stops.specs.declared.refusal.ScriptRefusal.TheVariants as refusal
 use Rattle.sch_words.specs.declared.status.Status.TheVariants as status
 use Rattle.sch_stops.specs.declared.stop.Stop.{Stop}
@@ -40,7 +39,7 @@ use Rattle.sch_cli.specs.Runs.{AppendsFront, Fronted}
 use Rattle.sch_stops.specs.Stops.{counted_if, ends_with, of_script, stopped_by}
 use Rattle.sch_cli.specs.Behaviours.{BeginsStates, States, too_many_pairs, tree_under}
 use Rattle.sch_loading.specs.Stages.{Is, goes, halt_if}
-use Rattle.sch_cli.specs.inner.Followers.{Beginning, Ending, Goes, IsLed, IsReady, IsUndone, in_front_of, treed_by}
+use Rattle.sch_cli.specs.inner.Followers.{Beginning, Ending, Goes, IsLed, IsReady, IsUndone, Place, in_front_of, treed_by}
 use Rattle.sch_loading.specs.Reads.{EndsAs}
 use Rattle.sch_cli.specs.inner.Carried.{Concludes, Shows}
 use Rattle.sch_cli.specs.inner.Writing.{IsOfWriting, WroteText}
@@ -111,13 +110,13 @@ begins_same plan other T U n m script rest text plans trees numbers scripts begi
     (subst (λ (p : Plan). Begins p T n script text) plans begins)))
 
 -- where a place is told by another
-pub record IsPlace (at : Follower) (plan : Plan) (T : Table) (number : ℕ) (rest : Script) : Type 0 where
+pub record IsPlace (at : Place) (plan : Plan) (T : Table) (number : ℕ) (rest : Script) : Type 0 where
   pub plan_is : at.session.plan ≡ plan
   pub tree_is : at.session.tree.nodes ≡ T
   pub number_is : at.number ≡ number
   pub rest_is : at.script ≡ rest
 
-module _ (at later : Follower) (command : Command) (cap : at.session.tree.pair_cap ≡ pair_cap_for at.session.plan) where
+module _ (at later : Place) (command : Command) (cap : at.session.tree.pair_cap ≡ pair_cap_for at.session.plan) where
   -- an accepted command leads from one place to the next
   pub led_edited : (U : Table) → command_refusal at.session.tree command ≡ None → IsEdited at.session.tree.nodes command U →
       IsPlace later at.session.plan U (at.number + 1) at.script → later.seen ≡ then_shown at.seen (shows at.session.plan U) →
@@ -153,7 +152,7 @@ module _ (at later : Follower) (command : Command) (cap : at.session.tree.pair_c
       (nothing_yet at.session.tree.nodes (at.number + 1) at.script)
 
 -- a text that was written leads on, or a front of it was
-pub goes_by : {A : Type 0} (earlier later : Follower) (old new : SinkLog) (text : List ℕ) (result : Result A Stop) → OnOk result (IsLed earlier later text) → Beginning earlier (text ++ []) →
+pub goes_by : {A : Type 0} (earlier later : Place) (old new : SinkLog) (text : List ℕ) (result : Result A Stop) → OnOk result (IsLed earlier later text) → Beginning earlier (text ++ []) →
     WroteText {A = A} old new text result → Goes {A = A} earlier later old new result
 goes_by earlier later old new text (Ok done) led begun wrote = record { told = (text, led, wrote.told); writing = tt; faults = wrote.faults }
 goes_by earlier later old new text (Err stop) led begun wrote = record {
@@ -174,7 +173,7 @@ goes_by earlier later old new text (Err stop) led begun wrote = record {
     }
 
 -- nothing was written, for want of memory
-pub goes_nowhere : {A : Type 0} (earlier later : Follower) (log : SinkLog) → Goes {A = A} earlier later log log (Err Memory)
+pub goes_nowhere : {A : Type 0} (earlier later : Place) (log : SinkLog) → Goes {A = A} earlier later log log (Err Memory)
 goes_nowhere earlier later log = record {
   told = record {
     text = [];
@@ -189,7 +188,7 @@ goes_nowhere earlier later log = record {
 }
 
 -- what comes of an accepted command
-pub command_edited : (at later : Follower) (command : Command) (session : Standing) (old new : SinkLog) (result : Result (Unit {0}) Stop) → at.session.tree.pair_cap ≡ pair_cap_for at.session.plan →
+pub command_edited : (at later : Place) (command : Command) (session : Standing) (old new : SinkLog) (result : Result (Unit {0}) Stop) → at.session.tree.pair_cap ≡ pair_cap_for at.session.plan →
     command_refusal at.session.tree command ≡ None → IsEdited at.session.tree.nodes command session.tree.nodes → session.plan ≡ at.session.plan →
     WroteText {A = Unit {0}} old new (edit_line at.number ++ state_text session.plan session.tree.nodes) result →
     later.session.plan ≡ session.plan → later.session.tree ≡ session.tree → later.number ≡ at.number + 1 → later.script ≡ at.script →
@@ -207,7 +206,7 @@ command_edited at later command session old new result cap none makes plan wrote
     led (Err stop) seen = tt
 
 -- and of a refused one
-pub command_refused : (at later : Follower) (command : Command) (reason : EditRefusal) (old new : SinkLog) (result : Result (Unit {0}) Stop) → at.session.tree.pair_cap ≡ pair_cap_for at.session.plan →
+pub command_refused : (at later : Place) (command : Command) (reason : EditRefusal) (old new : SinkLog) (result : Result (Unit {0}) Stop) → at.session.tree.pair_cap ≡ pair_cap_for at.session.plan →
     command_refusal at.session.tree command ≡ Some reason → WroteText {A = Unit {0}} old new (refused_line at.number reason) result →
     later.session.plan ≡ at.session.plan → later.session.tree.nodes ≡ at.session.tree.nodes → later.number ≡ at.number + 1 → later.script ≡ at.script → later.seen ≡ at.seen →
     Goes {A = Unit {0}} (in_front_of command at) later old new result
@@ -220,7 +219,7 @@ command_refused at later command reason old new result cap some wrote plans tree
     led (Err stop) = tt
 
 -- and of one that is not done
-pub command_undone : (at later : Follower) (command : Command) (error : ApplyError) (old new : SinkLog) (result : Result (Unit {0}) Stop) → at.session.tree.pair_cap ≡ pair_cap_for at.session.plan →
+pub command_undone : (at later : Place) (command : Command) (error : ApplyError) (old new : SinkLog) (result : Result (Unit {0}) Stop) → at.session.tree.pair_cap ≡ pair_cap_for at.session.plan →
     RefusesCommand at.session.tree command error → IsUndone at.number error old new result →
     later.session.plan ≡ at.session.plan → later.session.tree.nodes ≡ at.session.tree.nodes → later.number ≡ at.number + 1 → later.script ≡ at.script → later.seen ≡ at.seen →
     Goes {A = Unit {0}} (in_front_of command at) later old new result
@@ -231,7 +230,7 @@ command_undone at later command apply.Memory old new result cap some undone plan
     (subst (λ (log : SinkLog). Goes {A = Unit {0}} (in_front_of command at) later old log (Err Memory)) (sym undone.1) (goes_nowhere (in_front_of command at) later old))
 
 -- the next place is ready too
-pub ready_after : (at later : Follower) (command : Command) → IsReady (in_front_of command at) → later.session.tree.pair_cap ≡ at.session.tree.pair_cap → later.session.plan ≡ at.session.plan →
+pub ready_after : (at later : Place) (command : Command) → IsReady (in_front_of command at) → later.session.tree.pair_cap ≡ at.session.tree.pair_cap → later.session.plan ≡ at.session.plan →
     later.number ≡ at.number + 1 → later.script ≡ at.script → later.session.past ≡ evaluated_over later.session.tree.nodes → IsReady later
 ready_after at later command ready caps plans numbers scripts fresh = record {
   cap = caps ∙ ready.cap ∙ ap pair_cap_for (sym plans);
@@ -242,7 +241,7 @@ ready_after at later command ready caps plans numbers scripts fresh = record {
 }
 
 -- where the state behind it is written
-pub ready_written : (at later : Follower) (command : Command) (session : Standing) (result : Result (Unit {0}) Stop) → IsReady (in_front_of command at) → later.session.tree.pair_cap ≡ at.session.tree.pair_cap →
+pub ready_written : (at later : Place) (command : Command) (session : Standing) (result : Result (Unit {0}) Stop) → IsReady (in_front_of command at) → later.session.tree.pair_cap ≡ at.session.tree.pair_cap →
     later.session.plan ≡ at.session.plan → later.number ≡ at.number + 1 → later.script ≡ at.script → later.session.tree ≡ session.tree →
     OnOk result (later.session.past ≡ evaluated_over session.tree.nodes) → OnOk result (IsReady later)
 ready_written at later command session (Ok done) ready caps plans numbers scripts trees fresh =
@@ -252,16 +251,16 @@ ready_written at later command session (Err stop) ready caps plans numbers scrip
 -- The commands one after another
 
 -- the later place was come to from the earlier one
-pub record HasCome (earlier later : Follower) (old new : SinkLog) : Type 0 where
+pub record HasCome (earlier later : Place) (old new : SinkLog) : Type 0 where
   pub text : List ℕ
   pub led : IsLed earlier later text
   pub out : Appends old.written new.written text
 
 -- no command was done yet
-pub not_gone : (at : Follower) (log : SinkLog) → HasCome at at log log
+pub not_gone : (at : Place) (log : SinkLog) → HasCome at at log log
 not_gone at log = record { text = []; led = record { ends = λ output follows. follows; begins = λ more begins. begins }; out = Appends-nil log.written }
 
-led_on : (a b c : Follower) (text more : List ℕ) → IsLed a b text → IsLed b c more → IsLed a c (text ++ more)
+led_on : (a b c : Place) (text more : List ℕ) → IsLed a b text → IsLed b c more → IsLed a c (text ++ more)
 led_on a b c text more first next = record {
   ends = λ output follows. subst (λ (bytes : List ℕ). Ending a (record { out = bytes; err = output.err; ends = output.ends })) (sym (append_assoc text more output.out))
       (first.ends (in_front more output) (next.ends output follows));
@@ -269,7 +268,7 @@ led_on a b c text more first next = record {
 }
 
 -- the place in front of the next command is the one that was come to
-led_same : (earlier later rest : Follower) (command : Command) (text : List ℕ) → IsPlace later rest.session.plan rest.session.tree.nodes rest.number (onto command rest.script) → later.seen ≡ rest.seen →
+led_same : (earlier later rest : Place) (command : Command) (text : List ℕ) → IsPlace later rest.session.plan rest.session.tree.nodes rest.number (onto command rest.script) → later.seen ≡ rest.seen →
     IsLed earlier later text → IsLed earlier (in_front_of command rest) text
 led_same earlier later rest command text place seen led = record {
   ends = λ output follows. led.ends output (follows_same rest.session.plan later.session.plan rest.session.tree.nodes later.session.tree.nodes rest.number later.number rest.seen later.seen
@@ -278,12 +277,12 @@ led_same earlier later rest command text place seen led = record {
       (onto command rest.script) later.script more (sym place.plan_is) (sym place.tree_is) (sym place.number_is) (sym place.rest_is) begins);
 }
 
-pub come_before : (earlier later rest : Follower) (command : Command) (old new : SinkLog) → IsPlace later rest.session.plan rest.session.tree.nodes rest.number (onto command rest.script) → later.seen ≡ rest.seen →
+pub come_before : (earlier later rest : Place) (command : Command) (old new : SinkLog) → IsPlace later rest.session.plan rest.session.tree.nodes rest.number (onto command rest.script) → later.seen ≡ rest.seen →
     HasCome earlier later old new → HasCome earlier (in_front_of command rest) old new
 come_before earlier later rest command old new place seen come = record { text = come.text; led = led_same earlier later rest command come.text place seen come.led; out = come.out }
 
 -- one command more was done
-pub come_on : {A : Type 0} (earlier before later : Follower) (old mid new : SinkLog) (value : A) → HasCome earlier before old mid → Goes {A = A} before later mid new (Ok value) → HasCome earlier later old new
+pub come_on : {A : Type 0} (earlier before later : Place) (old mid new : SinkLog) (value : A) → HasCome earlier before old mid → Goes {A = A} before later mid new (Ok value) → HasCome earlier later old new
 come_on earlier before later old mid new value come next = record {
   text = come.text ++ next.told.0;
   led = led_on earlier before later come.text next.told.0 come.led next.told.1;
@@ -294,24 +293,24 @@ come_on earlier before later old mid new value come next = record {
 pub next_command : (next : Option Command) (command : Command) (old new : Script) → next ≡ Some command → IfSome next (λ c. old ≡ onto c new) → old ≡ onto command new
 next_command next command old new is says = subst (λ (n : Option Command). IfSome n (λ c. old ≡ onto c new)) is says
 
-pub come_to_next : (earlier later : Follower) (rest : Script) (next : Option Command) (command : Command) (old new : SinkLog) → next ≡ Some command → IfSome next (λ c. later.script ≡ onto c rest) →
+pub come_to_next : (earlier later : Place) (rest : Script) (next : Option Command) (command : Command) (old new : SinkLog) → next ≡ Some command → IfSome next (λ c. later.script ≡ onto c rest) →
     HasCome earlier later old new → HasCome earlier (in_front_of command (record later { script = rest })) old new
 come_to_next earlier later rest next command old new is says come = come_before earlier later (record later { script = rest }) command old new
     (record { plan_is = refl; tree_is = refl; number_is = refl; rest_is = next_command next command later.script rest is says }) refl come
 
 -- the script is at its end where there is none
-pub no_next : (next : Option Command) (old new : Script) → ((command : Command) → next ≡ Some command → ⊥) → IfNone next ((old ≡ nothing) × (new ≡ old)) → old ≡ nothing
-no_next None old new none says = says.0
-no_next (Some command) old new none says = absurd (none command refl)
+pub no_next : (next : Option Command) (left : Script) (Stays : Type 0) → ((command : Command) → next ≡ Some command → ⊥) → IfNone next ((left ≡ nothing) × Stays) → left ≡ nothing
+no_next None left Stays none says = says.0
+no_next (Some command) left Stays none says = absurd (none command refl)
 
 -- how the rest ends is how all ends
-comes_to_conclude : (earlier later : Follower) (old mid new : SinkLog) → HasCome earlier later old mid → (result : Result Shown Stop) →
+comes_to_conclude : (earlier later : Place) (old mid new : SinkLog) → HasCome earlier later old mid → (result : Result Shown Stop) →
     Concludes (Ending later) (λ _. ⊥) (Beginning later) (Appends mid.written new.written) result → Concludes (Ending earlier) (λ _. ⊥) (Beginning earlier) (Appends old.written new.written) result
 comes_to_conclude earlier later old mid new come = concludes_behind (Ending later) (Ending earlier) (Beginning later) (Beginning earlier) old.written mid.written new.written come.text come.out
     come.led.ends come.led.begins (come.led.begins [] (nothing_yet later.session.tree.nodes later.number later.script))
 
 -- the script comes to its end
-pub rest_ends : (earlier later : Follower) (old mid : SinkLog) → HasCome earlier later old mid → later.script ≡ nothing →
+pub rest_ends : (earlier later : Place) (old mid : SinkLog) → HasCome earlier later old mid → later.script ≡ nothing →
     Concludes (Ending earlier) (λ _. ⊥) (Beginning earlier) (Appends old.written mid.written) (Ok later.seen)
 rest_ends earlier later old mid come none = comes_to_conclude earlier later old mid mid come (Ok later.seen) (record {
   output = ended [] later.seen;
@@ -323,7 +322,7 @@ rest_ends earlier later old mid come none = comes_to_conclude earlier later old 
 })
 
 -- it has a fault, or memory runs out
-pub rest_stops : (earlier later : Follower) (old mid : SinkLog) → HasCome earlier later old mid → (error : ScriptError) (stop : Stop) (result : Result Shown Stop) → result ≡ Err stop → stop ≡ of_script error →
+pub rest_stops : (earlier later : Place) (old mid : SinkLog) → HasCome earlier later old mid → (error : ScriptError) (stop : Stop) (result : Result Shown Stop) → result ≡ Err stop → stop ≡ of_script error →
     IfFault (λ found. later.script ≡ stops found) error → Concludes (Ending earlier) (λ _. ⊥) (Beginning earlier) (Appends old.written mid.written) result
 rest_stops earlier later old mid come error stop result is says found = subst (Concludes (Ending earlier) (λ _. ⊥) (Beginning earlier) (Appends old.written mid.written)) (sym (is ∙ ap Err says))
     (comes_to_conclude earlier later old mid mid come (Err (of_script error)) (by error found))
@@ -354,7 +353,7 @@ script_faults count error stop result is says = subst (λ (r : Result Shown Stop
     by script.Memory = refl
 
 -- what comes of a command is not written whole
-pub command_stops : {A : Type 0} (earlier before later : Follower) (old mid new : SinkLog) → HasCome earlier before old mid → (stop : Stop) (result : Result Shown Stop) → result ≡ Err stop →
+pub command_stops : {A : Type 0} (earlier before later : Place) (old mid new : SinkLog) → HasCome earlier before old mid → (stop : Stop) (result : Result Shown Stop) → result ≡ Err stop →
     Goes {A = A} before later mid new (Err stop) → Concludes (Ending earlier) (λ _. ⊥) (Beginning earlier) (Appends old.written new.written) result
 command_stops earlier before later old mid new come stop result is next = subst (Concludes (Ending earlier) (λ _. ⊥) (Beginning earlier) (Appends old.written new.written)) (sym is)
     (comes_to_conclude earlier before old mid new come (Err stop)
@@ -363,10 +362,10 @@ command_stops earlier before later old mid new come stop result is next = subst 
     (Fronted (Beginning before) (Appends mid.written new.written)) (Appends mid.written new.written [] ⊎ Fronted (Beginning before) (Appends mid.written new.written))
     (λ stop no. absurd no) (λ name no. absurd no) (λ front. front) (λ front. inr front) stop next.told))
 
-pub goes_writing : {A : Type 0} (before later : Follower) (mid new : SinkLog) (stop : Stop) (result : Result Shown Stop) → result ≡ Err stop → Goes {A = A} before later mid new (Err stop) → IfErr result IsOfWriting
+pub goes_writing : {A : Type 0} (before later : Place) (mid new : SinkLog) (stop : Stop) (result : Result Shown Stop) → result ≡ Err stop → Goes {A = A} before later mid new (Err stop) → IfErr result IsOfWriting
 goes_writing before later mid new stop result is next = subst (λ (r : Result Shown Stop). IfErr r IsOfWriting) (sym is) next.writing
 
-pub goes_faults : {A : Type 0} (before later : Follower) (mid new : SinkLog) (count : ℕ) (stop : Stop) (result : Result Shown Stop) → result ≡ Err stop → mid.faults ≡ count → Goes {A = A} before later mid new (Err stop) →
+pub goes_faults : {A : Type 0} (before later : Place) (mid new : SinkLog) (count : ℕ) (stop : Stop) (result : Result Shown Stop) → result ≡ Err stop → mid.faults ≡ count → Goes {A = A} before later mid new (Err stop) →
     new.faults ≡ counted_if (ends_with status.WriteFault result) count
 goes_faults before later mid new count stop result is same next = subst (λ (r : Result Shown Stop). new.faults ≡ counted_if (ends_with status.WriteFault r) count) (sym is)
     (next.faults ∙ ap (λ (faults : ℕ). counted_if (ends_with {A = Shown} status.WriteFault (Err stop)) faults) same)
@@ -393,7 +392,7 @@ first_stops plan T bytes old new stop result is wrote = subst (Concludes (States
     }
 
 -- and behind it stands what comes of the commands
-pub first_then : (plan : Plan) (T : Table) (bytes : List ℕ) (old mid new : SinkLog) (first : Follower) → IsPlace first plan T 1 (script_of bytes) → first.seen ≡ shows plan T →
+pub first_then : (plan : Plan) (T : Table) (bytes : List ℕ) (old mid new : SinkLog) (first : Place) → IsPlace first plan T 1 (script_of bytes) → first.seen ≡ shows plan T →
     Appends old.written mid.written (state_text plan T) → (result : Result Shown Stop) →
     Concludes (Ending first) (λ _. ⊥) (Beginning first) (Appends mid.written new.written) result → Concludes (States plan T bytes) (λ _. ⊥) (BeginsStates plan T bytes) (Appends old.written new.written) result
 first_then plan T bytes old mid new first place seen out = concludes_behind (Ending first) (States plan T bytes) (Beginning first) (BeginsStates plan T bytes) old.written mid.written new.written (state_text plan T) out

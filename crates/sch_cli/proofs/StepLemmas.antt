@@ -21,7 +21,6 @@ use Rattle.edit_session.specs.Standing.{Past, Standing, done_more, evaluated_ove
 use Rattle.edit_session.specs.State.{shows}
 use Rattle.edit_session.specs.declared.state.Shown.{Shown}
 use Rattle.edit_session.specs.declared.state.Shown.TheVariants.{Clean, Findings, Fault}
-use Rattle.sch_cli.specs.declared.following.Follower.{Follower}
 use Rattle.sch_words.specs.declared.status.Status.{Status}
 use Rattle.sch_stops.specs.declared.stop.Stop.{Stop}
 use Rattle.sch_stops.specs.declared.stop.Stop.TheVariants.{Usage, SchemaRefused, DocumentRefused, ScriptRefused, Missing, ReadFault, WriteFault, Memory}
@@ -31,7 +30,7 @@ use Rattle.sch_cli.specs.Runs.{AppendsFront, Costs, CountsOver, Fronted}
 use Rattle.sch_cli.specs.Steps.{CountsBy, EditsCost, at_a_fault, at_the_end, edit_cost, first_cost, of_edited, of_refused}
 use Rattle.sch_cli.specs.inner.Carried.{Visits, status_of_end}
 use Rattle.sch_cli.specs.inner.Counts.{CostOn, CountsAlong, CountsOn, IsCosted, RoseFor, next_cost}
-use Rattle.sch_cli.specs.inner.Followers.{Beginning, Goes, IsUndone, in_front_of}
+use Rattle.sch_cli.specs.inner.Followers.{Beginning, Goes, IsUndone, Place, in_front_of}
 use Rattle.sch_stops.specs.Stops.{ByCause, of_script}
 use Rattle.sch_cli.specs.inner.Writing.{WroteText}
 use Rattle.sch_cli.proofs.CarryLemmas.{counts_in}
@@ -97,7 +96,7 @@ next_is_edit plan T command session before fresh past plans =
     ap (λ (p : Option Past). cost_of session.plan session.tree.nodes (units_to_run session.plan (since_of p) session.tree.nodes)) is
     ∙ ap (λ (p : Plan). edit_cost p T command session.tree.nodes) plans
 
-pub costed_edited : (at later : Follower) (command : Edit) (session : Standing) (before after : ℕ) → at.session.tree.pair_cap ≡ pair_cap_for at.session.plan →
+pub costed_edited : (at later : Place) (command : Edit) (session : Standing) (before after : ℕ) → at.session.tree.pair_cap ≡ pair_cap_for at.session.plan →
     at.session.past ≡ evaluated_over at.session.tree.nodes → command_refusal at.session.tree command ≡ None → IsEdited at.session.tree.nodes command session.tree.nodes →
     session.plan ≡ at.session.plan → session.past ≡ done_more at.session.past at.session.tree.nodes command →
     later.session.plan ≡ session.plan → later.session.tree ≡ session.tree → later.script ≡ at.script → later.seen ≡ then_shown at.seen (shows session.plan session.tree.nodes) →
@@ -112,7 +111,7 @@ costed_edited at later command session before after cap fresh none makes plan pa
 }
 
 -- where it is written whole
-pub costed_whole : (at later : Follower) (command : Edit) (session : Standing) (before after : ℕ) (result : Result (Unit {0}) Stop) → at.session.tree.pair_cap ≡ pair_cap_for at.session.plan →
+pub costed_whole : (at later : Place) (command : Edit) (session : Standing) (before after : ℕ) (result : Result (Unit {0}) Stop) → at.session.tree.pair_cap ≡ pair_cap_for at.session.plan →
     at.session.past ≡ evaluated_over at.session.tree.nodes → command_refusal at.session.tree command ≡ None → IsEdited at.session.tree.nodes command session.tree.nodes →
     session.plan ≡ at.session.plan → session.past ≡ done_more at.session.past at.session.tree.nodes command →
     later.session.plan ≡ session.plan → later.session.tree ≡ session.tree → later.script ≡ at.script → OnOk result (later.seen ≡ then_shown at.seen (shows session.plan session.tree.nodes)) →
@@ -122,7 +121,7 @@ costed_whole at later command session before after (Ok done) cap fresh none make
 costed_whole at later command session before after (Err stop) cap fresh none makes plan past plans trees scripts seen rose = tt
 
 -- a refused command costs none
-pub costed_refused : (at later : Follower) (command : Edit) (reason : EditRefusal) (count : ℕ) → at.session.tree.pair_cap ≡ pair_cap_for at.session.plan →
+pub costed_refused : (at later : Place) (command : Edit) (reason : EditRefusal) (count : ℕ) → at.session.tree.pair_cap ≡ pair_cap_for at.session.plan →
     command_refusal at.session.tree command ≡ Some reason → later.session.plan ≡ at.session.plan → later.session.tree.nodes ≡ at.session.tree.nodes → later.script ≡ at.script → later.seen ≡ at.seen →
     IsCosted (in_front_of command at) later count count
 costed_refused at later command reason count cap some plans trees scripts seen = record {
@@ -138,7 +137,7 @@ costed_refused at later command reason count cap some plans trees scripts seen =
 }
 
 -- one that is not done leads no further, or costs none
-pub costed_undone : (at later : Follower) (command : Edit) (error : ApplyError) (old new : SinkLog) (result : Result (Unit {0}) Stop) (count : ℕ) → at.session.tree.pair_cap ≡ pair_cap_for at.session.plan →
+pub costed_undone : (at later : Place) (command : Edit) (error : ApplyError) (old new : SinkLog) (result : Result (Unit {0}) Stop) (count : ℕ) → at.session.tree.pair_cap ≡ pair_cap_for at.session.plan →
     RefusesCommand at.session.tree command error → IsUndone at.number error old new result →
     later.session.plan ≡ at.session.plan → later.session.tree.nodes ≡ at.session.tree.nodes → later.script ≡ at.script → later.seen ≡ at.seen →
     OnOk result (IsCosted (in_front_of command at) later count count)
@@ -149,7 +148,7 @@ costed_undone at later command apply.Memory old new result count cap some undone
 
 -- The commands one after another
 
-pub not_costed : (at : Follower) (count : ℕ) → IsCosted at at count count
+pub not_costed : (at : Place) (count : ℕ) → IsCosted at at count count
 not_costed at count = record {
   cost = 0;
   led = λ rest costs.
@@ -160,7 +159,7 @@ not_costed at count = record {
       rose_is first (first + 0) start count at.seen same was;
 }
 
-pub costed_on : (a b c : Follower) (before mid after : ℕ) → IsCosted a b before mid → IsCosted b c mid after → IsCosted a c before after
+pub costed_on : (a b c : Place) (before mid after : ℕ) → IsCosted a b before mid → IsCosted b c mid after → IsCosted a c before after
 costed_on a b c before mid after first next = record {
   cost = first.cost + next.cost;
   led = λ rest costs.
@@ -172,7 +171,7 @@ costed_on a b c before mid after first next = record {
 }
 
 -- the place in front of the next command is the one that was come to
-pub costed_to_next : (earlier later : Follower) (rest : Script) (next : Option Edit) (command : Edit) (before after : ℕ) → next ≡ Some command → IfSome next (λ c. later.script ≡ onto c rest) →
+pub costed_to_next : (earlier later : Place) (rest : Script) (next : Option Edit) (command : Edit) (before after : ℕ) → next ≡ Some command → IfSome next (λ c. later.script ≡ onto c rest) →
     IsCosted earlier later before after → IsCosted earlier (in_front_of command (record later { script = rest })) before after
 costed_to_next earlier later rest next command before after is says costed = record {
   cost = costed.cost;
@@ -182,18 +181,18 @@ costed_to_next earlier later rest next command before after is says costed = rec
 }
 
 -- what a script costs whose end was come to
-all_cost : (earlier later : Follower) (before after first : ℕ) (costed : IsCosted earlier later before after) → EditsCost later.session.plan later.session.tree.nodes later.script 0 → CostOn earlier first (first + costed.cost)
+all_cost : (earlier later : Place) (before after first : ℕ) (costed : IsCosted earlier later before after) → EditsCost later.session.plan later.session.tree.nodes later.script 0 → CostOn earlier first (first + costed.cost)
 all_cost earlier later before after first costed none =
     let same : costed.cost + 0 ≡ costed.cost = omega arith in
     (costed.cost, cost_is earlier.session.plan earlier.session.tree.nodes earlier.script (costed.cost + 0) costed.cost same (costed.led 0 none), refl)
 
-pub rest_counts : (earlier later : Follower) (before after : ℕ) → IsCosted earlier later before after → later.script ≡ nothing → CountsOn earlier before after (Ok later.seen)
+pub rest_counts : (earlier later : Place) (before after : ℕ) → IsCosted earlier later before after → later.script ≡ nothing → CountsOn earlier before after (Ok later.seen)
 rest_counts earlier later before after costed none = λ first start was.
     let costs = all_cost earlier later before after first costed (subst (λ (s : Script). EditsCost later.session.plan later.session.tree.nodes s 0) (sym none) (at_the_end later.session.tree.nodes)) in
     (first + costed.cost, costs, costed.rose first start was)
 
 -- the script has a fault, or memory runs out
-pub rest_stops_counting : (earlier later : Follower) (before after : ℕ) → IsCosted earlier later before after → (error : ScriptError) (stop : Stop) (result : Result Shown Stop) → result ≡ Err stop → stop ≡ of_script error →
+pub rest_stops_counting : (earlier later : Place) (before after : ℕ) → IsCosted earlier later before after → (error : ScriptError) (stop : Stop) (result : Result Shown Stop) → result ≡ Err stop → stop ≡ of_script error →
     IfFault (λ found. later.script ≡ stops found) error → CountsOn earlier before after result
 rest_stops_counting earlier later before after costed error stop result is says found = subst (CountsOn earlier before after) (sym (is ∙ ap Err says)) (by error found)
   where
@@ -216,7 +215,7 @@ unsaid R W M costs before after (ReadFault name) says = tt
 unsaid R W M costs before after WriteFault says = tt
 unsaid R W M costs before after Memory says = tt
 
-pub command_stops_counting : {A : Type 0} (earlier before later : Follower) (mid new : SinkLog) (old after : ℕ) (stop : Stop) (result : Result Shown Stop) → result ≡ Err stop →
+pub command_stops_counting : {A : Type 0} (earlier before later : Place) (mid new : SinkLog) (old after : ℕ) (stop : Stop) (result : Result Shown Stop) → result ≡ Err stop →
     Goes {A = A} before later mid new (Err stop) → CountsOn earlier old after result
 command_stops_counting earlier before later mid new old after stop result is goes = subst (CountsOn earlier old after) (sym is)
     (λ first start was. unsaid (λ _. ⊥) (Fronted (Beginning before) (Appends mid.written new.written)) (Fronted (Beginning before) (Appends mid.written new.written)) (CostOn earlier first) start after stop goes.told)
@@ -279,7 +278,7 @@ pub first_unsaid : (plan : Plan) (T : Table) (bytes text : List ℕ) (old new : 
 first_unsaid plan T bytes text old new before after stop result is wrote = subst (CountsAlong (StatesCost plan T bytes) before after) (sym is) (unsaid (λ _. ⊥) (AppendsFront old.written new.written text) (AppendsFront old.written new.written text) (StatesCost plan T bytes) before after stop wrote.told)
 
 -- the states, the first of which was written
-pub states_count : (session : Standing) (bytes : List ℕ) (first : Follower) (before mid after : ℕ) (result : Result Shown Stop) → session.past ≡ None →
+pub states_count : (session : Standing) (bytes : List ℕ) (first : Place) (before mid after : ℕ) (result : Result Shown Stop) → session.past ≡ None →
     first.session.plan ≡ session.plan → first.session.tree ≡ session.tree → first.script ≡ script_of bytes →
     RoseFor (next_cost session) before mid first.seen → CountsOn first mid after result → CountsAlong (StatesCost session.plan session.tree.nodes bytes) before after result
 states_count session bytes first before mid after result none plans trees scripts rose counts =

@@ -37,7 +37,9 @@ pub(crate) fn expand_schema<S: Shelf, O: Sink>(
     ensures accepted { ends_with statuses.Usage result ≡ false }
 {
     let flat = load_flat(alloc, name, shelf)?;
-    write_expanded(alloc, &flat, out)
+    let written = write_expanded(alloc, &flat, out);
+    drop(flat);
+    written
 }
 
 /// Writes a schema without abstract parts, which shows nothing to be found.

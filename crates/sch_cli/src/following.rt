@@ -16,7 +16,7 @@ ghost use Rattle.sch_cli.specs.Following.{then_shown};
 ghost use Rattle.sch_stops.specs.Stops.{counted_if, ends_with};
 ghost use Rattle.sch_cli.specs.inner.Carried.{Carried, Concludes};
 ghost use Rattle.sch_cli.specs.inner.Counts.{CountsAlong, CountsOn, IsCosted, RoseFor, next_cost};
-ghost use Rattle.sch_cli.specs.inner.Followers.{Beginning, Ending, Goes, IsReady, IsUndone, in_front_of, scripted_by};
+ghost use Rattle.sch_cli.specs.inner.Followers.{Beginning, Ending, Goes, IsReady, IsUndone, in_front_of, place_of, scripted_by};
 ghost use Rattle.sch_cli.specs.inner.Writing.{IsOfWriting, WroteText};
 
 use crate::validation::{load_asked, write_state};
@@ -116,7 +116,7 @@ fn write_states<O: Sink, L: Ledger>(
 #[derive(Drop)]
 struct Follower<'a> {
     session: Session,
-    /// What is to come of the script.
+    /// The lines of the script that are left.
     script: ScriptReader<'a>,
     /// The number of the next command, counted from 1.
     number: u64,
@@ -131,15 +131,17 @@ impl Follower<'_> {
         out: &mut O,
         steps: &mut Steps<L>,
     ) -> Result<Shown, Stop>
-        requires { IsReady self.old }
-        ensures told { Concludes (Ending self.old) (λ _. ⊥) (Beginning self.old) (Appends (O.log out.old).written (O.log out.new).written) result }
+        requires { IsReady (place_of self.old) }
+        ensures told { Concludes (Ending (place_of self.old)) (λ _. ⊥) (Beginning (place_of self.old)) (Appends (O.log out.old).written (O.log out.new).written) result }
         ensures writing { IfErr result IsOfWriting }
         ensures write_faults { (O.log out.new).faults ≡ counted_if (ends_with statuses.WriteFault result) (O.log out.old).faults }
-        ensures counted { CountsOn self.old steps.old steps.new result }
+        ensures counted { CountsOn (place_of self.old) steps.old steps.new result }
         ensures steps { steps.old ≤ steps.new }
     {
         while let Some(command) = self.script.next()? {
-            self.follow_command(&command, out, steps)?;
+            let done = self.follow_command(&command, out, steps);
+            drop(command);
+            done?;
         }
         Ok(self.seen)
     }
@@ -152,11 +154,11 @@ impl Follower<'_> {
         steps: &mut Steps<L>,
     ) -> Result<(), Stop>
         requires formed { WellFormedCommand command.now }
-        requires ready { IsReady (in_front_of command.now self.old) }
-        ensures goes { Goes (in_front_of command.now self.old) self.new (O.log out.old) (O.log out.new) result }
-        ensures ready { OnOk result (IsReady self.new) }
+        requires ready { IsReady (in_front_of command.now (place_of self.old)) }
+        ensures goes { Goes (in_front_of command.now (place_of self.old)) (place_of self.new) (O.log out.old) (O.log out.new) result }
+        ensures ready { OnOk result (IsReady (place_of self.new)) }
         ensures script { self.new.script ≡ self.old.script }
-        ensures costed { OnOk result (IsCosted (in_front_of command.now self.old) self.new steps.old steps.new) }
+        ensures costed { OnOk result (IsCosted (in_front_of command.now (place_of self.old)) (place_of self.new) steps.old steps.new) }
         ensures steps { steps.old ≤ steps.new }
     {
         let number = self.number;

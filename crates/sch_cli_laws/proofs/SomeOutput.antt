@@ -6,8 +6,7 @@ use Rattle.std.proofs.lemmas.Bool.{ltb-false}
 use Rattle.std.proofs.lemmas.List.Elements.{All-head, All-tail}
 use Rattle.sch_io.specs.Files.{Files}
 use Rattle.sch_io.specs.declared.reading.TheConstants.{MAX_FILE_BYTES}
-use Rattle.doc_table.specs.inner.Sound.{Formed}
-use Rattle.doc_table.proofs.Forests.{formed-of}
+use Rattle.doc_tree.specs.Laws.{WellFormed}
 use Rattle.doc_tree.specs.Kinds.{is_document}
 use Rattle.doc_tree.specs.Table.{Table}
 use Rattle.doc_tree.specs.declared.refusal.EditRefusal.{EditRefusal}
@@ -56,7 +55,7 @@ use Rattle.sch_cli_laws.proofs.Ways.{Anything, Ends, goes-ends, halt-at-ends, ha
 
 -- the tree of a document
 abbrev IsTree : Table → Type 0
-IsTree T = Formed T × (is_document T ≡ true)
+IsTree T = WellFormed T × (is_document T ≡ true)
 
 -- no more bytes than a limit, where there are bytes
 abbrev IsShort : ℕ → Option (List ℕ) → Type 0
@@ -158,7 +157,7 @@ module _ (trees : DocumentsHaveTrees) (some_inclusion : SomeInclusion) (each_com
       by : (o : Option DocFault) → doc_fault bytes ≡ o → Ends (Parsing (Some bytes)) IsTree
       by None sound =
           let T = trees bytes sound short in
-          on_with [] T.0 (refl, Ok T.0, record { sound = sound; scoped = T.1 }, refl) (formed-of T.0 T.1.well_formed T.1.numbered, T.1.document)
+          on_with [] T.0 (refl, Ok T.0, record { sound = sound; scoped = T.1 }, refl) (T.1.well_formed, T.1.document)
       by (Some fault) is = halted [] (refused_document (refusal.Faulted fault)) (refl, Err fault, is, refl)
 
   loading-ends : (document : List ℕ) → Ends (Loading files document) IsTree

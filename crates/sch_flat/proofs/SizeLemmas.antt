@@ -5,7 +5,7 @@ use Rattle.std.specs.Prelude.{codes}
 use Rattle.std.specs.Str.{bytes_eq}
 use Rattle.std.proofs.lemmas.List.Elements.{filter-append}
 use Rattle.doc_tree.specs.Scope.{Decl, xmlns_prefix}
-use Rattle.name_scopes.specs.Declarations.{is_plain, plain_attrs}
+use Rattle.name_scopes.specs.Declarations.{declares_namespace, is_plain, plain_attrs}
 use Rattle.name_scopes.specs.QNames.{local_part, prefix_part}
 use Rattle.pyx_core.specs.declared.event.Attr.{Attr}
 use Rattle.pyx_core.specs.declared.event.Event.{Event}
@@ -15,7 +15,7 @@ use Rattle.pyx_core.specs.Written.{attr_line, attr_lines, chars_line, end_line, 
 use Rattle.sch_flat.specs.declared.size.FlatSize.{FlatSize}
 use Rattle.sch_flat.specs.FlatDocument.{characters}
 use Rattle.sch_flat.specs.FlatSize.{bytes_of, capped, nodes_of, size_of}
-use Rattle.sch_flat.specs.inner.Sizes.{attrs_size, declares, sized, sum_of}
+use Rattle.sch_flat.specs.inner.Sizes.{attrs_size, sized, sum_of}
 
 sum-capped : (a b m : ℕ) → min (min a m + min b m) m ≡ min (a + b) m
 sum-capped a b m = omega arith
@@ -133,7 +133,7 @@ abbrev declared : List ℕ → List ℕ → Option Decl
 declared prefix value = Some (prefix, value)
 
 -- whether an attribute declares lies in its name alone
-pub plain-one : (attr : Attr) → length (plain_attrs (attr ∷ [])) ≡ cond (declares attr.name) 0 1
+pub plain-one : (attr : Attr) → length (plain_attrs (attr ∷ [])) ≡ cond (declares_namespace attr.name) 0 1
 plain-one attr = by (bytes_eq attr.name xmlns_prefix) (bytes_eq (prefix_part attr.name) xmlns_prefix)
   where
     by : (x y : Bool) →
@@ -143,15 +143,15 @@ plain-one attr = by (bytes_eq attr.name xmlns_prefix) (bytes_eq (prefix_part att
     by false false = refl
 
 pub attr_size_is : (attr : Attr) (len : ℕ) → len ≡ capped (length (escaped attr.value)) →
-    sized (capped (length attr.name + 3) + len) (cond (declares attr.name) 0 1) ≡ attrs_size (attr ∷ [])
+    sized (capped (length attr.name + 3) + len) (cond (declares_namespace attr.name) 0 1) ≡ attrs_size (attr ∷ [])
 attr_size_is attr len is =
-    ap (λ n. of_counts n (capped (cond (declares attr.name) 0 1)))
+    ap (λ n. of_counts n (capped (cond (declares_namespace attr.name) 0 1)))
     (ap (λ n. capped (capped (length attr.name + 3) + n)) is
     ∙ capped_sum (length attr.name + 3) (length (escaped attr.value))
     ∙ ap capped (sym (attr_line-length attr.name attr.value) ∙ ap length (sym (append-nil (attr_line attr.name attr.value)))))
     ∙ ap (λ n. of_counts (capped (length (attr_lines (attr ∷ [])))) (capped n)) (sym (plain-one attr))
 
-pub attr_is : (attr : Attr) (some bytes len nodes : ℕ) → some ≡ capped (length attr.name + 3) → bytes ≡ capped (some + len) → nodes ≡ capped (cond (declares attr.name) 0 1) →
+pub attr_is : (attr : Attr) (some bytes len nodes : ℕ) → some ≡ capped (length attr.name + 3) → bytes ≡ capped (some + len) → nodes ≡ capped (cond (declares_namespace attr.name) 0 1) →
     len ≡ capped (length (escaped attr.value)) → of_counts bytes nodes ≡ attrs_size (attr ∷ [])
 attr_is attr some bytes len nodes s b n is =
     ap (λ k. of_counts k nodes) (b ∙ ap (λ k. capped (k + len)) s) ∙ ap (of_counts (capped (capped (length attr.name + 3) + len))) n ∙ attr_size_is attr len is

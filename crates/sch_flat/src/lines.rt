@@ -1,9 +1,7 @@
 //! How large the lines of events are.
 
 ghost use Rattle.std.specs.Prelude.{◌≡◌, ℕ, List, [], ◌∷◌, map, length, if◌then◌else◌};
-ghost use Rattle.std.specs.Str.{bytes_eq};
-ghost use Rattle.doc_tree.specs.Scope.{xmlns_prefix};
-ghost use Rattle.name_scopes.specs.QNames.{prefix_part};
+ghost use Rattle.name_scopes.specs.Declarations.{declares_namespace};
 ghost use Rattle.pyx_core.specs.declared.event.Event.{Event};
 ghost use Rattle.pyx_core.specs.declared.event.Event.TheVariants as event;
 ghost use Rattle.pyx_core.specs.Escapes.{escape_of, escaped};
@@ -11,11 +9,11 @@ ghost use Rattle.sch_flat.specs.FlatDocument.{characters, element, only_given};
 ghost use Rattle.sch_texts.specs.Ids.{id_list, spaced};
 ghost use Rattle.sch_flat.specs.FlatSize.{capped, escapes_len, size_of};
 ghost use Rattle.sch_flat.specs.inner.Given.{seen};
-ghost use Rattle.sch_flat.specs.inner.Sizes.{attrs_size, declares};
+ghost use Rattle.sch_flat.specs.inner.Sizes.{attrs_size};
 
 use crate::given::Given;
 use crate::size::FlatSize;
-use doc_tree::is_xmlns;
+use name_scopes::declares_namespace;
 use sch_base::Text;
 use sch_model::TextList;
 
@@ -109,27 +107,9 @@ fn attr_size(name: &str, value_len: u64) -> FlatSize
 
 /// How many nodes an attribute of this name is: one, and none where it declares a namespace.
 fn attr_nodes(name: &str) -> u64
-    ensures { result ≡ capped (if declares name.now then 0 else 1) }
+    ensures { result ≡ capped (if declares_namespace name.now then 0 else 1) }
 {
-    if declares(name) { 0 } else { 1 }
-}
-
-/// Whether an attribute of this name declares a namespace.
-fn declares(name: &str) -> bool
-    ensures { result ≡ declares name.now }
-{
-    is_xmlns(name) || is_xmlns(prefix_of(name))
-}
-
-/// What stands in front of a name's colon, which is nothing where there is none.
-#[tactic(auto, using(sch_base::proofs::Lists::none_passes))]
-fn prefix_of(name: &str) -> &str
-    ensures { result.now ≡ prefix_part name.now }
-{
-    match name.split_once(':') {
-        Some((prefix, _)) => prefix,
-        None => "",
-    }
+    if declares_namespace(name) { 0 } else { 1 }
 }
 
 /// The bytes of ids with a space between each two, with their escapes.

@@ -3,8 +3,8 @@
 ghost use Rattle.std.specs.Prelude.{◌≡◌, ◌<◌, ◌≤◌, ◌+◌, ◌∷◌, [], ◌++◌, ℕ, List, suc, true, false, length, is_some, sum_by, map, Some, None, Ok, IfOk, IfErr, OnOk};
 ghost use Rattle.std.specs.List.{flat_map};
 ghost use Rattle.doc_tree.specs.Growth.{AttributeFits, Grew, Refuses};
-ghost use Rattle.doc_tree.specs.Kinds.{is_element, is_kind, is_text};
-ghost use Rattle.doc_tree.specs.kind.Kind.TheVariants.{Attribute, Comment, Element};
+ghost use Rattle.doc_tree.specs.Kinds.{is_element};
+ghost use Rattle.doc_tree.specs.kind.Kind.TheVariants.{Attribute, Element};
 ghost use Rattle.doc_tree.specs.limits.TheConstants.{MAX_DEPTH, MAX_LIVE_NODES, MAX_LIVE_TEXT_BYTES};
 ghost use Rattle.doc_tree.specs.Lines.{Line, declares, opens};
 ghost use Rattle.doc_tree.specs.Table.{Content, Name, Table, attribute, attrs_of, decls_of, element, expanded_of, kids_of, kind_of, name_of, numbered, value_of};
@@ -48,9 +48,9 @@ fn copy_leaf(
 {
     tree.laws();
     source.laws();
-    let appended = if is_text(source, n) {
+    let appended = if source.is_kind(n, Kind::Text) {
         tree.append_node(parent, NewNode::Text(source.value(n)))
-    } else if is_comment(source, n) {
+    } else if source.is_kind(n, Kind::Comment) {
         tree.append_node(parent, NewNode::Comment(source.value(n)))
     } else {
         let name = copy_name(tree, source, n)?;
@@ -78,20 +78,6 @@ fn copy_element(
     copy_decls(tree, element, source, n)?;
     copy_attributes(tree, element, source, n)?;
     Ok(element)
-}
-
-/// Whether the node is a text.
-fn is_text(tree: &Tree, n: NodeId) -> bool
-    ensures { result ≡ is_text (kind_of tree.now.nodes n) }
-{
-    matches!(tree.kind_of(n), Some(Kind::Text))
-}
-
-/// Whether the node is a comment.
-fn is_comment(tree: &Tree, n: NodeId) -> bool
-    ensures { result ≡ is_kind Comment (kind_of tree.now.nodes n) }
-{
-    matches!(tree.kind_of(n), Some(Kind::Comment))
 }
 
 /// Appends an element with the name of one of another tree.

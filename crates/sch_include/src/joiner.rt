@@ -9,7 +9,7 @@ ghost use Rattle.doc_tree.specs.Laws.{WellFormed};
 ghost use Rattle.doc_tree.specs.limits.TheConstants.{MAX_DEPTH, MAX_LIVE_NODES, MAX_LIVE_TEXT_BYTES};
 ghost use Rattle.sch_base.specs.declared.limits.TheConstants.{MAX_INCLUDE_DEPTH};
 ghost use Rattle.doc_tree.specs.Table.{is_live, kids_of, root_alone};
-ghost use Rattle.doc_tree.specs.Walks.{ancestors, below};
+ghost use Rattle.doc_tree.specs.Walks.{below};
 ghost use Rattle.sch_rules.specs.Attributes.{said};
 ghost use Rattle.sch_rules.specs.Elements.{document_element};
 ghost use Rattle.sch_include.specs.Includes.{is_include};
@@ -258,15 +258,4 @@ fn without_href(alloc: Global) -> IncludeError
         kind: IncludeKind::NoHref,
         name: Text::from(String::new(alloc)),
     })
-}
-
-/// How many nodes stand above a node.
-pub(crate) fn depth_of(tree: &Tree, n: NodeId) -> usize
-    ensures { result ≡ length (ancestors tree.now.nodes n) }
-{
-    tree.laws();
-    match tree.parent(n) {
-        Some(parent) => 1 + depth_of(tree, parent),
-        None => 0,
-    }
 }

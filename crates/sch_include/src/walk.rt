@@ -9,7 +9,7 @@ ghost use Rattle.sch_include.specs.inner.Joining.{CanWalk, CanWalkKids, Keeps, S
 
 use crate::copy::copy_node;
 use crate::fault::IncludeError;
-use crate::joiner::{Joiner, depth_of};
+use crate::joiner::Joiner;
 use crate::source::{OpenFile, document_element, is_include};
 use doc_tree::NodeId;
 use sch_base::Text;
@@ -107,7 +107,7 @@ impl Joiner {
         let tree = self.open(shelf, name)?;
         source.tree.laws();
         tree.laws();
-        let above = source.above + depth_of(source.tree, n) - 1;
+        let above = source.above + source.tree.depth(n) as usize - 1;
         self.judge(source.tree, n, &tree, above, told)?;
         self.walk_included(
             shelf,

@@ -156,7 +156,7 @@ pub record WentKids (files : Files) (old : Joiner) (file : OpenFile) (n p : ℕ)
 
 -- a file's tree is one
 file-formed : (T : Table) → IsFile T → Formed T
-file-formed T is = formed-of T is.well_formed is.numbered
+file-formed T is = formed-of T is.well_formed
 
 -- a walk of a node, where so many files may still be read, one inside another, and the way down has at most so many levels
 abbrev pub WalksAt : Files → ℕ → ℕ → Type 0

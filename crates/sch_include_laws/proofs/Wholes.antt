@@ -30,7 +30,7 @@ module _ (trees : DocumentsHaveTrees) (files : Files) (name : List ℕ) (T : Tab
   is-file = loaded-file files name T loads
 
   sound : Formed T
-  sound = formed-of T is-file.well_formed is-file.numbered
+  sound = formed-of T is-file.well_formed
 
   abbrev file : OpenFile
   file = opened_file name T 0

@@ -1,30 +1,27 @@
--- What is kept beside what contracts see: depths, places among siblings, and names by number.
-use Rattle.std.specs.Prelude.{◌≡◌, ℕ, ◌+◌, ◌<◌, ◌==◌, Bool, true, false, List, [], ◌∷◌, ◌++◌, Option, None, Some, if◌then◌else◌}
+-- What is kept beside what contracts see: depths, ranks, and names by number.
+use Rattle.std.specs.Prelude.{ℕ, ◌+◌, ◌<◌, ◌==◌, Bool, true, false, List, [], ◌∷◌, ◌++◌, map, Option, None, Some, slice_index_or, if◌then◌else◌}
 use Rattle.doc_table.specs.declared.node.Node.{Node}
 use Rattle.doc_table.specs.declared.node.NodeContent.{NodeContent}
 use Rattle.doc_table.specs.declared.node.NodeContent.TheVariants as kept
-use Rattle.doc_table.specs.Lists.{mem}
-use Rattle.doc_table.specs.Table.{Table, kids_of, attrs_of}
 
 -- the number of ancestors that is kept with a node
 abbrev pub depth_at : Option Node → ℕ
 depth_at None = 0
 depth_at (Some node) = node.depth
 
--- the place that is kept with a node
-abbrev pub place_at : Option Node → ℕ
-place_at None = 0
-place_at (Some node) = node.place
+-- the rank that is kept with a node
+abbrev pub rank_at : Option Node → ℕ
+rank_at None = 0
+rank_at (Some node) = node.rank
+
+-- the ranks of some nodes, by their numbers
+abbrev pub ranks_of : List (Option Node) → List ℕ → List ℕ
+ranks_of nodes ns = map (λ n. rank_at (slice_index_or nodes n None)) ns
 
 -- how many numbers stand before one in a list
 abbrev pub place_in : ℕ → List ℕ → ℕ
 place_in n [] = 0
 place_in n (m ∷ ms) = if n == m then 0 else 1 + place_in n ms
-
--- so many siblings stand before a node: attributes before an attribute, kids before another
-pub record IsPlace (T : Table) (n place : ℕ) : Type 0 where
-  pub among_attributes : (p : ℕ) → mem n (attrs_of T p) ≡ true → place ≡ place_in n (attrs_of T p)
-  pub among_kids : (p : ℕ) → mem n (kids_of T p) ≡ true → place ≡ place_in n (kids_of T p)
 
 -- the name of a node, where it has one, is among the first so many
 abbrev pub NameIsBelow : ℕ → NodeContent → Type 0

@@ -1,12 +1,13 @@
 -- What holds of every tree as it is kept.
-use Rattle.std.specs.Prelude.{◌≡◌, ◌≢◌, ℕ, ◌+◌, ◌≤◌, true, List, [], ◌∷◌, length, Option, None, Some, slice_index_or}
+use Rattle.std.specs.Prelude.{◌≡◌, ◌≢◌, ℕ, ◌+◌, ◌*◌, ◌≤◌, true, List, [], ◌∷◌, length, Option, None, Some, slice_index_or}
 use Rattle.doc_table.specs.declared.limits.TheConstants.{MAX_DEPTH, MAX_LIVE_NODES, MAX_LIVE_TEXT_BYTES, MAX_NODE_NUMBERS}
 use Rattle.doc_table.specs.declared.kind.Kind.TheVariants.{Root, Element, Attribute, Text}
 use Rattle.doc_table.specs.declared.node.Node.{Node}
-use Rattle.doc_table.specs.inner.Kept.{depth_at, place_at, IsPlace, NamesAreBelow}
-use Rattle.doc_table.specs.Lists.{mem}
+use Rattle.doc_table.specs.declared.ranks.TheConstants.{RANK_STEP}
+use Rattle.doc_table.specs.inner.Kept.{depth_at, ranks_of, NamesAreBelow}
+use Rattle.doc_table.specs.Lists.{mem, Rise}
 use Rattle.doc_table.specs.Table.{Table, Facts, Name, value_in, is_live, kids_of, attrs_of, kind_of, value_of, expanded_of}
-use Rattle.doc_table.specs.Walks.{ancestors}
+use Rattle.doc_table.specs.Walks.{ancestors, order}
 use Rattle.doc_table.specs.Kinds.{holds_kids, can_be_kid}
 use Rattle.doc_table.specs.Laws.{TextsApart}
 use Rattle.doc_table.specs.inner.Forest.{Forest, Whole}
@@ -51,12 +52,12 @@ pub record Formed (T : Table) : Type 0 where
   pub few_numbers : length T ≤ MAX_NODE_NUMBERS
   pub little_text : text_held T ≤ MAX_LIVE_TEXT_BYTES
 
--- the kept nodes show such a table, and what is kept beside them is as the table says
+-- the kept nodes show such a table, what is kept beside them is as the table says, and ranks rise along document order
 pub record Sound (nodes : List (Option Node)) (names : List Name) (live bytes : ℕ) : Type 0 where
   pub formed : Formed (table_seen names nodes)
   pub known : NamesAreBelow (length names) nodes
   pub depths : (n : ℕ) → is_live (table_seen names nodes) n ≡ true →
       depth_at (slice_index_or nodes n None) ≡ length (ancestors (table_seen names nodes) n)
-  pub places : (n : ℕ) → IsPlace (table_seen names nodes) n (place_at (slice_index_or nodes n None))
+  pub ranks : Rise 0 (ranks_of nodes (order (table_seen names nodes))) (RANK_STEP * length nodes)
   pub live_is : live ≡ count_live (table_seen names nodes)
   pub bytes_is : bytes ≡ text_held (table_seen names nodes)

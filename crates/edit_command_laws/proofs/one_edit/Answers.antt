@@ -3,4 +3,4 @@ use Rattle.edit_command_laws.proofs.OneEdit.{one-edit}
 use Rattle.edit_command_laws.proofs.one_edit.Goals as goal
 
 pub returns : goal.returns
-returns c = one-edit c.laws_from_order.ensures c.one_table.ensures
+returns c = one-edit c.well_formed_is_enough.ensures c.one_table.ensures

@@ -5,7 +5,7 @@ use Rattle.std.specs.List.{list_any}
 use Rattle.std.proofs.lemmas.Bool.{not-false}
 use Rattle.doc_tree.specs.cell.Cell.{Cell}
 use Rattle.doc_tree.specs.Table.{Table, is_live}
-use Rattle.doc_table.specs.inner.Sound.{Formed}
+use Rattle.doc_tree.specs.Laws.{WellFormed}
 use Rattle.doc_edit_laws.specs.Along.{Edits}
 use Rattle.sch_compiled.specs.declared.parts.LetInForce.{LetInForce}
 use Rattle.sch_compiled.specs.declared.plan.Plan.{Plan}
@@ -17,7 +17,7 @@ use Rattle.edit_costs.specs.Units.{in_force, let_reads, under}
 use Rattle.edit_costs.proofs.CleanLemmas.{both, neither, unchanged-reads}
 use Rattle.edit_costs.proofs.clean_units_stand.Goals as goal
 
-module _ (stand : UnitsStand) (plan : Plan) (T U : Table) (touched : Cell → Bool) (formed : Formed T) (edits : Edits T U touched) where
+module _ (stand : UnitsStand) (plan : Plan) (T U : Table) (touched : Cell → Bool) (formed : WellFormed T) (edits : Edits T U touched) where
   let-stands : (slot : ℕ) (t : LetInForce) → slice_get plan.lets slot ≡ Some t → is_dirty plan T U touched (in_force slot) ≡ false →
       unit_let U (take slot (lets_of plan U)) t.expr ≡ unit_let T (take slot (lets_of plan T)) t.expr
   let-stands slot t there clean =

@@ -10,9 +10,11 @@ pub record Cuts (bytes line rest : List ℕ) : Type 0 where
   pub size : length line + length rest ≤ length bytes
   pub ends : 0 < length rest → bytes ≡ with_end line ++ rest
 
--- from the line with a number on, the first line that isn't empty
+-- from the line with a number on, the first line that isn't empty, behind some that are
 pub record Reaches (from : ℕ) (bytes : List ℕ) (number : ℕ) (line rest : List ℕ) : Type 0 where
-  pub script : script_at None from (lines_of bytes) ≡ script_at None number (line ∷ lines_of rest)
+  pub empty : List (List ℕ)
+  pub lines : lines_of bytes ≡ empty ++ line ∷ lines_of rest
+  pub number_is : number ≡ from + length empty
+  pub script : (more : List (List ℕ)) → script_at None from (empty ++ more) ≡ script_at None number more
   pub some : is_nil line ≡ false
   pub few : number + length rest < from + length bytes
-  pub later : from ≤ number

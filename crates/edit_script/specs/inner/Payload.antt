@@ -21,8 +21,12 @@ pub record IsPayload (bytes text : List ℕ) (count : ℕ) (rest : List ℕ) : T
   pub count_is : count ≡ length lines
   pub few : suc count + length rest ≤ length bytes
   pub short : length text ≤ length bytes
-  pub script : (insert : Opened) (number : ℕ) → script_at (Some insert) number (lines_of bytes)
-      ≡ inserts (with_lines insert lines) (script_at None (number + suc count) (lines_of rest))
+  -- its lines, and the one that ends it
+  pub taken : List (List ℕ)
+  pub front : lines_of bytes ≡ taken ++ lines_of rest
+  pub more_is : length taken ≡ suc count
+  pub script : (insert : Opened) (number : ℕ) (more : List (List ℕ)) → script_at (Some insert) number (taken ++ more)
+      ≡ inserts (with_lines insert lines) (script_at None (number + suc count) more)
 
 -- no line ends the fragment
 abbrev pub IsUnended : List ℕ → Type 0
@@ -34,13 +38,15 @@ pub record Refuses (number : ℕ) (text : List ℕ) (count : ℕ) (found : Scrip
   pub broken : is_piece text ≡ false
   pub fault : found ≡ fault_at (payload_line number count (fault_of Fragment text)) BadPayload
 
--- an insert in the line with a number was read, behind which these bytes stand
+-- an insert in the line with a number was read, behind which these bytes stand: its fragment, with the line that ends it, was taken
 pub record Inserted (number : ℕ) (bytes : List ℕ) (done : Insertion) : Type 0 where
-  pub script : (path : List PathStep) (at : ℕ) → script_at (Some (opened_in number path at)) (suc number) (lines_of bytes)
-      ≡ onto (Insert path at done.piece) (script_at None done.number (lines_of done.rest.now))
+  pub taken : List (List ℕ)
+  pub front : lines_of bytes ≡ taken ++ lines_of done.rest.now
+  pub number_is : done.number ≡ suc number + length taken
+  pub script : (path : List PathStep) (at : ℕ) (more : List (List ℕ)) → script_at (Some (opened_in number path at)) (suc number) (taken ++ more)
+      ≡ onto (Insert path at done.piece) (script_at None done.number more)
   pub formed : IsPiece done.piece
   pub few : done.number + length done.rest.now ≤ suc (number + length bytes)
-  pub later : number ≤ done.number
 
 -- the insert has a fault
 abbrev pub Stops : ℕ → List ℕ → ScriptFault → Type 0

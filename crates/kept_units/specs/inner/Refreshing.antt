@@ -2,7 +2,7 @@
 use Rattle.std.specs.Prelude.{◌≡◌, ◌≢◌, ℕ, ◌+◌, ◌*◌, ◌<◌, ◌≤◌, ◌⊎◌, Bool, true, false, not, List, length, map, filter, flat_map, Option, None, Some, IfSome, Ok, is_none, slice_get, slice_set, slice_index_or}
 use Rattle.std.specs.List.{range_with_len}
 use Rattle.std.specs.FinSet.{contains}
-use Rattle.doc_table.specs.inner.Sound.{Formed}
+use Rattle.doc_tree.specs.Laws.{WellFormed}
 use Rattle.doc_tree.specs.Table.{Table, is_live}
 use Rattle.doc_edit_laws.specs.Along.{Edits}
 use Rattle.xp_outcome.specs.Evaluation.{Evaluation, variable}
@@ -147,7 +147,7 @@ pub data RefreshesPair (plan : Plan) (T : Table) (p n : ℕ) (flags : List Bool)
 
 -- what is known of the nodes under a pattern since an earlier tree
 pub record PatternKnown (plan : Plan) (T : Table) (p : ℕ) (kept : KeptUnits) (flags : List Bool) (since : Since) : Type 0 where
-  pub formed : Formed since.base
+  pub formed : WellFormed since.base
   pub edits : Edits since.base T since.touched
   pub outcomes : (n : ℕ) → is_live since.base n ≡ true → is_live T n ≡ true → outcome_at kept.found p n ≡ Some (pair_outcome plan since.base p n)
   pub flags_are : (slot : ℕ) → flag_at flags slot ≡ is_changed plan since.base T (variable slot)

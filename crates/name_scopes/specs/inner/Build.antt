@@ -1,6 +1,6 @@
 -- A tree under way: what it says so far, which elements are open, and where the next node comes.
-use Rattle.std.specs.Prelude.{◌≡◌, ◌≢◌, ℕ, ◌+◌, ◌≤◌, ◌<◌, nat_lt, Bool, true, false, ◌||◌, is_none, List, [], ◌∷◌, ◌++◌, length, map, Option, None, Some, Result, Ok, Err, count_by, sum_by, unwrap_or, if◌then◌else◌}
-use Rattle.std.specs.List.{flat_map, list_any}
+use Rattle.std.specs.Prelude.{◌≡◌, ◌≢◌, ℕ, ◌+◌, ◌≤◌, ◌<◌, nat_lt, Bool, true, false, is_none, List, [], ◌∷◌, ◌++◌, length, map, Option, None, Some, Result, Ok, Err, count_by, sum_by, unwrap_or, if◌then◌else◌}
+use Rattle.std.specs.List.{flat_map}
 use Rattle.pyx_core.specs.declared.event.Attr.{Attr}
 use Rattle.pyx_core.specs.declared.event.Event.{Event}
 use Rattle.pyx_core.specs.declared.event.Event.TheVariants as event
@@ -16,15 +16,15 @@ use Rattle.doc_tree.specs.Kinds.{holds_kids, is_element, is_text}
 use Rattle.doc_tree.specs.Scope.{Decl, namespace_in, scope_at}
 use Rattle.name_scopes.specs.declared.build.Loader.{Loader}
 use Rattle.name_scopes.specs.declared.fault.DocKind.{DocKind}
-use Rattle.name_scopes.specs.declared.fault.DocKind.TheVariants.{BadDeclaration, BothQuotes, NoPrefix, SameAttribute, TooManyNodes, TooDeep}
+use Rattle.name_scopes.specs.declared.fault.DocKind.TheVariants.{TooManyNodes, TooDeep}
 use Rattle.name_scopes.specs.declared.fault.EventError.{EventError}
 use Rattle.name_scopes.specs.declared.fault.EventError.TheVariants.{Kind, Memory}
 use Rattle.name_scopes.specs.QNames.{as_written, name_in_namespace, prefix_part, unprefixed}
-use Rattle.name_scopes.specs.Declarations.{declarations, has_both_quotes, is_bad_declaration, plain_attrs}
+use Rattle.name_scopes.specs.Declarations.{declarations, plain_attrs}
 use Rattle.name_scopes.specs.Fragments.{PieceInScope}
 use Rattle.name_scopes.specs.Scoping.{ContentInScope, attribute_namespace}
 use Rattle.name_scopes.specs.ScopedTree.{written, said_by, unscoped}
-use Rattle.name_scopes.specs.DocFaults.{Standing, has_pair, lacks_prefix, same_expanded, same_qname, tag_nodes, in_scope, event_fault, moved}
+use Rattle.name_scopes.specs.DocFaults.{Standing, tag_nodes, in_scope, event_fault, moved}
 
 -- the bytes of text that an event brings at most: its values, text or data
 abbrev pub value_bytes : Attr → ℕ
@@ -49,15 +49,6 @@ pub record IsNamed (names : List Name) (scope : List Decl) (qname : List ℕ) (i
   pub known : is_none (namespace_in scope (prefix_part qname)) ≡ false
   pub below : id < length names
   pub named : numbered names id ≡ element_name scope qname
-
--- the first rule of names that the attributes of a start tag break, where this scope has its own declarations
-abbrev pub attrs_fault : List Decl → List Attr → Option DocKind
-attrs_fault scope attrs =
-    if list_any (lacks_prefix scope) (plain_attrs attrs) then Some NoPrefix
-    else if has_pair same_qname attrs || has_pair (same_expanded scope) (plain_attrs attrs) then Some SameAttribute
-    else if list_any is_bad_declaration (declarations attrs) then Some BadDeclaration
-    else if list_any has_both_quotes (declarations attrs) then Some BothQuotes
-    else None
 
 -- the line of an attribute, its name in its namespace
 abbrev pub scoped_line : List Decl → Attr → Line

@@ -5,7 +5,7 @@ use Rattle.edit_costs.specs.Dirty.{units_to_run}
 use Rattle.edit_session.specs.Standing.{Standing, since_of}
 use Rattle.edit_session.specs.declared.state.Shown.{Shown}
 use Rattle.edit_session.specs.declared.state.Shown.TheVariants.{Fault}
-use Rattle.sch_cli.specs.declared.following.Follower.{Follower}
+use Rattle.sch_cli.specs.inner.Followers.{Place}
 use Rattle.sch_stops.specs.declared.stop.Stop.{Stop}
 use Rattle.sch_stops.specs.declared.stop.Stop.TheVariants.{ScriptRefused}
 use Rattle.sch_cli.specs.Steps.{CountsAtMost, EditsCost}
@@ -26,16 +26,16 @@ CountsAlong costs before after (Err (ScriptRefused refusal)) = CountsAtMost cost
 CountsAlong costs before after (Err stop) = Unit {0}
 
 -- the way from one place to another costs visits, and what was counted before rose by these
-pub record IsCosted (earlier later : Follower) (before after : ℕ) : Type 0 where
+pub record IsCosted (earlier later : Place) (before after : ℕ) : Type 0 where
   pub cost : ℕ
   pub led : (rest : ℕ) → EditsCost later.session.plan later.session.tree.nodes later.script rest →
       EditsCost earlier.session.plan earlier.session.tree.nodes earlier.script (cost + rest)
   pub rose : (first start : ℕ) → RoseFor first start before earlier.seen → RoseFor (first + cost) start after later.seen
 
 -- the visits of what is to come at a place, with those before it
-abbrev pub CostOn : Follower → ℕ → ℕ → Type 0
+abbrev pub CostOn : Place → ℕ → ℕ → Type 0
 CostOn at first cost = (later : ℕ) × EditsCost at.session.plan at.session.tree.nodes at.script later × (cost ≡ first + later)
 
 -- what is to come at a place is counted with what was counted before
-abbrev pub CountsOn : Follower → ℕ → ℕ → Result Shown Stop → Type 0
+abbrev pub CountsOn : Place → ℕ → ℕ → Result Shown Stop → Type 0
 CountsOn at before after result = (first start : ℕ) → RoseFor first start before at.seen → CountsAlong (CostOn at first) start after result

@@ -1,6 +1,6 @@
 -- Where the following of a script stands, and how it comes from one place to another.
 use Rattle.std.specs.Prelude.{◌≡◌, ℕ, ◌+◌, ◌<◌, ◌^◌, false, List, ◌++◌, length}
-use Rattle.edit_script.specs.Script.{onto}
+use Rattle.edit_script.specs.Script.{Script, onto, script_left}
 use Rattle.edit_script.specs.declared.command.Command.{Command}
 use Rattle.edit_commands.specs.declared.refusal.ApplyError.{ApplyError}
 use Rattle.edit_commands.specs.declared.refusal.ApplyError.TheVariants as apply
@@ -20,6 +20,7 @@ use Rattle.sch_cli.specs.Output.{in_front}
 use Rattle.sch_cli.specs.Runs.{Fronted}
 use Rattle.sch_stops.specs.Stops.{ByCause, counted_if, ends_with}
 use Rattle.edit_session.specs.Standing.{Standing}
+use Rattle.edit_session.specs.declared.state.Shown.{Shown}
 use Rattle.sch_cli.specs.declared.following.Scripted.{Scripted as Borrowed}
 use Rattle.sch_cli.specs.Behaviours.{Scripted, Treed, tree_under}
 use Rattle.sch_cli.specs.inner.Writing.{IsOfWriting, WroteText}
@@ -31,30 +32,42 @@ treed_by session = tree_under session.plan session.tree.nodes
 abbrev pub scripted_by : Borrowed → Scripted
 scripted_by opened = record { treed = treed_by opened.session; script = opened.script }
 
+-- a place in a script that is followed: the document, what is to come of the script, the number of the next command, and what the states
+-- so far show
+pub record Place : Type 0 where
+  pub session : Standing
+  pub script : Script
+  pub number : ℕ
+  pub seen : Shown
+
+-- where a follower stands
+abbrev pub place_of : Follower → Place
+place_of at = record { session = at.session; script = script_left at.script; number = at.number; seen = at.seen }
+
 -- the outputs of what is to come, and the texts that it comes to write
-abbrev pub Ending : Follower → Output → Type 0
+abbrev pub Ending : Place → Output → Type 0
 Ending at output = Follows at.session.plan at.session.tree.nodes at.number at.seen at.script output
 
-abbrev pub Beginning : Follower → List ℕ → Type 0
+abbrev pub Beginning : Place → List ℕ → Type 0
 Beginning at text = Begins at.session.plan at.session.tree.nodes at.number at.script text
 
 -- the same place in front of a command
-abbrev pub in_front_of : Command → Follower → Follower
+abbrev pub in_front_of : Command → Place → Place
 in_front_of command at = record at { script = onto command at.script }
 
 -- what comes behind the later place comes behind the earlier one, with a text in front
-pub record IsLed (earlier later : Follower) (text : List ℕ) : Type 0 where
+pub record IsLed (earlier later : Place) (text : List ℕ) : Type 0 where
   pub ends : (output : Output) → Ending later output → Ending earlier (in_front text output)
   pub begins : (more : List ℕ) → Beginning later more → Beginning earlier (text ++ more)
 
 -- the document has its plan's pair cap, the commands can be numbered, and nothing was done since all units were evaluated
-pub record IsReady (at : Follower) : Type 0 where
+pub record IsReady (at : Place) : Type 0 where
   pub cap : at.session.tree.pair_cap ≡ pair_cap_for at.session.plan
   pub few : at.number + length at.script.commands < 2 ^ 64
   pub fresh : at.session.past ≡ evaluated_over at.session.tree.nodes
 
 -- what is written leads to the later place, or a front was written of a text of the earlier one
-pub record Goes {A : Type 0} (earlier later : Follower) (old new : SinkLog) (result : Result A Stop) : Type 0 where
+pub record Goes {A : Type 0} (earlier later : Place) (old new : SinkLog) (result : Result A Stop) : Type 0 where
   pub told : MatchResult result (λ _. (text : List ℕ) × IsLed earlier later text × Appends old.written new.written text)
       (ByCause (λ _. ⊥) (λ _. ⊥) (Fronted (Beginning earlier) (Appends old.written new.written)) (Fronted (Beginning earlier) (Appends old.written new.written)))
   pub writing : IfErr result IsOfWriting

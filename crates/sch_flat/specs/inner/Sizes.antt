@@ -1,9 +1,6 @@
 -- Sizes in their parts.
-use Rattle.std.specs.Prelude.{ℕ, ◌+◌, Bool, ◌||◌, List, length}
-use Rattle.std.specs.Str.{bytes_eq}
-use Rattle.doc_tree.specs.Scope.{xmlns_prefix}
+use Rattle.std.specs.Prelude.{ℕ, ◌+◌, List, length}
 use Rattle.name_scopes.specs.Declarations.{plain_attrs}
-use Rattle.name_scopes.specs.QNames.{prefix_part}
 use Rattle.pyx_core.specs.declared.event.Attr.{Attr}
 use Rattle.pyx_core.specs.Written.{attr_lines}
 use Rattle.sch_flat.specs.declared.size.FlatSize.{FlatSize}
@@ -18,7 +15,3 @@ sum_of size next = sized (size.bytes + next.bytes) (size.nodes + next.nodes)
 -- how large attributes are
 abbrev pub attrs_size : List Attr → FlatSize
 attrs_size attrs = sized (length (attr_lines attrs)) (length (plain_attrs attrs))
-
--- whether an attribute of this name declares a namespace
-abbrev pub declares : List ℕ → Bool
-declares name = bytes_eq name xmlns_prefix || bytes_eq (prefix_part name) xmlns_prefix

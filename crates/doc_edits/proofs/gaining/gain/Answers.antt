@@ -22,3 +22,6 @@ returns-in-Err-clause-sound c = subst IsSound (sym (back c)) c.requires.sound
 
 pub returns-in-Err-clause-names : goal.returns-in-Err-clause-names
 returns-in-Err-clause-names c = grows-same _ _ (ap (λ (parts : Parts). parts.names) (back c))
+
+pub returns-in-Err-clause-unchanged : goal.returns-in-Err-clause-unchanged
+returns-in-Err-clause-unchanged c = back c

@@ -4,7 +4,7 @@ use Rattle.edit_commands.proofs.commands.set_attribute.Goals as goal
 
 pub returns-in-Some-clause-done : goal.returns-in-Some-clause-done
 returns-in-Some-clause-done c =
-    set-old c.args.tree.now c.set_attr.new.self c.args.n c.args.name.now c.args.value.now c.laws.ensures.well_formed c.laws.ensures.ordered c.laws.ensures.ways_up
+    set-old c.args.tree.now c.set_attr.new.self c.args.n c.args.name.now c.args.value.now c.laws.ensures.well_formed c.laws.ensures.ways_up
     (rw (← c.split-qname.ensures.prefix, ← c.split-qname.ensures.local) c.in_ok-set_attr.ensures.within)
     (rw (← c.split-qname.ensures.prefix, ← c.split-qname.ensures.local) c.in_ok-set_attr.ensures.edited) c.attribute_at-found.result
     (rw (← c.split-qname.ensures.prefix, ← c.split-qname.ensures.local) c.attribute_at-found.ensures)
@@ -12,7 +12,7 @@ returns-in-Some-clause-done c =
 
 pub returns-in-None-clause-done : goal.returns-in-None-clause-done
 returns-in-None-clause-done c =
-    set-new c.args.tree.now c.set_attr.new.self c.args.n c.args.name.now c.args.value.now c.laws.ensures.well_formed c.laws.ensures.ordered c.laws.ensures.ways_up
+    set-new c.args.tree.now c.set_attr.new.self c.args.n c.args.name.now c.args.value.now c.laws.ensures.well_formed c.laws.ensures.ways_up
     (rw (← c.split-qname.ensures.prefix, ← c.split-qname.ensures.local) c.in_ok-set_attr.ensures.within)
     (rw (← c.split-qname.ensures.prefix, ← c.split-qname.ensures.local) c.in_ok-set_attr.ensures.edited) c.attribute_at-found.result
     (rw (← c.split-qname.ensures.prefix, ← c.split-qname.ensures.local) c.attribute_at-found.ensures)

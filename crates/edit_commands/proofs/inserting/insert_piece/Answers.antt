@@ -40,4 +40,4 @@ returns-clause-done c =
     c.laws-2.ensures.well_formed c.laws-2.ensures.ordered c.laws-2.ensures.ways_up c.laws-2.ensures.walks
     c.in_ok-piece.ensures.loaded c.in_ok-piece.ensures.nodes c.in_ok-piece.ensures.text (ap top_kind (sym c.as_slice.ensures) ∙ c.top_kind.ensures.kind)
     c.in_default.ensures.good c.in_ok-piece.ensures.within c.edits_keep_scope.ensures.additions c.insert.new.self
-    c.laws.ensures.well_formed c.laws.ensures.ordered c.in_ok-insert.ensures.within c.in_ok-insert.ensures.edited
+    c.laws.ensures.well_formed c.in_ok-insert.ensures.within c.in_ok-insert.ensures.edited

@@ -3,4 +3,4 @@ use Rattle.name_scopes.proofs.OneTree.{one-tree}
 use Rattle.name_scopes.proofs.round_trip.one_tree.Goals as goal
 
 pub returns : goal.returns
-returns c = one-tree c.laws_from_order.ensures c.one_table.ensures
+returns c = one-tree c.well_formed_is_enough.ensures c.one_table.ensures

@@ -32,10 +32,10 @@ returns-clause-carried g c = λ count.
     let schema = c.args.name.now in
     let flat = c.in_ok-flat.flat in
     carried (schema_file schema ∷ []) (λ files. Then (Expanding files schema) (λ f. Is (goes (expanded f)))) (λ (f : FlatSchema). expanded f)
-    (λ written output. output ≡ written) (λ written text. text ≡ written.out) (λ written cost. cost ≡ 0) false _ _ _ _ count count flat c.write_expanded.result
+    (λ written output. output ≡ written) (λ written text. text ≡ written.out) (λ written cost. cost ≡ 0) false _ _ _ _ count count flat c.write_expanded-written.result
     (reads_as _ _ (schema_file schema ∷ []) (λ files. Expanding files schema) expanded (λ (f : FlatSchema). f) (λ (f : FlatSchema). expanded f) flat flat refl c.in_ok-flat.ensures)
-    (text_behind (λ written output. output ≡ written) (λ written text. text ≡ written.out) (expanded flat) _ _ (expanded flat).out shown.Clean refl refl c.write_expanded.result
-    c.write_expanded.ensures.wrote c.write_expanded.ensures.shown (λ written cost. cost ≡ 0) false count count (none_counted count c.write_expanded.result) (λ idle. refl) (omega arith))
+    (text_behind (λ written output. output ≡ written) (λ written text. text ≡ written.out) (expanded flat) _ _ (expanded flat).out shown.Clean refl refl c.write_expanded-written.result
+    c.write_expanded-written.ensures.wrote c.write_expanded-written.ensures.shown (λ written cost. cost ≡ 0) false count count (none_counted count c.write_expanded-written.result) (λ idle. refl) (omega arith))
 
 pub returns-clause-accepted : goal.returns-clause-accepted
-returns-clause-accepted g c = accepted c.write_expanded.result c.write_expanded.ensures.wrote.writing
+returns-clause-accepted g c = accepted c.write_expanded-written.result c.write_expanded-written.ensures.wrote.writing

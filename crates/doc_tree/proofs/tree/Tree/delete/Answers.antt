@@ -3,7 +3,8 @@ use Rattle.std.proofs.Common.{ap, ◌∙◌, sym, subst}
 use Rattle.doc_table.specs.Kinds.{is_document}
 use Rattle.doc_table.specs.Table.{Contents}
 use Rattle.doc_table.specs.inner.Parts.{contents, table_of}
-use Rattle.doc_table.specs.inner.Sound.{Formed}
+use Rattle.doc_table.specs.Laws.{WellFormed}
+use Rattle.doc_table.proofs.TreeLaws.{well-formed}
 use Rattle.doc_edits.specs.Changes.{deleted}
 use Rattle.std.proofs.lemmas.Result.{IfOk-from_err}
 use Rattle.doc_names.proofs.NameLemmas.{on_err}
@@ -15,7 +16,7 @@ returns-clause-document c =
     ap is_document c.in_ok-delete.ensures.deleted
     ∙ (ap (λ (t : Contents). is_document (deleted t.nodes c.args.n)) c.self.view_is
     ∙ document-kept c.args.self.now.nodes c.args.n c.deletion_refusal.result c.edits_keep_documents.ensures
-    (subst (λ (t : Contents). Formed t.nodes) c.self.view_is c.self.invariant.formed) c.deletion_refusal.ensures c.in_default.is c.requires.document)
+    (subst (λ (t : Contents). WellFormed t.nodes) c.self.view_is (well-formed (table_of c.self.inside.bare) c.self.invariant.formed)) c.deletion_refusal.ensures c.in_default.is c.requires.document)
 
 -- where something speaks against it
 

@@ -6,4 +6,4 @@ use Rattle.doc_tree.proofs.tree.Tree.ends_in_text.Goals as goal
 
 pub returns-in-Some : goal.returns-in-Some
 returns-in-Some c =
-    c.is_text.ensures ∙ last-text c.args.self.now.nodes c.args.nodes.now c.in-Some.n.now (sym c.last.ensures.value ∙ ap option_copied c.in-Some.is)
+    c.is_kind.ensures ∙ last-text c.args.self.now.nodes c.args.nodes.now c.in-Some.n.now (sym c.last.ensures.value ∙ ap option_copied c.in-Some.is)

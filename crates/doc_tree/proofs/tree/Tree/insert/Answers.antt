@@ -4,8 +4,9 @@ use Rattle.std.specs.Option.{option_or}
 use Rattle.doc_table.specs.Kinds.{is_document}
 use Rattle.doc_table.specs.Table.{Contents}
 use Rattle.doc_table.specs.inner.Parts.{contents, table_of}
+use Rattle.doc_table.specs.Laws.{WellFormed}
 use Rattle.doc_table.specs.inner.Sound.{Formed}
-use Rattle.doc_table.proofs.TreeLaws.{ordered}
+use Rattle.doc_table.proofs.TreeLaws.{ordered, well-formed}
 use Rattle.doc_edits.specs.Changes.{inserted}
 use Rattle.doc_edits.specs.Fitting.{MayTake}
 use Rattle.std.proofs.lemmas.Result.{IfOk-from_err}
@@ -33,8 +34,9 @@ returns-clause-document c =
     ∙ document-kept c.args.self.now c.args.parent c.args.at c.args.piece.now.nodes
     (nothing-against c.args.self.now c.args.parent c.args.at c.args.piece.now.nodes c.top_kind.result c.room_refusal.result c.top_kind.ensures.kind c.in_default.ensures.good
     c.room_refusal.ensures c.in_default-room_refusal.is)
-    c.edits_keep_documents.ensures (subst (λ (t : Contents). Formed t.nodes) c.self.view_is c.self.invariant.formed)
-    (subst (λ (t : Contents). Formed t.nodes) c.piece.view_is c.piece.invariant.formed) c.requires.one c.requires.document))
+    c.edits_keep_documents.ensures
+    (subst (λ (t : Contents). WellFormed t.nodes) c.self.view_is (well-formed (table_of c.self.inside.bare) c.self.invariant.formed))
+    (well-formed c.args.piece.now.nodes (subst (λ (t : Contents). Formed t.nodes) c.piece.view_is c.piece.invariant.formed)) c.requires.one c.requires.document))
 
 -- where something speaks against the place
 

@@ -8,7 +8,7 @@ use Rattle.edit_session.proofs.session.Session.apply.Goals as goal
 pub invariant_of-self : goal.invariant_of-self
 invariant_of-self c =
     let before = c.self.inside in
-    let kept = c.mark.ensures before.plan before.tree.nodes before.remembered.past c.args.command.now c.shows_forest.ensures c.in-Ok.ensures.edit
+    let kept = c.mark.ensures before.plan before.tree.nodes before.remembered.past c.args.command.now c.laws.ensures.well_formed c.in-Ok.ensures.edit
     c.in-Ok.ensures.touched c.self.invariant.kept in
     record {
       sound = c.self.invariant.sound;

@@ -12,7 +12,7 @@ returns-clause-fresh g c = λ since keeps.
     let patterns = c.in_ok-refresh_patterns.ensures.refreshed since
     (patterns_kept order plan T since c.make_places.new.self c.refresh_lets.new.self c.in_ok-changed.changed.items c.args.steps.now c.refresh_lets.new.steps reached c.in_ok-changed.ensures.alone lets) in
     keeps_fresh order plan T since c.make_places.new.self c.refresh_lets.new.self c.refresh_patterns.new.self c.pass_nodes.new.self c.in_ok-changed.changed.items
-    c.args.steps.now c.refresh_lets.new.steps c.refresh_lets.new.steps c.refresh_patterns.new.steps c.shows_forest.ensures reached c.in_ok-changed.ensures.alone lets
+    c.args.steps.now c.refresh_lets.new.steps c.refresh_lets.new.steps c.refresh_patterns.new.steps c.laws.ensures.well_formed reached c.in_ok-changed.ensures.alone lets
     c.in_ok-refresh_patterns.ensures.alone patterns c.in_ok-pass_nodes.ensures
 
 pub returns-clause-raised : goal.returns-clause-raised

@@ -25,7 +25,7 @@ loop-number-preserved g c =
     let T = c.args.at.now.run.caller.tree.now.nodes in
     let p = c.args.at.now.pattern in
     let flags = c.args.at.now.changed.now.items in
-    let made : c.loop-number.number < length c.args.at.now.run.caller.tree.now.nodes = omega (arith, c.loop-number-test.true, c.numbers_left-numbers.ensures) in
+    let made : c.loop-number.number < length c.args.at.now.run.caller.tree.now.nodes = omega (arith, c.loop-number-test.true, c.numbers_made-numbers.ensures) in
     record {
       ready = ready_on plan T p c.loop-number.self c.go_on.new.self c.in_ok-next.ensures.alone c.loop-number.invariant.ready;
       alone = pairs_alone_on c.args.self.now c.loop-number.self c.go_on.new.self c.loop-number.invariant.alone c.in_ok-next.ensures.alone;

@@ -1,18 +1,19 @@
 -- The commands so far were done.
 use Rattle.std.proofs.Common.{◌≡◌, ◌≤◌, length}
+use Rattle.edit_script.specs.Script.{script_left}
 use Rattle.sch_cli.specs.inner.Counts.{IsCosted}
-use Rattle.sch_cli.specs.inner.Followers.{IsReady}
+use Rattle.sch_cli.specs.inner.Followers.{IsReady, place_of}
 use Rattle.sch_cli.proofs.FollowLemmas.{HasCome}
 use Rattle.sch_cli.proofs.following.Follower.follow_rest.Given as goal
 
 abbrev pub invariant-loop-command : goal.invariant-loop-command
 invariant-loop-command g l = record {
-  ready : IsReady l.self;
-  come : HasCome l.initial.self l.self (g.O.Sink.log l.initial.out) (g.O.Sink.log l.out);
+  ready : IsReady (place_of l.self);
+  come : HasCome (place_of l.initial.self) (place_of l.self) (g.O.Sink.log l.initial.out) (g.O.Sink.log l.out);
   faults : (g.O.Sink.log l.out).faults ≡ (g.O.Sink.log l.initial.out).faults;
-  costed : IsCosted l.initial.self l.self l.initial.steps l.steps;
+  costed : IsCosted (place_of l.initial.self) (place_of l.self) l.initial.steps l.steps;
   steps : l.initial.steps ≤ l.steps;
 }
 
 abbrev pub decreases-loop-command : goal.decreases-loop-command
-decreases-loop-command g l = length l.self.script.commands
+decreases-loop-command g l = length (script_left l.self.script).commands

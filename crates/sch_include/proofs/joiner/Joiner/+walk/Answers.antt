@@ -219,13 +219,16 @@ take_file-returns-in_err-tree-clause-takes g t c =
     (unopened-takes c.args.self.now c.open.new.self c.args.source.now c.args.n c.args.parent c.args.name.now c.in_err-tree.field-0.0 _
     c.in_err-tree.ensures.told c.in_err-tree.ensures.same c.in_err-tree.ensures.opened)
 
+pub take_file-depth-requires : goal.take_file-depth-requires
+take_file-depth-requires g t c = c.requires.1.1.1.0.lives
+
 pub take_file-overflow_add-above : goal.take_file-overflow_add-above
 take_file-overflow_add-above g t c =
     let can = c.requires.1.1.1.0 in
     let is = c.requires.1.1.1.1.0 in
     omega (
       arith,
-      c.depth_of.ensures,
+      c.depth.ensures,
       node-shallow c.args.self.now c.args.source.now c.args.n c.args.parent can c.laws.ensures.ordered (ap is_element (element-kind c.args.source.now.tree.now.nodes c.args.n is)),
     )
 
@@ -235,7 +238,7 @@ take_file-overflow_sub-above g t c =
     let is = c.requires.1.1.1.1.0 in
     omega (
       arith,
-      c.depth_of.ensures,
+      c.depth.ensures,
       element-depth c.args.source.now.tree.now.nodes c.args.n c.laws.ensures.well_formed c.laws.ensures.ways_up can.lives (element-kind c.args.source.now.tree.now.nodes c.args.n is),
     )
 
@@ -260,7 +263,7 @@ take_file-judge-requires-clause-shallow g t c =
     let is = c.requires.1.1.1.1.0 in
     omega (
       arith,
-      c.depth_of.ensures,
+      c.depth.ensures,
       node-shallow c.args.self.now c.args.source.now c.args.n c.args.parent can c.laws.ensures.ordered (ap is_element (element-kind c.args.source.now.tree.now.nodes c.args.n is)),
     )
 
@@ -286,7 +289,7 @@ take_file-walk_included-requires g t c κs within =
                 nodes = c.in_ok-judge.ensures.nodes;
                 text = c.in_ok-judge.ensures.text;
                 fits = sym c.in_ok-judge.ensures.judged;
-                above_is = ap (λ (depth : ℕ). (c.args.source.now.above + depth) - 1) c.depth_of.ensures;
+                above_is = ap (λ (depth : ℕ). (c.args.source.now.above + depth) - 1) c.depth.ensures;
                 is_file = c.in_ok-tree.ensures.is_file;
                 its_formed = c.laws-2.ensures.well_formed;
                 its_ordered = c.laws-2.ensures.ordered;
@@ -304,7 +307,7 @@ take_file-returns-in_err-judge-clause-shows g t c =
     (judged-err c.from_residual-in_err-judge.result c.in_err-judge.field-0.0 (error.Fault (fault_of judged.0 c.in_ok-told.told)) c.from_residual-in_err-judge.ensures.1 judged.2)
     (shows-unfit (g.S.Shelf.state c.args.shelf.now) (g.S.Shelf.state c.open.new.shelf) c.args.self.now.opened c.open.new.self.opened c.judge.new.self.opened c.in_ok-tree.tree judged.0 c.args.name.now c.in_ok-told.told
     c.in_ok-tree.ensures.shows (ap (λ (j : Joiner). j.opened) c.in_err-judge.ensures.same) (c.in_ok-tree.ensures.noted (read≢memory c.in_ok-tree.tree)) c.in_ok-told.ensures
-    (unfit-kind c.args.source.now.tree.now.nodes c.args.n c.in_ok-tree.tree.nodes ((c.args.source.now.above + c.depth_of.result) - 1) (standing_of c.open.new.self) judged.0 (sym judged.1)))
+    (unfit-kind c.args.source.now.tree.now.nodes c.args.n c.in_ok-tree.tree.nodes ((c.args.source.now.above + c.depth.result) - 1) (standing_of c.open.new.self) judged.0 (sym judged.1)))
 
 pub take_file-returns-in_err-judge-clause-cap : goal.take_file-returns-in_err-judge-clause-cap
 take_file-returns-in_err-judge-clause-cap g t c = ap (λ (j : Joiner). j.tree.pair_cap) c.in_err-judge.ensures.same ∙ ap (λ (j : Joiner). j.tree.pair_cap) c.in_ok-tree.ensures.same
@@ -323,9 +326,9 @@ take_file-returns-in_err-judge-clause-takes g t c =
     (judged-err c.from_residual-in_err-judge.result c.in_err-judge.field-0.0 (error.Fault (fault_of judged.0 c.in_ok-told.told)) c.from_residual-in_err-judge.ensures.1 judged.2)
     (subst (λ (name : List ℕ). TakesFile c.args.self.now c.judge.new.self c.args.source.now c.args.n c.args.parent c.args.name.now (Err (error.Fault (fault_of judged.0 name))) (λ (files : Files). (g.S.Shelf.state c.args.shelf.now).files ≡ Some files))
     (sym c.in_ok-told.ensures)
-    (unfit-takes c.args.self.now c.open.new.self c.args.source.now c.args.n c.args.parent c.args.name.now c.in_ok-tree.tree.nodes ((c.args.source.now.above + c.depth_of.result) - 1) _
+    (unfit-takes c.args.self.now c.open.new.self c.args.source.now c.args.n c.args.parent c.args.name.now c.in_ok-tree.tree.nodes ((c.args.source.now.above + c.depth.result) - 1) _
     c.in_ok-tree.ensures.told c.in_ok-tree.ensures.same (c.in_ok-tree.ensures.opened (read≢memory c.in_ok-tree.tree))
-    (above-include c.args.self.now c.args.source.now c.args.n c.args.parent can is c.laws.ensures.well_formed c.laws.ensures.ways_up c.depth_of.result c.depth_of.ensures)
+    (above-include c.args.self.now c.args.source.now c.args.n c.args.parent can is c.laws.ensures.well_formed c.laws.ensures.ways_up c.depth.result c.depth.ensures)
     c.judge.new.self judged.0 c.in_err-judge.ensures.kept (sym judged.1)))
 
 pub take_file-returns-clause-shows : goal.take_file-returns-clause-shows
@@ -354,7 +357,7 @@ take_file-returns-clause-keeps g t c =
       nodes = c.in_ok-judge.ensures.nodes;
       text = c.in_ok-judge.ensures.text;
       fits = sym c.in_ok-judge.ensures.judged;
-      above_is = ap (λ (depth : ℕ). (c.args.source.now.above + depth) - 1) c.depth_of.ensures;
+      above_is = ap (λ (depth : ℕ). (c.args.source.now.above + depth) - 1) c.depth.ensures;
       is_file = c.in_ok-tree.ensures.is_file;
       its_formed = c.laws-2.ensures.well_formed;
       its_ordered = c.laws-2.ensures.ordered;
@@ -376,7 +379,7 @@ take_file-returns-clause-takes g t c =
       nodes = c.in_ok-judge.ensures.nodes;
       text = c.in_ok-judge.ensures.text;
       fits = sym c.in_ok-judge.ensures.judged;
-      above_is = ap (λ (depth : ℕ). (c.args.source.now.above + depth) - 1) c.depth_of.ensures;
+      above_is = ap (λ (depth : ℕ). (c.args.source.now.above + depth) - 1) c.depth.ensures;
       is_file = c.in_ok-tree.ensures.is_file;
       its_formed = c.laws-2.ensures.well_formed;
       its_ordered = c.laws-2.ensures.ordered;

@@ -1,6 +1,0 @@
--- A name without a prefix is in no namespace.
-use Rattle.std.proofs.Common.{rules}
-use Rattle.edit_commands.proofs.names.namespace_or_none.Goals as goal
-
-pub returns-then-is_empty : goal.returns-then-is_empty
-returns-then-is_empty c = search rules

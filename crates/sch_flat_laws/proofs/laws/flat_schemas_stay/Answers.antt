@@ -1,6 +1,0 @@
--- Nothing is left to expand.
-use Rattle.sch_flat_laws.proofs.Document.ExpansionLemmas.{schema_stays}
-use Rattle.sch_flat_laws.proofs.laws.flat_schemas_stay.Goals as goal
-
-pub returns : goal.returns
-returns c = schema_stays
