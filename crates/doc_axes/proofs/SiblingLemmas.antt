@@ -5,13 +5,13 @@ use Rattle.std.specs.List.{prefix_len}
 use Rattle.std.proofs.Math.Numerals.{one-add}
 use Rattle.doc_tree.specs.declared.axes.Axis.TheVariants.{FollowingSibling, PrecedingSibling}
 use Rattle.doc_tree.specs.Lists.{mem, occurs}
-use Rattle.doc_tree.specs.Table.{Table, parent_of, kids_of, attrs_of}
+use Rattle.doc_tree.specs.Table.{Table, attrs_of, kids_above, kids_of, parent_of}
 use Rattle.doc_tree.specs.Walks.{order}
 use Rattle.doc_tree.specs.Order.{after, Nested}
 use Rattle.doc_tree.specs.Laws.{WellFormed, Ordered, HasWaysUp}
 use Rattle.doc_tree.proofs.ListLemmas.{In, In-mem, mem-In, In-cons, In-append, occurs-append, occurs-head}
 use Rattle.doc_tree.proofs.OrderLemmas.{Apart, SplitAt, split_at, after-split, after-self, apart-after}
-use Rattle.doc_axes.specs.Axes.{backwards, is_attribute, kids_above, kids_beside, on_axis, axis_order, axis_nodes}
+use Rattle.doc_axes.specs.Axes.{backwards, is_attribute, kids_beside, on_axis, axis_order, axis_nodes}
 use Rattle.doc_axes.specs.Siblings.{before, kids_before, kids_behind}
 use Rattle.doc_axes.proofs.SubLists.{Sub, done, skip, keep, sub-all, sub-front, sub-back, sub-occurs, filter-sub, filter-none}
 use Rattle.doc_axes.proofs.Segments.{place}

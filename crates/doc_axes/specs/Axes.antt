@@ -6,7 +6,7 @@ use Rattle.doc_tree.specs.Kinds.{is_kind}
 use Rattle.doc_tree.specs.declared.axes.Axis.{Axis}
 use Rattle.doc_tree.specs.declared.axes.Axis.TheVariants.{Ancestor, AncestorOrSelf, Attribute, Child, Descendant, DescendantOrSelf, Following, FollowingSibling, Parent, Preceding, PrecedingSibling, SelfNode}
 use Rattle.doc_tree.specs.Lists.{mem}
-use Rattle.doc_tree.specs.Table.{Table, parent_of, kids_of, attrs_of, kind_of, is_live}
+use Rattle.doc_tree.specs.Table.{Table, attrs_of, is_live, kids_above, kids_of, kind_of, parent_of}
 use Rattle.doc_tree.specs.Walks.{order, ancestors}
 use Rattle.doc_tree.specs.Order.{after}
 
@@ -42,10 +42,6 @@ abbrev pub is_parent : Table → ℕ → ℕ → Bool
 is_parent T n m = is_one (parent_of T n) m
 
 -- the kids of a node's parent; none for an attribute, which has no siblings, and for the root
-abbrev pub kids_above : Table → Option ℕ → List ℕ
-kids_above T None = []
-kids_above T (Some p) = kids_of T p
-
 abbrev pub kids_beside : Table → ℕ → List ℕ
 kids_beside T n = if is_attribute T n then [] else kids_above T (parent_of T n)
 

@@ -12,12 +12,12 @@ use Rattle.doc_tree.specs.kind.Kind.TheVariants as kinds
 use Rattle.doc_tree.specs.Kinds.{can_be_kid, holds_kids, is_text}
 use Rattle.doc_tree.specs.Laws.{WellFormed, HasWaysUp}
 use Rattle.doc_tree.specs.Lists.{occurs}
-use Rattle.doc_tree.specs.Table.{Table, content_at, name_at, kids_of, kind_of, parent_of, value_of}
+use Rattle.doc_tree.specs.Table.{Table, content_at, kids_above, kids_of, kind_of, name_at, parent_of, value_of}
 use Rattle.doc_tree.specs.Walks.{above, below}
 use Rattle.doc_tree.proofs.ListLemmas.{In, In-mem, mem-In, In-cons, occurs-append, occurs-head, occurs-same}
 use Rattle.doc_tree.proofs.OrderLemmas.{nested}
 use Rattle.doc_edit_laws.specs.Agreement.{Agree}
-use Rattle.doc_edits.specs.Changes.{deleted, Meeting, deleted_by, kids_beside, meeting, removed, removed_from, said, saying, with_text}
+use Rattle.doc_edits.specs.Changes.{deleted, Meeting, deleted_by, meeting, removed, removed_from, said, saying, with_text}
 use Rattle.doc_edits.specs.Keeping.{DeletionsKeepTrees}
 use Rattle.doc_edits.proofs.ClearLemmas.{cut}
 use Rattle.doc_edits.proofs.PruneLemmas.{cut_at, none-in}
@@ -195,6 +195,6 @@ module _ (T : Table) (n p : ℕ) (formed : Formed T) (kid : can_be_kid (kind_of 
 
 pub deletions-leave : DeletionsKeepTrees → DeletionsLeave
 deletions-leave trees T n p form kid up =
-    subst (λ o. Formed (deleted_by T n (meeting T n (kids_beside T o))) → Agree T (deleted_by T n (meeting T n (kids_beside T o))) (touched_deletion T n p)) (sym up)
+    subst (λ o. Formed (deleted_by T n (meeting T n (kids_above T o))) → Agree T (deleted_by T n (meeting T n (kids_above T o))) (touched_deletion T n p)) (sym up)
     (by-meeting T n p (formed-of T form) kid up (meeting T n (kids_of T p)) refl)
     (formed-of (deleted T n) (trees T n form))

@@ -4,9 +4,9 @@ use Rattle.doc_tree.specs.cell.Cell.{Cell}
 use Rattle.doc_tree.specs.cell.Cell.TheVariants.{Kids, Shape, Attrs, Value, Text}
 use Rattle.doc_tree.specs.Kinds.{is_text}
 use Rattle.doc_tree.specs.Lists.{mem}
-use Rattle.doc_tree.specs.Table.{Table, kind_of}
+use Rattle.doc_tree.specs.Table.{Table, kids_above, kind_of}
 use Rattle.doc_tree.specs.Walks.{above, ancestors}
-use Rattle.doc_edits.specs.Changes.{Meeting, kids_beside, meeting}
+use Rattle.doc_edits.specs.Changes.{Meeting, meeting}
 
 -- a node says another text: its value, and of a text the texts of all above it
 abbrev pub touched_saying : Table → ℕ → Cell → Bool
@@ -40,4 +40,4 @@ touched_meeting (Some texts) c = false
 
 -- a node under p is deleted
 abbrev pub touched_deletion : Table → ℕ → ℕ → Cell → Bool
-touched_deletion T n p c = touched_kids T p c || touched_meeting (meeting T n (kids_beside T (Some p))) c
+touched_deletion T n p c = touched_kids T p c || touched_meeting (meeting T n (kids_above T (Some p))) c

@@ -4,7 +4,7 @@ use Rattle.std.specs.Prelude.{if◌then◌else◌}
 use Rattle.doc_table.specs.declared.kind.Kind.{Kind}
 use Rattle.doc_table.specs.declared.kind.Kind.TheVariants.{Root, Element, Attribute, Text, Comment, Pi}
 use Rattle.doc_table.specs.Lists.{occurs}
-use Rattle.doc_table.specs.Table.{Table, Facts, entry_at, content_at, kind_at, value_at, parent_of, kids_of, content_of, kind_of, value_of, is_live}
+use Rattle.doc_table.specs.Table.{Facts, Table, content_at, content_of, entry_at, is_live, kids_above, kids_of, kind_at, kind_of, parent_of, value_at, value_of}
 use Rattle.doc_table.specs.Walks.{below}
 use Rattle.doc_table.specs.Kinds.{holds_kids, is_text}
 use Rattle.doc_table.specs.Laws.{TextsApart, WellFormed}
@@ -14,7 +14,7 @@ use Rattle.doc_table.proofs.Counts.{text-count}
 use Rattle.doc_table.proofs.Fitting.{texts-kept}
 use Rattle.doc_table.proofs.TreeLaws.{well-formed, ordered}
 use Rattle.doc_table.proofs.Forests.{formed-of}
-use Rattle.doc_edits.specs.Changes.{Meeting, deleted, deleted_by, kids_beside, meeting, removed, removed_from, said, without}
+use Rattle.doc_edits.specs.Changes.{Meeting, deleted, deleted_by, meeting, removed, removed_from, said, without}
 use Rattle.doc_edits.specs.Fitting.{MaySay}
 use Rattle.doc_edits.specs.Keeping.{SayingsKeepTrees}
 use Rattle.doc_edits.proofs.ClearLemmas.{cut, cut-sum, cut-sum_one, without-split}
@@ -276,6 +276,6 @@ deletions-keep-trees sayings T n formed = by (parent_of T n) refl
         let m : Met T n (kids_of T p) texts = met T n (kids_of T p) texts some in
         merged T n p texts.left texts.right m.front m.back formed up m.is m.left_text m.right_text sayings
 
-    by : (o : Option ℕ) → parent_of T n ≡ o → Formed (deleted_by T n (meeting T n (kids_beside T o)))
+    by : (o : Option ℕ) → parent_of T n ≡ o → Formed (deleted_by T n (meeting T n (kids_above T o)))
     by None e = subst (λ o. Formed (removed_from T n o)) (sym e) formed
     by (Some p) e = by_meeting p e (meeting T n (kids_of T p)) refl

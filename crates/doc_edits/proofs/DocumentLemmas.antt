@@ -8,7 +8,7 @@ use Rattle.doc_table.specs.declared.kind.Kind.{Kind}
 use Rattle.doc_table.specs.declared.kind.Kind.TheVariants.{Root, Element, Attribute, Text, Comment, Pi}
 use Rattle.doc_table.specs.Kinds.{holds_kids, is_document, is_element, is_text}
 use Rattle.doc_table.specs.Lists.{mem}
-use Rattle.doc_table.specs.Table.{Table, Facts, Name, entry_at, content_at, kind_at, attrs_of, kids_of, kind_of, parent_of, is_live}
+use Rattle.doc_table.specs.Table.{Facts, Name, Table, attrs_of, content_at, entry_at, is_live, kids_above, kids_of, kind_at, kind_of, parent_of}
 use Rattle.doc_table.specs.Walks.{below}
 use Rattle.doc_table.specs.inner.Kept.{place_in}
 use Rattle.doc_table.specs.inner.Sound.{Formed}
@@ -17,7 +17,7 @@ use Rattle.doc_table.proofs.ListLemmas.{In, In-mem, eq_or, occurs-head}
 use Rattle.doc_table.proofs.TreeLaws.{ordered, ways-up, well-formed}
 use Rattle.doc_table.proofs.Forests.{formed-of}
 use Rattle.doc_table.proofs.Ways.{parent-has}
-use Rattle.doc_edits.specs.Changes.{Meeting, meeting, kids_beside, without, removed, deleted, deleted_by, said, gained, nodes_in, given_number, inserted}
+use Rattle.doc_edits.specs.Changes.{Meeting, meeting, without, removed, deleted, deleted_by, said, gained, nodes_in, given_number, inserted}
 use Rattle.doc_edits.specs.Fitting.{MayTake}
 use Rattle.doc_edits.specs.Keeping.{DeletionsKeepTrees}
 use Rattle.doc_edits.proofs.ClearLemmas.{without-head, without-tail}
@@ -189,11 +189,11 @@ module _ (T : Table) (n : ℕ) (doc : is_document T ≡ true) (other : parent_of
 
 document-deleted : DeletionsKeepTrees → (T : Table) (n : ℕ) → Formed T → is_document T ≡ true → (parent_of T n ≡ Some 0 → is_element (kind_of T n) ≡ false)
     → is_document (deleted T n) ≡ true
-document-deleted deletions T n formed doc other = by (meeting T n (kids_beside T (parent_of T n))) refl (formed-of (deleted T n) (deletions T n (well-formed T formed)))
+document-deleted deletions T n formed doc other = by (meeting T n (kids_above T (parent_of T n))) refl (formed-of (deleted T n) (deletions T n (well-formed T formed)))
   where
-    by : (o : Option Meeting) → meeting T n (kids_beside T (parent_of T n)) ≡ o → Formed (deleted_by T n o) → is_document (deleted_by T n o) ≡ true
+    by : (o : Option Meeting) → meeting T n (kids_above T (parent_of T n)) ≡ o → Formed (deleted_by T n o) → is_document (deleted_by T n o) ≡ true
     by None e after = document-removed T n doc other after
-    by (Some texts) e after = document-merged T n doc other texts.right texts.left _ (right-text T n (kids_beside T (parent_of T n)) texts e) after
+    by (Some texts) e after = document-merged T n doc other texts.right texts.left _ (right-text T n (kids_above T (parent_of T n)) texts e) after
 
 -- an attribute more is no kid
 document-gained : (T : Table) (n : ℕ) (name : Name) (value : List ℕ) → Formed T → is_document T ≡ true → is_document (gained T n name value) ≡ true

@@ -5,12 +5,12 @@ use Rattle.std.proofs.lemmas.List.{length-take-le}
 use Rattle.doc_table.specs.Kinds.{can_be_kid, is_text}
 use Rattle.doc_table.specs.Laws.{TextsApart, WellFormed}
 use Rattle.doc_table.specs.Lists.{mem, occurs}
-use Rattle.doc_table.specs.Table.{Table, Facts, entry_at, content_at, kind_at, parent_of, attrs_of, kids_of, kind_of, value_of}
+use Rattle.doc_table.specs.Table.{Facts, Table, attrs_of, content_at, entry_at, kids_above, kids_of, kind_at, kind_of, parent_of, value_of}
 use Rattle.doc_table.specs.inner.Sound.{Formed}
 use Rattle.doc_table.proofs.ListLemmas.{In, In-mem, mem-In, mem-append, occurs-append, occurs-head, occurs-same}
 use Rattle.doc_table.proofs.TreeLaws.{ways-up, well-formed}
 use Rattle.doc_table.proofs.Ways.{parent-has}
-use Rattle.doc_edits.specs.Changes.{Meeting, kids_beside, meeting, removed, without}
+use Rattle.doc_edits.specs.Changes.{Meeting, meeting, removed, without}
 use Rattle.doc_edits.specs.Fitting.{MayGo, MaySay}
 use Rattle.doc_edits.proofs.ClearLemmas.{without-split}
 use Rattle.doc_edits.proofs.DeletionLemmas.{Met, met, meeting-on, lone-apart, up-right, first, first-apart, first-formed, first-up, is-first, is-second, second-apart, may-say}
@@ -143,10 +143,10 @@ has-parent T n formed kid =
     by (Some node) h = refl
 
 -- it may go where no texts meet
-pub lone_goes : (T : Table) (n : ℕ) → Formed T → can_be_kid (kind_of T n) ≡ true → meeting T n (kids_beside T (parent_of T n)) ≡ None → MayGo T n
+pub lone_goes : (T : Table) (n : ℕ) → Formed T → can_be_kid (kind_of T n) ≡ true → meeting T n (kids_above T (parent_of T n)) ≡ None → MayGo T n
 lone_goes T n formed kid none =
     let up = has-parent T n formed kid in
-    may-go T n up.0 formed up.1 (lone-apart T n up.0 formed (ap (λ o. meeting T n (kids_beside T o)) (sym up.1) ∙ none))
+    may-go T n up.0 formed up.1 (lone-apart T n up.0 formed (ap (λ o. meeting T n (kids_above T o)) (sym up.1) ∙ none))
 
 -- where two texts meet, the right one may go, then the node, and then the left one says both
 pub record Steps (T : Table) (n l r : ℕ) : Type 0 where
@@ -169,9 +169,9 @@ steps-under T n p l r formed up meet =
           (may-say T n p l r m.front m.back formed up m.is m.left_text m.right_text);
     }
 
-pub steps : (T : Table) (n l r : ℕ) → Formed T → meeting T n (kids_beside T (parent_of T n)) ≡ Some (record { left = l; right = r }) → Steps T n l r
+pub steps : (T : Table) (n l r : ℕ) → Formed T → meeting T n (kids_above T (parent_of T n)) ≡ Some (record { left = l; right = r }) → Steps T n l r
 steps T n l r formed = by (parent_of T n) refl
   where
-    by : (o : Option ℕ) → parent_of T n ≡ o → meeting T n (kids_beside T o) ≡ Some (record { left = l; right = r }) → Steps T n l r
+    by : (o : Option ℕ) → parent_of T n ≡ o → meeting T n (kids_above T o) ≡ Some (record { left = l; right = r }) → Steps T n l r
     by None up meet = absurd (cc)
     by (Some p) up meet = steps-under T n p l r formed up meet

@@ -3,7 +3,7 @@ use Rattle.std.specs.Prelude.{ℕ, zero, suc, ◌+◌, ◌==◌, not, ◌&&◌, 
 use Rattle.std.specs.List.{flat_map}
 use Rattle.doc_table.specs.inner.Kept.{place_in}
 use Rattle.doc_table.specs.Kinds.{is_text}
-use Rattle.doc_table.specs.Table.{Content, Facts, Name, Table, root, element, attribute, text, comment, instruction, entry_at, kids_of, kind_of, parent_of, value_of}
+use Rattle.doc_table.specs.Table.{Content, Facts, Name, Table, attribute, comment, element, entry_at, instruction, kids_above, kids_of, kind_of, parent_of, root, text, value_of}
 use Rattle.doc_table.specs.Walks.{below}
 
 -- a table in which the node at a number is another one
@@ -61,17 +61,13 @@ meeting T n (l ∷ m ∷ r ∷ ms) =
     if m == n then (if is_text (kind_of T l) && is_text (kind_of T r) then Some (record { left = l; right = r }) else None)
     else meeting T n (m ∷ r ∷ ms)
 
-abbrev pub kids_beside : Table → Option ℕ → List ℕ
-kids_beside T None = []
-kids_beside T (Some p) = kids_of T p
-
 abbrev pub deleted_by : Table → ℕ → Option Meeting → Table
 deleted_by T n None = removed T n
 deleted_by T n (Some texts) = said (removed (removed T texts.right) n) texts.left (value_of T texts.left ++ value_of T texts.right)
 
 -- a node is deleted; of two texts that meet then the left one says both, and the right one is gone
 abbrev pub deleted : Table → ℕ → Table
-deleted T n = deleted_by T n (meeting T n (kids_beside T (parent_of T n)))
+deleted T n = deleted_by T n (meeting T n (kids_above T (parent_of T n)))
 
 -- an attribute more, the last of its element; it takes the next number
 abbrev pub with_attribute : ℕ → Option Facts → Option Facts

@@ -2,9 +2,9 @@
 
 ghost use Rattle.std.specs.Prelude.{◌≡◌, ◌≢◌, ◌+◌, ◌-◌, ◌<◌, ◌≤◌, ◌++◌, ◌&&◌, ◌⊎◌, true, length, Some, None, IfOk, MatchOption, OnOk, OnErr, slice_index};
 ghost use Rattle.doc_table.specs.Kinds.{can_be_kid, is_text};
-ghost use Rattle.doc_table.specs.Table.{kind_of, parent_of, value_of};
+ghost use Rattle.doc_table.specs.Table.{kids_above, kind_of, parent_of, value_of};
 ghost use Rattle.doc_table.specs.inner.Parts.{IsSound, table_of};
-ghost use Rattle.doc_edits.specs.Changes.{deleted, kids_beside, meeting};
+ghost use Rattle.doc_edits.specs.Changes.{deleted, meeting};
 
 use crate::removing::{place_of, remove};
 use crate::saying::put_text;
@@ -22,7 +22,7 @@ pub fn delete(bare: &mut Bare, n: NodeId) -> Result<(), AllocError>
     requires kid { can_be_kid (kind_of (table_of bare.old) n) ≡ true }
     ensures sound { IsSound bare.new }
     ensures deleted { OnOk result (table_of bare.new ≡ deleted (table_of bare.old) n) }
-    ensures memory { OnErr result (meeting (table_of bare.old) n (kids_beside (table_of bare.old) (parent_of (table_of bare.old) n)) ≢ None) }
+    ensures memory { OnErr result (meeting (table_of bare.old) n (kids_above (table_of bare.old) (parent_of (table_of bare.old) n)) ≢ None) }
     ensures names { bare.new.names ≡ bare.old.names }
     ensures cap { bare.new.pair_cap ≡ bare.old.pair_cap }
     ensures unchanged { OnErr result (bare.new ≡ bare.old) }
@@ -41,8 +41,8 @@ fn texts_beside(bare: &Bare, n: NodeId) -> Option<(NodeId, NodeId)>
     requires sound { IsSound bare.now }
     requires kid { can_be_kid (kind_of (table_of bare.now) n) ≡ true }
     ensures { MatchOption result
-        (meeting (table_of bare.now) n (kids_beside (table_of bare.now) (parent_of (table_of bare.now) n)) ≡ None)
-        (λ texts. meeting (table_of bare.now) n (kids_beside (table_of bare.now) (parent_of (table_of bare.now) n)) ≡ Some (record { left = texts.0; right = texts.1 })) }
+        (meeting (table_of bare.now) n (kids_above (table_of bare.now) (parent_of (table_of bare.now) n)) ≡ None)
+        (λ texts. meeting (table_of bare.now) n (kids_above (table_of bare.now) (parent_of (table_of bare.now) n)) ≡ Some (record { left = texts.0; right = texts.1 })) }
 {
     let kids = bare.kids(bare.parent(n)?);
     let place = place_of(kids, n)?;
@@ -77,7 +77,7 @@ fn are_texts(bare: &Bare, left: NodeId, right: NodeId) -> bool
 /// Deletes the node between two texts, of which the left one says both then, and the right one is gone.
 fn merge(bare: &mut Bare, n: NodeId, left: NodeId, right: NodeId) -> Result<(), AllocError>
     requires sound { IsSound bare.old }
-    requires meet { meeting (table_of bare.old) n (kids_beside (table_of bare.old) (parent_of (table_of bare.old) n)) ≡ Some (record { left = left; right = right }) }
+    requires meet { meeting (table_of bare.old) n (kids_above (table_of bare.old) (parent_of (table_of bare.old) n)) ≡ Some (record { left = left; right = right }) }
     ensures sound { IsSound bare.new }
     ensures deleted { OnOk result (table_of bare.new ≡ deleted (table_of bare.old) n) }
     ensures names { bare.new.names ≡ bare.old.names }

@@ -1,5 +1,5 @@
 -- The tree table (XPath 1.0, section 5): what stands at each node number.
-use Rattle.std.specs.Prelude.{◌≡◌, ℕ, ◌<◌, Bool, true, List, [], ◌∷◌, length, Option, None, Some, is_some, slice_index_or}
+use Rattle.std.specs.Prelude.{◌≡◌, ℕ, ◌<◌, ◌==◌, Bool, true, false, List, [], ◌∷◌, length, Option, None, Some, is_some, slice_index_or}
 pub use Rattle.doc_names.specs.Name.{Name, expanded, no_name, numbered}
 use Rattle.doc_table.specs.declared.limits.TheConstants.{MAX_LIVE_NODES}
 use Rattle.doc_table.specs.declared.kind.Kind.{Kind}
@@ -113,6 +113,16 @@ parent_of T n = parent_at (entry_at T n)
 
 abbrev pub kids_of : Table → ℕ → List ℕ
 kids_of T n = kids_at (entry_at T n)
+
+-- the kids of a parent, where there is one
+abbrev pub kids_above : Table → Option ℕ → List ℕ
+kids_above T None = []
+kids_above T (Some p) = kids_of T p
+
+-- whether a parent is the root
+abbrev pub is_root : Option ℕ → Bool
+is_root None = false
+is_root (Some n) = n == 0
 
 abbrev pub attrs_of : Table → ℕ → List ℕ
 attrs_of T n = attrs_at (entry_at T n)

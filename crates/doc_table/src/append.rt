@@ -1,6 +1,6 @@
 //! Growing a table at its end.
 
-ghost use Rattle.std.specs.Prelude.{◌≡◌, ◌<◌, ◌∷◌, [], ◌++◌, true, length, None, Some, IfOk, IfErr, OnOk, OnErr, slice_index_or, slice_set, vec_len, vec_capacity};
+ghost use Rattle.std.specs.Prelude.{◌≡◌, ◌<◌, ◌∷◌, [], ◌++◌, true, length, None, Some, Ok, IfOk, IfErr, OnOk, OnErr, slice_index_or, slice_set, vec_len, vec_capacity};
 ghost use Rattle.doc_table.specs.Table.{AllLive, is_live, kind_of, value_in};
 ghost use Rattle.doc_table.specs.Walks.{is_open, above};
 ghost use Rattle.doc_table.specs.Growth.{Grew, FitsUnder, Refuses, passed_limit};
@@ -198,4 +198,18 @@ fn attach(
     link(nodes, parent, number, is_attribute)?;
     nodes.push_reserved(Some(node));
     Ok(())
+}
+
+/// The node that was appended, where no limit is passed.
+pub fn unlimited(appended: Result<NodeId, AppendError>) -> Result<NodeId, AllocError>
+    requires { IfErr appended (Refuses None) }
+    ensures { IfOk result (λ n. appended ≡ Ok n) }
+{
+    match appended {
+        Ok(n) => Ok(n),
+        Err(AppendError::Memory) => Err(AllocError),
+        Err(AppendError::TooManyNodes) => unreachable!(),
+        Err(AppendError::TooDeep) => unreachable!(),
+        Err(AppendError::TooMuchText) => unreachable!(),
+    }
 }

@@ -16,6 +16,7 @@ mod node;
 mod ranks;
 mod walk;
 
+pub use append::unlimited;
 pub use bare::{Bare, node_at};
 pub use cell::Cell;
 pub use ids::{NodeId, NodeList};

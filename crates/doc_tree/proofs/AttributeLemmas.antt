@@ -3,21 +3,22 @@ use Rattle.std.proofs.Common.{◌≡◌, ℕ, suc, ◌+◌, ◌≤◌, Bool, tru
 use Rattle.std.specs.Prelude.{nat_lt}
 use Rattle.std.specs.Str.{bytes_eq}
 use Rattle.std.proofs.lemmas.Slice.Eq.{bytes_eq-Decides}
+use Rattle.sch_base.specs.Lists.{is_nil}
 use Rattle.doc_table.specs.declared.kind.Kind.TheVariants.{Element, Attribute, Text}
 use Rattle.doc_table.specs.declared.limits.TheConstants.{MAX_LIVE_NODES, MAX_LIVE_TEXT_BYTES, MAX_NODE_NUMBERS}
 use Rattle.doc_table.specs.Kinds.{can_be_kid, holds_kids, is_document, is_element, is_kind}
 use Rattle.doc_table.specs.Laws.{HasWaysUp, WellFormed}
 use Rattle.doc_table.specs.Lists.{mem}
-use Rattle.doc_table.specs.Table.{Contents, Name, Table, attrs_of, expanded, expanded_of, expanded_in, kids_of, kind_of, name_of, parent_of, value_of}
+use Rattle.doc_table.specs.Table.{Contents, Name, Table, attrs_of, expanded, expanded_in, expanded_of, kids_above, kids_of, kind_of, name_of, parent_of, value_of}
 use Rattle.doc_table.specs.Walks.{order, text_bytes}
 use Rattle.doc_table.proofs.ListLemmas.{mem-head, mem-tail}
 use Rattle.doc_edits.specs.Fitting.{MayGain, MayGo, MaySay}
-use Rattle.doc_edits.specs.Changes.{deleted, deleted_by, kids_beside, meeting, removed}
+use Rattle.doc_edits.specs.Changes.{deleted, deleted_by, meeting, removed}
 use Rattle.doc_edits.specs.Documents.{EditsKeepDocuments}
 use Rattle.doc_tree.specs.declared.refusal.EditRefusal.TheVariants.{WrongKind, NoPrefix, XmlnsName, TooManyNodes, TooMuchText, IdsSpent, TooManyPairs}
 use Rattle.doc_tree.specs.Edited.{attribute_name_at}
 use Rattle.doc_tree.specs.NameTests.{attribute_in, attribute_meant, has_name, named}
-use Rattle.doc_tree.specs.Refusals.{declares_namespace, is_nil, name_refusal, setting_refusal, value_refusal}
+use Rattle.doc_tree.specs.Refusals.{declares_namespace, name_refusal, setting_refusal, value_refusal}
 use Rattle.doc_tree.specs.Scope.{attribute_namespace, namespace_or_none, scope_at, xmlns_prefix}
 use Rattle.doc_tree.proofs.RefusalLemmas.{and-false, find-in, find-none, is-element, none-of-four, none-of-three, not-true, or-false, or-none}
 
@@ -153,7 +154,7 @@ module _ (T : Table) (wf : WellFormed T) (ways : HasWaysUp T) (n a : ℕ) (membe
   gone : deleted T a ≡ removed T a
   gone = by (parent_of T a)
     where
-      by : (p : Option ℕ) → deleted_by T a (meeting T a (kids_beside T p)) ≡ removed T a
+      by : (p : Option ℕ) → deleted_by T a (meeting T a (kids_above T p)) ≡ removed T a
       by None = refl
       by (Some p) = ap (deleted_by T a) (meeting-absent T a (kids_of T p) (no-kid p))
 

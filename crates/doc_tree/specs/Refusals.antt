@@ -1,16 +1,17 @@
 -- Why an edit of a tree is refused: of the reasons that hold the first in their order.
-use Rattle.std.specs.Prelude.{◌≡◌, ◌≢◌, ℕ, suc, ◌+◌, ◌-◌, ◌==◌, Bool, true, false, not, ◌&&◌, ◌||◌, nat_lt, List, [], ◌∷◌, length, take, drop, Option, None, Some, is_none, slice_index_or, if◌then◌else◌}
+use Rattle.std.specs.Prelude.{◌≡◌, ◌≢◌, ℕ, suc, ◌+◌, ◌-◌, ◌==◌, Bool, true, false, not, ◌&&◌, ◌||◌, nat_lt, List, length, take, drop, Option, None, Some, is_none, slice_index_or, if◌then◌else◌}
 use Rattle.std.specs.List.{list_any}
 use Rattle.std.specs.Option.{option_or}
 use Rattle.std.specs.Str.{bytes_eq}
+use Rattle.sch_base.specs.Lists.{is_nil}
 use Rattle.doc_table.specs.declared.kind.Kind.{Kind}
 use Rattle.doc_table.specs.declared.kind.Kind.TheVariants.{Root, Element, Attribute, Text, Comment, Pi}
 use Rattle.doc_table.specs.declared.limits.TheConstants.{MAX_DEPTH, MAX_LIVE_NODES, MAX_LIVE_TEXT_BYTES, MAX_NODE_NUMBERS}
 use Rattle.doc_table.specs.Growth.{ends_in_text}
 use Rattle.doc_table.specs.Kinds.{can_be_kid, holds_kids, is_element, is_text}
-use Rattle.doc_table.specs.Table.{Contents, Table, kids_of, kind_of, parent_of, value_of}
+use Rattle.doc_table.specs.Table.{Contents, Table, is_root, kids_above, kids_of, kind_of, parent_of, value_of}
 use Rattle.doc_table.specs.Walks.{above, ancestors, order, text_bytes}
-use Rattle.doc_edits.specs.Changes.{kids_beside, meeting, nodes_in}
+use Rattle.doc_edits.specs.Changes.{meeting, nodes_in}
 use Rattle.doc_tree.specs.declared.refusal.EditRefusal.{EditRefusal}
 use Rattle.doc_tree.specs.declared.refusal.EditRefusal.TheVariants.{WrongKind, NotInRange, RootElement, TextBeside, EmptyText, NoPrefix, XmlnsName, NoAttribute, TooManyNodes, TooDeep, TooMuchText, IdsSpent, TooManyPairs}
 use Rattle.doc_tree.specs.declared.refusal.EditError.{EditError}
@@ -27,10 +28,6 @@ RefusesFor reason Memory = reason ≡ None
 abbrev pub RefusesOnlyFor : Option EditRefusal → EditError → Type 0
 RefusesOnlyFor reason (Refused found) = reason ≡ Some found
 RefusesOnlyFor reason Memory = ⊥
-
-abbrev pub is_nil : List ℕ → Bool
-is_nil [] = true
-is_nil (b ∷ bytes) = false
 
 -- whether a kind is one whose text an edit may set: of a text, a comment or a processing instruction
 abbrev pub has_own_text : Option Kind → Bool
@@ -50,10 +47,6 @@ text_refusal T n new =
     else if nat_lt (MAX_LIVE_TEXT_BYTES + length (value_of T n)) (text_bytes T + length new) then Some TooMuchText
     else None
 
-abbrev pub is_root : Option ℕ → Bool
-is_root None = false
-is_root (Some n) = n == 0
-
 -- a node is deleted: not the root, and not the document element
 abbrev pub deletion_refusal : Table → ℕ → Option EditRefusal
 deletion_refusal T n =
@@ -64,7 +57,7 @@ deletion_refusal T n =
 -- the answers to a deletion: want of memory comes only where two texts meet
 abbrev pub RefusesDeletion : Table → ℕ → EditError → Type 0
 RefusesDeletion T n (Refused found) = deletion_refusal T n ≡ Some found
-RefusesDeletion T n Memory = meeting T n (kids_beside T (parent_of T n)) ≢ None
+RefusesDeletion T n Memory = meeting T n (kids_above T (parent_of T n)) ≢ None
 
 -- whether a text stands just before or just behind a place among kids
 abbrev pub is_beside_text : Table → ℕ → List ℕ → Bool

@@ -2,10 +2,10 @@
 
 ghost use Rattle.std.specs.Prelude.{◌≡◌, true, OnOk, OnErr, IfErr, None, Some, if◌then◌else◌};
 ghost use Rattle.doc_table.specs.Kinds.{is_document};
-ghost use Rattle.doc_table.specs.Table.{parent_of};
+ghost use Rattle.doc_table.specs.Table.{is_root, parent_of};
 ghost use Rattle.doc_edits.specs.Changes.{deleted, said};
 ghost use Rattle.doc_tree.specs.declared.refusal.EditRefusal.TheVariants.{RootElement};
-ghost use Rattle.doc_tree.specs.Refusals.{RefusesDeletion, RefusesFor, deletion_refusal, is_root, text_refusal};
+ghost use Rattle.doc_tree.specs.Refusals.{RefusesDeletion, RefusesFor, deletion_refusal, text_refusal};
 
 use crate::refusal::{EditError, EditRefusal};
 use crate::tree::Tree;

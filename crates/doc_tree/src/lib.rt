@@ -21,7 +21,7 @@ pub use doc_names::{NameId, NameTable, WordTable};
 pub use doc_table::{
     AppendError, Cell, Kind, MAX_DEPTH, MAX_LIVE_NODES, MAX_LIVE_TEXT_BYTES, MAX_NODE_NUMBERS,
     NewNode, NodeId, NodeList, one_table, order_is_by_number, same_lines_same_tree,
-    same_tree_same_lines, well_formed_is_enough,
+    same_tree_same_lines, unlimited, well_formed_is_enough,
 };
 pub use refusal::{EditError, EditRefusal};
 pub use sch_base::Text;

@@ -6,9 +6,9 @@ use Rattle.pyx_core.specs.Written.{start_line, attr_line, end_line, chars_line, 
 use Rattle.doc_tree.specs.kind.Kind.TheVariants.{Root, Element, Attribute, Text, Comment, Pi}
 use Rattle.doc_tree.specs.Lines.{declares, first_lines, last_lines, lines_at}
 use Rattle.doc_tree.specs.Table.{Table, Name, Content, root, element, attribute, text, comment, instruction, content_of, kind_of, kind_at, name_of, name_at, decls_of, decls_at, value_of, value_at}
-use Rattle.doc_tree.specs.QNames.{qname_of}
+use Rattle.doc_tree.specs.QNames.{qname_of, written_in}
 use Rattle.doc_write.specs.TreeText.{line_text}
-use Rattle.doc_write.specs.inner.Parts.{closing_text, decl_text, has_name, opening_text, spelled_at}
+use Rattle.doc_write.specs.inner.Parts.{closing_text, decl_text, has_name, opening_text}
 
 abbrev opening : Option Content → List ℕ
 opening content = flat_map line_text (lines_at first_lines content)
@@ -30,11 +30,11 @@ named T n is = by (content_of T n) is
     by (Some (instruction name body)) is none = absurd (cc)
 
 pub element-opens : (T : Table) (n : ℕ) → kind_of T n ≡ Some Element →
-    opening_text T n ≡ start_line (spelled_at (name_of T n)) ++ flat_map decl_text (decls_of T n)
+    opening_text T n ≡ start_line (written_in (name_of T n)) ++ flat_map decl_text (decls_of T n)
 element-opens T n is = by (content_of T n) is
   where
     by : (content : Option Content) → kind_at content ≡ Some Element →
-        opening content ≡ start_line (spelled_at (name_at content)) ++ flat_map decl_text (decls_at content)
+        opening content ≡ start_line (written_in (name_at content)) ++ flat_map decl_text (decls_at content)
     by None is = absurd (cc)
     by (Some root) is = absurd (cc)
     by (Some (element name decls)) is = ap (λ l. start_line (qname_of name) ++ l) (flat_map-map line_text declares decls)
@@ -43,10 +43,10 @@ element-opens T n is = by (content_of T n) is
     by (Some (comment characters)) is = absurd (cc)
     by (Some (instruction name body)) is = absurd (cc)
 
-pub element-closes : (T : Table) (n : ℕ) → kind_of T n ≡ Some Element → closing_text T n ≡ end_line (spelled_at (name_of T n))
+pub element-closes : (T : Table) (n : ℕ) → kind_of T n ≡ Some Element → closing_text T n ≡ end_line (written_in (name_of T n))
 element-closes T n is = by (content_of T n) is
   where
-    by : (content : Option Content) → kind_at content ≡ Some Element → closing content ≡ end_line (spelled_at (name_at content))
+    by : (content : Option Content) → kind_at content ≡ Some Element → closing content ≡ end_line (written_in (name_at content))
     by None is = absurd (cc)
     by (Some root) is = absurd (cc)
     by (Some (element name decls)) is = append-nil (end_line (qname_of name))
@@ -88,7 +88,7 @@ attribute-opens T n name is called = by (content_of T n) is called
     by None is called = absurd (cc)
     by (Some root) is called = absurd (cc)
     by (Some (element _ decls)) is called = absurd (cc)
-    by (Some (attribute own value)) is called = append-nil (attr_line (qname_of own) value) ∙ ap (λ (c : Option Name). attr_line (spelled_at c) value) called
+    by (Some (attribute own value)) is called = append-nil (attr_line (qname_of own) value) ∙ ap (λ (c : Option Name). attr_line (written_in c) value) called
     by (Some (text characters)) is called = absurd (cc)
     by (Some (comment characters)) is called = absurd (cc)
     by (Some (instruction _ body)) is called = absurd (cc)

@@ -2,7 +2,7 @@
 use Rattle.std.proofs.Common.{◌≡◌, ℕ, suc, ◌+◌, ◌≤◌, Bool, true, false, if◌then◌else◌, List, [], ◌∷◌, ◌++◌, length, length-append, Option, None, Some, Result, Ok, Err, refl, ◌∙◌, ap, arith, All}
 use Rattle.std.proofs.lemmas.List.Concat.{flat_map-append}
 use Rattle.std.proofs.lemmas.List.Elements.{All-cons, All-nil}
-use Rattle.pyx_core.specs.Before.{is_nil}
+use Rattle.sch_base.specs.Lists.{is_nil}
 use Rattle.pyx_core.specs.Lines.{ended_lines, is_line_end, onto_ended, unended}
 use Rattle.pyx_core.specs.Nesting.{EventsNest}
 use Rattle.pyx_core.proofs.LinesLemmas.{has_end, none_ended}

@@ -2,13 +2,14 @@
 use Rattle.std.proofs.Common.{◌≡◌, ◌≢◌, ℕ, true, false, List, [], Option, None, Some, is_some, refl, sym, ap, ◌∙◌, subst, true≢false}
 use Rattle.std.specs.Str.{bytes_eq}
 use Rattle.std.proofs.lemmas.Slice.Eq.{bytes_eq-Decides}
+use Rattle.sch_base.specs.Lists.{is_nil}
 use Rattle.pyx_core.specs.Nesting.{is_name, of_chars}
 use Rattle.doc_table.specs.Laws.{HasWaysUp, WellFormed}
 use Rattle.doc_tree.specs.Edited.{attribute_name_at, attribute_set, attribute_unset, with_value, without_attribute}
 use Rattle.doc_tree.specs.Kinds.{is_text}
 use Rattle.doc_tree.specs.Lists.{mem}
 use Rattle.doc_tree.specs.NameTests.{attribute_meant}
-use Rattle.doc_tree.specs.Refusals.{absence_refusal, is_nil, name_refusal, setting_refusal, unsetting_refusal, value_refusal}
+use Rattle.doc_tree.specs.Refusals.{absence_refusal, name_refusal, setting_refusal, unsetting_refusal, value_refusal}
 use Rattle.doc_tree.specs.Scope.{scope_at, xmlns_prefix}
 use Rattle.doc_tree.specs.Table.{Contents, Name, Table, attrs_of, kind_of}
 use Rattle.doc_tree.proofs.AttributeLemmas.{found-member, known, may-gain, may-say, no-words}

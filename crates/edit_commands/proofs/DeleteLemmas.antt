@@ -9,12 +9,12 @@ use Rattle.doc_tree.specs.cell.Cell.TheVariants.{Kids, Shape, Attrs, Value, Text
 use Rattle.doc_tree.specs.declared.refusal.EditRefusal.TheVariants.{WrongKind, RootElement}
 use Rattle.doc_tree.specs.Kinds.{can_be_kid, is_element}
 use Rattle.doc_tree.specs.Lists.{mem}
-use Rattle.doc_tree.specs.Refusals.{deletion_refusal, is_root}
-use Rattle.doc_tree.specs.Table.{Contents, Table, is_live, kids_of, kind_of, parent_of, value_of}
+use Rattle.doc_tree.specs.Refusals.{deletion_refusal}
+use Rattle.doc_tree.specs.Table.{Contents, Table, is_live, is_root, kids_above, kids_of, kind_of, parent_of, value_of}
 use Rattle.doc_tree.specs.Walks.{ancestors, below}
 use Rattle.doc_tree.proofs.RefusalLemmas.{none-of-two, not-true}
 use Rattle.doc_edit_laws.proofs.Composing.{of-both}
-use Rattle.doc_edits.specs.Changes.{Meeting, deleted, deleted_by, kids_beside, meeting, removed, removed_from, saying}
+use Rattle.doc_edits.specs.Changes.{Meeting, deleted, deleted_by, meeting, removed, removed_from, saying}
 use Rattle.doc_edits.proofs.ClearLemmas.{live-kept}
 use Rattle.doc_edits.proofs.DeletionLemmas.{Met, first, first-formed, first-up, is-first, met}
 use Rattle.doc_edits.proofs.PruneLemmas.{cut_at}
@@ -40,7 +40,7 @@ parent-stays T n p formed up =
 -- and so it does where the node is deleted
 pub parent-lives : (T : Table) (n p : ℕ) → Formed T → parent_of T n ≡ Some p → is_live (deleted T n) p ≡ true
 parent-lives T n p formed up =
-    ap (λ o. is_live (deleted_by T n (meeting T n (kids_beside T o))) p) up ∙ by (meeting T n (kids_of T p)) refl
+    ap (λ o. is_live (deleted_by T n (meeting T n (kids_above T o))) p) up ∙ by (meeting T n (kids_of T p)) refl
   where
     by : (o : Option Meeting) → meeting T n (kids_of T p) ≡ o → is_live (deleted_by T n o) p ≡ true
     by None e = parent-stays T n p formed up

@@ -1,6 +1,7 @@
 -- A node says another text.
 use Rattle.std.proofs.Common.{◌≡◌, ℕ, ◌+◌, Bool, true, false, not, ◌&&◌, List, length, Option, None, Some, is_some, refl, sym, ap, ap₂, ◌∙◌, subst, true≢false, ltb-false}
 use Rattle.std.specs.Prelude.{nat_lt}
+use Rattle.sch_base.specs.Lists.{is_nil}
 use Rattle.pyx_core.specs.Nesting.{of_chars}
 use Rattle.doc_table.specs.Laws.{WellFormed}
 use Rattle.doc_table.specs.declared.limits.TheConstants.{MAX_LIVE_TEXT_BYTES}
@@ -11,7 +12,7 @@ use Rattle.doc_tree.specs.kind.Kind.{Kind}
 use Rattle.doc_tree.specs.kind.Kind.TheVariants as kinds
 use Rattle.doc_tree.specs.Kinds.{holds_kids, is_text}
 use Rattle.doc_tree.specs.Lists.{mem}
-use Rattle.doc_tree.specs.Refusals.{has_own_text, is_nil, text_refusal}
+use Rattle.doc_tree.specs.Refusals.{has_own_text, text_refusal}
 use Rattle.doc_tree.specs.Table.{Contents, Facts, Table, content_at, entry_at, is_live, kind_at, kind_of, value_of}
 use Rattle.doc_tree.specs.Walks.{text_bytes}
 use Rattle.doc_tree.proofs.RefusalLemmas.{and-false, none-of-three, not-true}

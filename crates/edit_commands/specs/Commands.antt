@@ -9,12 +9,12 @@ use Rattle.doc_tree.specs.kind.Kind.TheVariants as kinds
 use Rattle.doc_tree.specs.limits.TheConstants.{MAX_LIVE_TEXT_BYTES, MAX_NODE_NUMBERS}
 use Rattle.doc_tree.specs.declared.refusal.EditRefusal.{EditRefusal}
 use Rattle.doc_tree.specs.declared.refusal.EditRefusal.TheVariants.{NoNode, TooMuchText, IdsSpent, TooManyPairs}
-use Rattle.doc_tree.specs.Changes.{deleted, inserted, kids_beside, meeting, said}
+use Rattle.doc_tree.specs.Changes.{deleted, inserted, meeting, said}
 use Rattle.doc_tree.specs.Edited.{attribute_set, attribute_unset}
 use Rattle.doc_tree.specs.Laws.{WellFormed}
 use Rattle.doc_tree.specs.Refusals.{deletion_refusal, place_refusal, setting_refusal, text_refusal, unsetting_refusal}
 use Rattle.doc_tree.specs.Scope.{scope_at}
-use Rattle.doc_tree.specs.Table.{Contents, Table, parent_of}
+use Rattle.doc_tree.specs.Table.{Contents, Table, kids_above, parent_of}
 use Rattle.doc_tree.specs.Walks.{order, text_bytes}
 use Rattle.name_scopes.specs.Fragments.{ScopedPiece, event_nodes, is_start, piece_refusal, plain_text}
 use Rattle.name_scopes.specs.QNames.{local_part, prefix_part}
@@ -97,7 +97,7 @@ pub record IsEdited (T : Table) (command : Command) (U : Table) : Type 0 where
 abbrev pub MayWantMemory : Contents → Command → ℕ → Type 0
 MayWantMemory tree (Insert path at piece) n =
     (place_refusal tree.nodes n at (top_kind piece) ≡ None) × (list_any is_start piece ≡ false → piece_refusal tree.nodes n piece ≡ None)
-MayWantMemory tree (Delete path) n = meeting tree.nodes n (kids_beside tree.nodes (parent_of tree.nodes n)) ≢ None
+MayWantMemory tree (Delete path) n = meeting tree.nodes n (kids_above tree.nodes (parent_of tree.nodes n)) ≢ None
 MayWantMemory tree (SetText path text) n = text_refusal tree.nodes n text ≡ None
 MayWantMemory tree (SetAttr path name value) n = setting_refusal tree n (prefix_part name) (local_part name) value ≡ None
 MayWantMemory tree (UnsetAttr path name) n = ⊥

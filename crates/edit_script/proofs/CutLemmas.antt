@@ -2,7 +2,7 @@
 use Rattle.std.proofs.Common.{◌≡◌, ℕ, suc, ◌+◌, ◌<◌, ◌≤◌, ◌==◌, true, false, None, List, [], ◌∷◌, ◌++◌, length, take, drop, get_or, arith, refl, sym, ◌∙◌, ap, add-one, append_assoc, length-append, length-drop, length-take}
 use Rattle.std.proofs.Math.Seq.{split_at}
 use Rattle.std.proofs.lemmas.Bool.{eqb-true}
-use Rattle.pyx_core.specs.Before.{is_nil}
+use Rattle.sch_base.specs.Lists.{is_nil}
 use Rattle.pyx_core.specs.Lines.{is_line_end}
 use Rattle.pyx_core.proofs.LineLemmas.{NoEndBelow, first_line, behind_first, no_line, all_unended}
 use Rattle.edit_script.specs.Script.{lines_of, nothing, script_at, with_end}

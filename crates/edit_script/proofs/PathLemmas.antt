@@ -6,10 +6,12 @@ use Rattle.std.specs.Str.{bytes_eq}
 use Rattle.std.proofs.lemmas.Bool.{eqb-true}
 use Rattle.std.proofs.lemmas.List.Elements.{All-cons, All-nil}
 use Rattle.std.proofs.lemmas.Str.{encode_ascii}
-use Rattle.pyx_core.specs.Before.{is_nil}
+use Rattle.sch_base.specs.Lists.{is_nil}
+use Rattle.sch_base.specs.Characters.{is_slash}
+use Rattle.sch_base.specs.Named.{named}
 use Rattle.doc_tree.specs.kind.Kind.{Kind}
 use Rattle.edit_script.specs.declared.command.PathStep.{PathStep}
-use Rattle.edit_script.specs.Paths.{bracketed, is_close, is_open, is_slash, kind_of, named, number_of, onto_steps, path_of, step_names, step_of, step_with, steps_behind, steps_of}
+use Rattle.edit_script.specs.Paths.{bracketed, is_close, is_open, kind_of, number_of, onto_steps, path_of, step_names, step_of, step_with, steps_behind, steps_of}
 use Rattle.edit_script.specs.WellFormed.{IsPath, IsStep, is_kid}
 use Rattle.edit_script.proofs.NumberLemmas.{IfPlace, number_made}
 

@@ -1,6 +1,6 @@
 -- What was taken of a script gives the command that was read.
 use Rattle.std.proofs.Common.{◌≡◌, ℕ, suc, ◌+◌, true, false, List, [], ◌∷◌, ◌++◌, length, None, Some, Ok, Err, arith, sym, ◌∙◌, ap, append-nil, append_assoc, length-append}
-use Rattle.pyx_core.specs.Before.{is_nil}
+use Rattle.sch_base.specs.Lists.{is_nil}
 use Rattle.edit_script.specs.CommandLine.{command_line}
 use Rattle.edit_script.specs.declared.command.Command.TheVariants.{Insert}
 use Rattle.edit_script.specs.declared.command.PathStep.{PathStep}

@@ -1,6 +1,7 @@
 -- What a command line says: a word, and fields behind it, which are parted by single spaces.
 use Rattle.std.specs.Prelude.{ℕ, if◌then◌else◌, List, [], ◌∷◌, Option, None, Some, Result, Ok, Err, codes}
 use Rattle.std.specs.List.{list_any, before_first, after_first, slice_split}
+use Rattle.sch_base.specs.Named.{named}
 use Rattle.pyx_core.specs.Escapes.{unescaped}
 use Rattle.pyx_core.specs.LineTable.{is_qname, is_space}
 use Rattle.pyx_core.specs.Nesting.{of_chars}
@@ -12,7 +13,7 @@ use Rattle.edit_script.specs.declared.command.Verb.{Verb}
 use Rattle.edit_script.specs.declared.command.Verb.TheVariants as verb
 use Rattle.edit_script.specs.declared.fault.ScriptKind.{ScriptKind}
 use Rattle.edit_script.specs.declared.fault.ScriptKind.TheVariants.{BadChar, BadWord, BadPath, BadNumber, BadName}
-use Rattle.edit_script.specs.Paths.{named, number_of, path_of}
+use Rattle.edit_script.specs.Paths.{number_of, path_of}
 
 -- the words of the commands
 abbrev pub verb_names : List (List ℕ × Verb)

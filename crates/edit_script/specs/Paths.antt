@@ -1,22 +1,15 @@
 -- Paths, and numbers of places, as a script writes them.
 use Rattle.std.specs.Prelude.{ℕ, Bool, ◌&&◌, ◌==◌, nat_le, if◌then◌else◌, List, [], ◌∷◌, Option, None, Some, codes, slice_index}
 use Rattle.std.specs.List.{list_any, before_first, after_first, slice_split}
-use Rattle.std.specs.Str.{all_ascii_digits, bytes_eq}
+use Rattle.std.specs.Str.{all_ascii_digits}
 use Rattle.std.specs.Str.Parse.{digits_value}
-use Rattle.pyx_core.specs.Before.{is_nil}
+use Rattle.sch_base.specs.Lists.{is_nil}
+use Rattle.sch_base.specs.Characters.{is_slash}
+use Rattle.sch_base.specs.Named.{named}
 use Rattle.doc_tree.specs.kind.Kind.{Kind}
 use Rattle.doc_tree.specs.kind.Kind.TheVariants as kinds
 use Rattle.edit_script.specs.declared.command.PathStep.{PathStep}
 use Rattle.edit_script.specs.declared.limits.TheConstants.{MAX_PLACE}
-
--- what a table has beside a text
-abbrev pub named : {A : Type 0} → List (List ℕ × A) → List ℕ → Option A
-named [] text = None
-named (entry ∷ table) text = if bytes_eq text entry.0 then Some entry.1 else named table text
-
--- `/`
-abbrev pub is_slash : ℕ → Bool
-is_slash b = b == 47
 
 -- `[`
 abbrev pub is_open : ℕ → Bool

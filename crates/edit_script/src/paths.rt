@@ -2,7 +2,8 @@
 
 ghost use Rattle.std.specs.Prelude.{◌≡◌, IfOk, MatchOption};
 ghost use Rattle.std.specs.List.{slice_split};
-ghost use Rattle.edit_script.specs.Paths.{bracketed, is_close, is_open, is_slash, kind_of, path_of, step_of, steps_of};
+ghost use Rattle.sch_base.specs.Characters.{is_slash};
+ghost use Rattle.edit_script.specs.Paths.{bracketed, is_close, is_open, kind_of, path_of, step_of, steps_of};
 ghost use Rattle.edit_script.specs.inner.Parts.{Parted, Whole};
 
 use crate::command::{Path, PathStep};

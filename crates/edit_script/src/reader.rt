@@ -1,7 +1,7 @@
 //! The reader of a script, command by command.
 
 ghost use Rattle.std.specs.Prelude.{◌≡◌, ◌≤◌, ◌+◌, false, suc, length, Ok, IfOk, IfErr, IfNone, IfSome, OnErr};
-ghost use Rattle.pyx_core.specs.Before.{is_nil};
+ghost use Rattle.sch_base.specs.Lists.{is_nil};
 ghost use Rattle.edit_script.specs.CommandLine.{command_line};
 ghost use Rattle.edit_script.specs.declared.command.Said.TheVariants.{Opening};
 ghost use Rattle.edit_script.specs.Script.{Takes, at_start, nothing, onto, script_left, stops};

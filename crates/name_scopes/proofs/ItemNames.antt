@@ -13,7 +13,6 @@ use Rattle.sch_base.specs.Names.{is_colon, is_ncname, is_ncname_of, split_at_col
 use Rattle.sch_base.proofs.NameLemmas.{after_colon, before_colon, has_colon}
 use Rattle.pyx_core.specs.declared.event.Attr.{Attr}
 use Rattle.pyx_core.specs.LineTable.{is_qname}
-use Rattle.pyx_core.specs.Before.{is_nil}
 use Rattle.pyx_core.specs.Nesting.{is_attr, is_name, of_chars}
 use Rattle.doc_tree.specs.Scope.{Decl, namespace_in, xmlns_prefix}
 use Rattle.doc_tree.specs.Table.{Name}
@@ -23,6 +22,7 @@ use Rattle.name_scopes.specs.QNames.{prefix_part, local_part}
 use Rattle.name_scopes.specs.Declarations.{declaration_of, declarations, has_both_quotes, is_bad_declaration, plain_attrs}
 use Rattle.name_scopes.specs.Scoping.{AttributeInScope, attribute_namespace, is_good_declaration, is_part, is_qualified}
 use Rattle.std.proofs.lemmas.Bool.{and_parts, and_from}
+use Rattle.sch_base.specs.Lists.{is_nil}
 use Rattle.pyx_core.proofs.TextLemmas.{made_of, utf8_of, of_chars_append}
 use Rattle.name_scopes.proofs.Items.{Pair, PairsFit, decl_attr, pair_attr, start_attrs}
 

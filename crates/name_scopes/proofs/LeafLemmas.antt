@@ -3,10 +3,11 @@ use Rattle.std.proofs.Common.{◌≡◌, ◌≢◌, ℕ, ◌+◌, suc, Bool, tru
 use Rattle.std.specs.Prelude.{if◌then◌else◌, is_none, nat_le}
 use Rattle.std.proofs.lemmas.Bool.{leb-false, leb-true, le-ltb, lt-ltb, cases_eq}
 use Rattle.std.proofs.Math.Seq.{drop-append_seam}
+use Rattle.sch_base.specs.Lists.{is_nil}
 use Rattle.pyx_core.specs.declared.event.Event.{Event}
 use Rattle.pyx_core.specs.declared.event.Event.TheVariants as event
 use Rattle.pyx_core.specs.declared.mode.Mode.TheVariants.{Document}
-use Rattle.pyx_core.specs.Before.{is_nil, outer}
+use Rattle.pyx_core.specs.Before.{outer}
 use Rattle.pyx_core.specs.Nesting.{Place, Fits, after}
 use Rattle.doc_tree.specs.limits.TheConstants.{MAX_LIVE_NODES}
 use Rattle.doc_tree.specs.Table.{Table, Contents, Name, kind_at, kind_in, decls_at, decls_in, value_in, kids_of, decls_of, parent_of}

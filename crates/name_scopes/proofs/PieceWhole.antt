@@ -6,11 +6,12 @@ use Rattle.std.proofs.lemmas.Bool.{le-ltb, or_parts}
 use Rattle.std.proofs.lemmas.List.{drop_all, take_all}
 use Rattle.std.proofs.lemmas.List.Concat.{flat_map-append}
 use Rattle.std.proofs.lemmas.List.Sums.{sum_by-append, sum_by-cons}
+use Rattle.sch_base.specs.Lists.{is_nil}
 use Rattle.pyx_core.specs.declared.event.Attr.{Attr}
 use Rattle.pyx_core.specs.declared.event.Event.{Event}
 use Rattle.pyx_core.specs.declared.event.Event.TheVariants as event
 use Rattle.pyx_core.specs.declared.mode.Mode.TheVariants.{Document, Fragment}
-use Rattle.pyx_core.specs.Before.{is_nil, outer}
+use Rattle.pyx_core.specs.Before.{outer}
 use Rattle.pyx_core.specs.Nesting.{Place, Nest, Fits, HasRoom, IsEnd, after, place_after, start}
 use Rattle.doc_tree.specs.declared.refusal.EditRefusal.TheVariants as refusal
 use Rattle.doc_tree.specs.limits.TheConstants.{MAX_DEPTH, MAX_LIVE_NODES, MAX_LIVE_TEXT_BYTES}

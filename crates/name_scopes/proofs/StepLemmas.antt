@@ -8,11 +8,11 @@ use Rattle.std.proofs.Common.{ltb-false}
 use Rattle.std.proofs.lemmas.List.{map-append}
 use Rattle.std.proofs.lemmas.List.Concat.{flat_map-append}
 use Rattle.std.proofs.lemmas.List.Sums.{sum_by-append, sum_by-cons}
+use Rattle.sch_base.specs.Lists.{is_nil}
 use Rattle.pyx_core.specs.declared.event.Attr.{Attr}
 use Rattle.pyx_core.specs.declared.event.Event.{Event}
 use Rattle.pyx_core.specs.declared.event.Event.TheVariants as event
 use Rattle.pyx_core.specs.declared.mode.Mode.TheVariants.{Document}
-use Rattle.pyx_core.specs.Before.{is_nil}
 use Rattle.pyx_core.specs.Nesting.{Place, StartFits, after}
 use Rattle.doc_tree.specs.limits.TheConstants.{MAX_DEPTH, MAX_LIVE_NODES}
 use Rattle.doc_tree.specs.Table.{Table}

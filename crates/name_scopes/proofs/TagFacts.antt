@@ -8,10 +8,10 @@ use Rattle.std.specs.Option.{option_to_list}
 use Rattle.std.specs.Str.{bytes_eq}
 use Rattle.std.proofs.lemmas.Slice.Eq.{bytes_eq-Decides}
 use Rattle.std.proofs.lemmas.Str.{chars-nil}
+use Rattle.sch_base.specs.Lists.{is_nil}
 use Rattle.sch_base.specs.Names.{is_colon, is_ncname, is_ncname_of, split_at_colon}
 use Rattle.pyx_core.specs.declared.event.Attr.{Attr}
 use Rattle.pyx_core.specs.LineTable.{is_qname}
-use Rattle.pyx_core.specs.Before.{is_nil}
 use Rattle.pyx_core.specs.Nesting.{is_attr, is_name, of_chars}
 use Rattle.doc_tree.specs.Scope.{Decl, first_declared, namespace_in, xmlns_prefix}
 use Rattle.doc_write.specs.TreeText.{declaring_name}

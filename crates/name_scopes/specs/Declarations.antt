@@ -3,8 +3,8 @@ use Rattle.std.specs.Prelude.{ℕ, ◌==◌, Bool, not, ◌&&◌, ◌||◌, List
 use Rattle.std.specs.List.{flat_map, filter, list_any}
 use Rattle.std.specs.Option.{option_to_list}
 use Rattle.std.specs.Str.{bytes_eq}
+use Rattle.sch_base.specs.Lists.{is_nil}
 use Rattle.pyx_core.specs.declared.event.Attr.{Attr}
-use Rattle.pyx_core.specs.Before.{is_nil}
 use Rattle.doc_tree.specs.Scope.{Decl, xmlns_prefix, xml_prefix, xml_namespace}
 use Rattle.name_scopes.specs.QNames.{prefix_part, local_part}
 

@@ -3,12 +3,12 @@
 use Rattle.std.specs.Prelude.{◌≡◌, ◌≢◌, ℕ, Bool, true, false, not, ◌&&◌, ◌||◌, List, [], ◌∷◌, Option, None, Some}
 use Rattle.std.specs.List.{list_any, list_all}
 use Rattle.std.specs.Str.{bytes_eq}
+use Rattle.sch_base.specs.Lists.{is_nil}
 use Rattle.sch_base.specs.Names.{is_ncname}
 use Rattle.pyx_core.specs.Nesting.{is_pi_name, of_chars}
 use Rattle.doc_tree.specs.Table.{Table, Name, Content, root, element, attribute, text, comment, instruction, content_of}
 use Rattle.doc_tree.specs.Scope.{Decl, namespace_in, scope_at, xmlns_prefix}
 pub use Rattle.doc_tree.specs.Scope.{attribute_namespace}
-use Rattle.pyx_core.specs.Before.{is_nil}
 use Rattle.name_scopes.specs.Declarations.{is_bad_declaration, has_both_quotes}
 
 -- whether a text is an NCName

@@ -24,6 +24,7 @@ use crate::scope::Scope;
 use crate::tag::{check_attrs, known_uri};
 use doc_tree::{
     AppendError, MAX_DEPTH, MAX_LIVE_NODES, MAX_LIVE_TEXT_BYTES, NameId, NewNode, NodeId, Tree,
+    unlimited,
 };
 use pyx_core::{Attr, Event};
 use std::alloc::{AllocError, Global};
@@ -220,13 +221,8 @@ pub(crate) fn append_leaf(
         Event::Start { name: _, attrs: _ } => unreachable!(),
         Event::End { name: _ } => unreachable!(),
     };
-    match tree.append_node(parent, node) {
-        Ok(n) => Ok(n),
-        Err(AppendError::Memory) => Err(AllocError),
-        Err(AppendError::TooManyNodes) => unreachable!(),
-        Err(AppendError::TooDeep) => unreachable!(),
-        Err(AppendError::TooMuchText) => unreachable!(),
-    }
+    let n = unlimited(tree.append_node(parent, node))?;
+    Ok(n)
 }
 
 /// Puts an element under a node; its name has this number.
@@ -311,16 +307,9 @@ fn append_attribute(
     let name = attr.name.as_str();
     let parts = split(name);
     let id = recent.number(tree, name, parts, known_uri(scope, parts.prefix))?;
-    match tree.append_node(element, NewNode::Attribute(id, attr.value.as_str())) {
-        Ok(n) => {
-            recent.note(name, n);
-            Ok(n)
-        }
-        Err(AppendError::Memory) => Err(AllocError),
-        Err(AppendError::TooManyNodes) => unreachable!(),
-        Err(AppendError::TooDeep) => unreachable!(),
-        Err(AppendError::TooMuchText) => unreachable!(),
-    }
+    let n = unlimited(tree.append_node(element, NewNode::Attribute(id, attr.value.as_str())))?;
+    recent.note(name, n);
+    Ok(n)
 }
 
 /// How many attributes declare nothing.

@@ -5,7 +5,7 @@ use Rattle.std.proofs.lemmas.Str.{IsUtf8-nil, chars-nil}
 use Rattle.pyx_core.specs.Nesting.{of_chars}
 use Rattle.pyx_core.proofs.TextLemmas.{made_of, of_chars_append}
 use Rattle.doc_table.specs.declared.kind.Kind.TheVariants.{Root}
-use Rattle.doc_table.specs.Table.{Table, Facts, Name, Content, root, element, attribute, text, comment, instruction, entry_at, parent_at, content_at, kind_at, decls_at, value_at, parent_of, content_of, decls_of, value_of, is_live}
+use Rattle.doc_table.specs.Table.{Content, Facts, Name, Table, attribute, comment, content_at, content_of, decls_at, decls_of, element, entry_at, instruction, is_live, kids_above, kind_at, parent_at, parent_of, root, text, value_at, value_of}
 use Rattle.doc_table.specs.Walks.{ancestors, below}
 use Rattle.doc_table.specs.Kinds.{holds_kids}
 use Rattle.doc_table.specs.inner.Forest.{Forest, Whole}
@@ -16,7 +16,7 @@ use Rattle.doc_table.proofs.Forests.{formed-of}
 use Rattle.doc_table.proofs.TreeLaws.{ways-up, well-formed}
 use Rattle.doc_table.proofs.Ways.{climb-none, parent-live}
 use Rattle.doc_tree.specs.Scope.{Decl, scope_at}
-use Rattle.doc_edits.specs.Changes.{with_text, saying, said, removed, removed_from, Meeting, meeting, kids_beside, deleted, deleted_by, gained, nodes_in, given_number, given_parent, inserted}
+use Rattle.doc_edits.specs.Changes.{with_text, saying, said, removed, removed_from, Meeting, meeting, deleted, deleted_by, gained, nodes_in, given_number, given_parent, inserted}
 use Rattle.doc_edits.specs.Keeping.{SayingsKeepTrees, DeletionsKeepTrees, GainsKeepTrees, InsertionsKeepTrees}
 use Rattle.doc_edits.proofs.ClearLemmas.{cut}
 use Rattle.doc_edits.proofs.PruneLemmas.{Cut, cut_at}
@@ -175,8 +175,8 @@ module _ (T : Table) (n r l : ℕ) (new : List ℕ) (made : of_chars new ≡ tru
       (said-scoped (scope_at T m) new made rest l m
       (subst (λ (o : Option Content). ContentInScope (scope_at T m) o) (sym (stays-rest m live).content) (scoped m))))
 
-deletion-scoped : DeletionsKeepTrees → (T : Table) (n : ℕ) → Formed T → InScope T → InScope (deleted_by T n (meeting T n (kids_beside T (parent_of T n))))
-deletion-scoped deletions T n formed scoped = by (meeting T n (kids_beside T (parent_of T n))) (formed-of (deleted T n) (deletions T n (well-formed T formed)))
+deletion-scoped : DeletionsKeepTrees → (T : Table) (n : ℕ) → Formed T → InScope T → InScope (deleted_by T n (meeting T n (kids_above T (parent_of T n))))
+deletion-scoped deletions T n formed scoped = by (meeting T n (kids_above T (parent_of T n))) (formed-of (deleted T n) (deletions T n (well-formed T formed)))
   where
     by : (o : Option Meeting) → Formed (deleted_by T n o) → InScope (deleted_by T n o)
     by None after = removal-scoped T n formed scoped

@@ -11,6 +11,7 @@ use Rattle.std.proofs.lemmas.Bool.{cases_lt, and_parts, and_from}
 use Rattle.std.proofs.lemmas.Bool.Decides.{nat_tests}
 use Rattle.std.proofs.lemmas.Slice.Eq.{bytes_eq-Decides}
 use Rattle.std.proofs.lemmas.List.{append-nil, map-append}
+use Rattle.sch_base.specs.Lists.{is_nil}
 use Rattle.sch_base.specs.Characters.{is_xml_char}
 use Rattle.pyx_core.specs.declared.event.Attr.{Attr}
 use Rattle.pyx_core.specs.declared.event.Event.{Event}
@@ -22,7 +23,7 @@ use Rattle.pyx_core.specs.declared.line_table.Line.{Line}
 use Rattle.pyx_core.specs.declared.line_table.Line.TheVariants.{Skipped, Start, Attribute, End, Chars, Pi, Comment}
 use Rattle.pyx_core.specs.declared.mode.Mode.{Mode}
 use Rattle.pyx_core.specs.declared.mode.Mode.TheVariants.{Document, Fragment}
-use Rattle.pyx_core.specs.Before.{is_nil, is_fragment, outer, open_names, at_top, is_innermost, takes_attribute, has_item, is_second, located, is_outside, kept, attr_onto, with_attr, begin_text, text_onto, with_text, pending, is_chars, is_text, but_text, closed, misplaced, lacking}
+use Rattle.pyx_core.specs.Before.{is_fragment, outer, open_names, at_top, is_innermost, takes_attribute, has_item, is_second, located, is_outside, kept, attr_onto, with_attr, begin_text, text_onto, with_text, pending, is_chars, is_text, but_text, closed, misplaced, lacking}
 use Rattle.pyx_core.specs.LineTable.{is_qname, is_target, is_space, name_part, text_part, read_start, read_end, read_attribute, read_pi, read_chars, read_comment, read_marked, read_text, line_of}
 use Rattle.pyx_core.specs.Nesting.{Place, start, after, of_chars, is_name, is_pi_name, is_attr, CharsFit, Fits, Nest, place_after, IsEnd, bare, EventsNest}
 use Rattle.pyx_core.specs.Reading.{unless, placed, judge, judged, and_then, ended, so_far, in_all, completed, events_of, fault_of, or_lacking, end_fault}

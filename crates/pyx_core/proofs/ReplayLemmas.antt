@@ -15,7 +15,7 @@ use Rattle.pyx_core.specs.declared.line_table.Line.{Line}
 use Rattle.pyx_core.specs.declared.line_table.Line.TheVariants.{Start, Attribute, End, Chars, Pi, Comment}
 use Rattle.pyx_core.specs.declared.mode.Mode.{Mode}
 use Rattle.pyx_core.specs.declared.mode.Mode.TheVariants.{Document, Fragment}
-use Rattle.pyx_core.specs.Before.{is_nil, is_fragment, outer, open_names, at_top, is_innermost, takes_attribute, has_item, is_second, located, is_outside, kept, with_attr, begin_text, text_onto, with_text, pending, is_chars, is_text, but_text, closed, misplaced}
+use Rattle.pyx_core.specs.Before.{is_fragment, outer, open_names, at_top, is_innermost, takes_attribute, has_item, is_second, located, is_outside, kept, with_attr, begin_text, text_onto, with_text, pending, is_chars, is_text, but_text, closed, misplaced}
 use Rattle.pyx_core.specs.Escapes.{escaped}
 use Rattle.pyx_core.specs.LineTable.{is_qname, is_target, read_text, line_of}
 use Rattle.pyx_core.specs.Nesting.{Place, after, of_chars, is_name, is_pi_name, is_attr, CharsFit, Fits, Nest, place_after, bare}
@@ -25,6 +25,7 @@ use Rattle.pyx_core.proofs.NameBytes.{space_no_name, ncname_without, qname_witho
 use Rattle.pyx_core.proofs.NestingLemmas.{place_of, bare_append, open_item}
 use Rattle.pyx_core.proofs.StandingLemmas.{begins, begins_takes}
 use Rattle.std.proofs.lemmas.Bool.{and_parts, and_from}
+use Rattle.sch_base.specs.Lists.{is_nil}
 use Rattle.pyx_core.proofs.TextLemmas.{utf8_of, of_chars_append}
 use Rattle.pyx_core.proofs.Undoing.{unescaped-escaped}
 use Rattle.pyx_core.proofs.WrittenLemmas.{raw, attr_raw}

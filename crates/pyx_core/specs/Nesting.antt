@@ -2,13 +2,14 @@
 use Rattle.std.specs.Prelude.{◌≡◌, ◌≢◌, ℕ, Bool, true, false, ◌&&◌, ◌||◌, List, [], ◌∷◌, ◌++◌, map, None}
 use Rattle.std.specs.List.{list_all}
 use Rattle.std.specs.Str.{chars, is_utf8}
+use Rattle.sch_base.specs.Lists.{is_nil}
 use Rattle.sch_base.specs.Characters.{is_xml_char}
 use Rattle.pyx_core.specs.declared.event.Attr.{Attr}
 use Rattle.pyx_core.specs.declared.event.Event.{Event}
 use Rattle.pyx_core.specs.declared.event.Event.TheVariants.{Start, End, Chars, Pi, Comment}
 use Rattle.pyx_core.specs.declared.event.Located.{Located}
 use Rattle.pyx_core.specs.declared.mode.Mode.{Mode}
-use Rattle.pyx_core.specs.Before.{is_nil, is_fragment, outer}
+use Rattle.pyx_core.specs.Before.{is_fragment, outer}
 use Rattle.pyx_core.specs.LineTable.{is_qname, is_target}
 use Rattle.pyx_core.specs.Reading.{completed, events_of, fault_of}
 

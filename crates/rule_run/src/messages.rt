@@ -1,13 +1,14 @@
 //! The texts of messages and of diagnostics (ISO/IEC 19757-3, clauses 5.4 and 5.5).
 
 ghost use Rattle.std.specs.Prelude.{◌≡◌, string_bytes};
+ghost use Rattle.doc_tree.specs.QNames.{written_in};
 ghost use Rattle.xp_outcome.specs.Evaluation.{done};
 ghost use Rattle.xp_outcome.specs.Running.{Ran};
 ghost use Rattle.xp_values.specs.Outcomes.{Gives};
 ghost use Rattle.xp_values.specs.Texts.{concat};
 ghost use Rattle.xp_meaning.specs.Conversions.{text_in};
 ghost use Rattle.xp_meaning.specs.Functions.{named_node, text_of};
-ghost use Rattle.xp_meaning.specs.Names.{name_at, written_in};
+ghost use Rattle.xp_meaning.specs.Names.{name_at};
 ghost use Rattle.xp_meaning.specs.Results.{shown};
 ghost use Rattle.sch_units.specs.Messages.{alone, diagnostic_texts, message, name_text, part_text};
 ghost use Rattle.rule_run.specs.inner.Joining.{with_text};

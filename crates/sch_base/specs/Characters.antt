@@ -1,6 +1,6 @@
 -- The character classes of XML 1.0 (fifth edition), sections 2.2 and 2.3; those of names without the colon, as in
 -- Namespaces in XML 1.0, section 3.
-use Rattle.std.specs.Prelude.{◌≡◌, ℕ, Bool, true, false, ◌&&◌, ◌||◌, nat_le, List, [], ◌∷◌, IsUtf8, encode_utf8_all}
+use Rattle.std.specs.Prelude.{◌≡◌, ℕ, Bool, true, false, ◌&&◌, ◌||◌, ◌==◌, nat_le, List, [], ◌∷◌, IsUtf8, encode_utf8_all}
 use Rattle.std.specs.Str.{chars, all_scalars}
 
 -- whether a number lies in one of the ranges, each of which is given by its first and its last number
@@ -29,6 +29,10 @@ is_name_char c =
 -- S: whitespace
 unfoldable pub is_whitespace : ℕ → Bool
 is_whitespace c = lies_in ((0x20, 0x20) ∷ (0x9, 0xA) ∷ (0xD, 0xD) ∷ []) c
+
+-- `/`
+abbrev pub is_slash : ℕ → Bool
+is_slash b = b == 47
 
 -- the characters of a text spell it
 abbrev pub CharactersSpellTheText : Type 0

@@ -1,2 +1,5 @@
 pub mod Characters
+pub mod Fronts
+pub mod Lists
+pub mod Named
 pub mod Names

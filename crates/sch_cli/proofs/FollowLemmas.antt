@@ -1,10 +1,10 @@
 -- How the following of a script goes on, and how it ends.
 use Rattle.std.proofs.Common.{◌∙◌, ◌≡◌, ℕ, suc, ◌+◌, ◌<◌, ◌≤◌, ◌^◌, ◌⊎◌, inl, inr, if◌then◌else◌, Bool, true, false, List, [], ◌∷◌, ◌++◌, append_assoc, append-nil, length, length-append, IfErr, IfNone, IfSome, OnOk, Option, None, Some, Result, Ok, Err, refl, ap, sym, subst, arith}
 use Rattle.std.proofs.KnownBytes.{Appends-nil, Appends-trans}
+use Rattle.sch_base.specs.Lists.{is_nil}
 use Rattle.sch_io.specs.SinkLog.{SinkLog}
 use Rattle.sch_io.specs.Wrote.{Appends}
 use Rattle.pyx_core.proofs.LinesLemmas.{few_ended}
-use Rattle.pyx_core.specs.Before.{is_nil}
 use Rattle.pyx_core.specs.Lines.{ended_lines, unended}
 use Rattle.doc_tree.specs.Table.{Contents, Table}
 use Rattle.doc_tree.specs.declared.refusal.EditRefusal.{EditRefusal}
@@ -93,7 +93,7 @@ pub refusal_under : (plan : Plan) (tree : Contents) (command : Command) → tree
 refusal_under plan tree command cap = ap (λ (count : ℕ). command_refusal (record { nodes = tree.nodes; names = []; pair_cap = count }) command) (sym cap)
 
 -- what is to come does not depend on how its place is told
-follows_same : (plan other : Plan) (T U : Table) (n m : ℕ) (seen shown : Shown) (script rest : Script) (output : Output) → plan ≡ other → T ≡ U → n ≡ m → seen ≡ shown → script ≡ rest →
+pub follows_same : (plan other : Plan) (T U : Table) (n m : ℕ) (seen shown : Shown) (script rest : Script) (output : Output) → plan ≡ other → T ≡ U → n ≡ m → seen ≡ shown → script ≡ rest →
     Follows plan T n seen script output → Follows other U m shown rest output
 follows_same plan other T U n m seen shown script rest output plans trees numbers states scripts follows =
     subst (λ (s : Script). Follows other U m shown s output) scripts
@@ -260,7 +260,7 @@ pub record HasCome (earlier later : Place) (old new : SinkLog) : Type 0 where
 pub not_gone : (at : Place) (log : SinkLog) → HasCome at at log log
 not_gone at log = record { text = []; led = record { ends = λ output follows. follows; begins = λ more begins. begins }; out = Appends-nil log.written }
 
-led_on : (a b c : Place) (text more : List ℕ) → IsLed a b text → IsLed b c more → IsLed a c (text ++ more)
+pub led_on : (a b c : Place) (text more : List ℕ) → IsLed a b text → IsLed b c more → IsLed a c (text ++ more)
 led_on a b c text more first next = record {
   ends = λ output follows. subst (λ (bytes : List ℕ). Ending a (record { out = bytes; err = output.err; ends = output.ends })) (sym (append_assoc text more output.out))
       (first.ends (in_front more output) (next.ends output follows));
@@ -268,7 +268,7 @@ led_on a b c text more first next = record {
 }
 
 -- the place in front of the next command is the one that was come to
-led_same : (earlier later rest : Place) (command : Command) (text : List ℕ) → IsPlace later rest.session.plan rest.session.tree.nodes rest.number (onto command rest.script) → later.seen ≡ rest.seen →
+pub led_same : (earlier later rest : Place) (command : Command) (text : List ℕ) → IsPlace later rest.session.plan rest.session.tree.nodes rest.number (onto command rest.script) → later.seen ≡ rest.seen →
     IsLed earlier later text → IsLed earlier (in_front_of command rest) text
 led_same earlier later rest command text place seen led = record {
   ends = λ output follows. led.ends output (follows_same rest.session.plan later.session.plan rest.session.tree.nodes later.session.tree.nodes rest.number later.number rest.seen later.seen

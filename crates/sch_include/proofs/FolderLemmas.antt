@@ -2,7 +2,8 @@
 use Rattle.std.proofs.Common.{◌≡◌, ◌≢◌, ℕ, zero, suc, ◌<◌, Bool, true, false, ◌||◌, List, [], ◌∷◌, length, get_or, take, refl, ap, arith, eqb, eqb-true}
 use Rattle.std.specs.List.{list_any}
 use Rattle.std.proofs.Math.Bool.{or-true}
-use Rattle.sch_include.specs.Includes.{folder_of, is_slash}
+use Rattle.sch_base.specs.Characters.{is_slash}
+use Rattle.sch_include.specs.Includes.{folder_of}
 
 -- no byte is a slash
 abbrev pub Lacks : List ℕ → Type 0

@@ -1,6 +1,7 @@
 -- Includes of a schema (ISO/IEC 19757-3, section 5.4.4), and the files that they name.
 use Rattle.std.specs.Prelude.{ℕ, Bool, false, not, ◌&&◌, ◌||◌, ◌==◌, List, [], ◌∷◌, ◌++◌, codes, if◌then◌else◌}
 use Rattle.std.specs.List.{list_any}
+use Rattle.sch_base.specs.Characters.{is_slash}
 use Rattle.doc_tree.specs.Kinds.{is_element}
 use Rattle.doc_tree.specs.NameTests.{has_name}
 use Rattle.doc_tree.specs.Table.{Table, kind_of}
@@ -9,9 +10,6 @@ use Rattle.sch_rules.specs.Words.{schematron}
 -- whether the node is an element `include` in the namespace of Schematron
 abbrev pub is_include : Table → ℕ → Bool
 is_include T n = is_element (kind_of T n) && has_name T n schematron (codes "include")
-
-abbrev pub is_slash : ℕ → Bool
-is_slash b = b == 47
 
 -- a scheme: a colon before any `/`
 abbrev pub has_scheme : List ℕ → Bool

@@ -1,18 +1,18 @@
 //! Copies of single nodes at the end of a tree that grows.
 
-ghost use Rattle.std.specs.Prelude.{◌≡◌, ◌<◌, ◌≤◌, ◌+◌, ◌∷◌, [], ◌++◌, ℕ, List, suc, true, false, length, is_some, sum_by, map, Some, None, Ok, IfOk, IfErr, OnOk};
+ghost use Rattle.std.specs.Prelude.{◌≡◌, ◌<◌, ◌≤◌, ◌+◌, [], ◌++◌, ℕ, List, suc, true, false, length, is_some, sum_by, map, Some, None, Ok, IfOk, OnOk};
 ghost use Rattle.std.specs.List.{flat_map};
-ghost use Rattle.doc_tree.specs.Growth.{AttributeFits, Grew, Refuses};
+ghost use Rattle.doc_tree.specs.Growth.{AttributeFits, Grew};
 ghost use Rattle.doc_tree.specs.Kinds.{is_element};
 ghost use Rattle.doc_tree.specs.kind.Kind.TheVariants.{Attribute, Element};
 ghost use Rattle.doc_tree.specs.limits.TheConstants.{MAX_DEPTH, MAX_LIVE_NODES, MAX_LIVE_TEXT_BYTES};
 ghost use Rattle.doc_tree.specs.Lines.{Line, declares, opens};
-ghost use Rattle.doc_tree.specs.Table.{Content, Name, Table, attribute, attrs_of, decls_of, element, expanded_of, kids_of, kind_of, name_of, numbered, value_of};
+ghost use Rattle.doc_tree.specs.Table.{Content, Name, Table, attribute, attrs_of, decls_of, element, kids_of, kind_of, name_of, numbered, value_of};
 ghost use Rattle.doc_tree.specs.Walks.{above, order, text_bytes};
 ghost use Rattle.name_scopes.specs.Scoping.{InScope, declares_twice};
 ghost use Rattle.sch_include.specs.inner.Growing.{Copied, Receives, Starts, TakesCopy};
 
-use doc_tree::{AppendError, Kind, NameId, NewNode, NodeId, Tree};
+use doc_tree::{Kind, NameId, NewNode, NodeId, Tree, unlimited};
 use std::alloc::AllocError;
 
 /// Copies a node of another tree with its declarations and attributes, and without its kids.
@@ -174,19 +174,5 @@ fn copy_name(tree: &mut Tree, source: &Tree, n: NodeId) -> Result<NameId, AllocE
             source.uri_of(name),
         ),
         None => unreachable!(),
-    }
-}
-
-/// The node that was appended, where no limit was passed.
-fn unlimited(appended: Result<NodeId, AppendError>) -> Result<NodeId, AllocError>
-    requires { IfErr appended (Refuses None) }
-    ensures { IfOk result (λ n. appended ≡ Ok n) }
-{
-    match appended {
-        Ok(n) => Ok(n),
-        Err(AppendError::Memory) => Err(AllocError),
-        Err(AppendError::TooManyNodes) => unreachable!(),
-        Err(AppendError::TooDeep) => unreachable!(),
-        Err(AppendError::TooMuchText) => unreachable!(),
     }
 }

@@ -3,6 +3,7 @@ use Rattle.std.proofs.Common.{ℕ, ◌+◌, Bool, cond, List, [], ◌∷◌, ◌
 use Rattle.std.specs.Prelude.{All, slice_get}
 use Rattle.std.proofs.lemmas.List.Elements.{All-head, All-tail}
 use Rattle.std.specs.Option.{option_to_list}
+use Rattle.doc_tree.specs.QNames.{written_in}
 use Rattle.doc_tree.specs.cell.Cell.{Cell}
 use Rattle.doc_tree.specs.Table.{Table}
 use Rattle.doc_edit_laws.specs.Agreement.{Stays}
@@ -14,7 +15,7 @@ use Rattle.xp_values.specs.Texts.{concat}
 use Rattle.xp_values.specs.declared.values.EvalFault.{EvalFault}
 use Rattle.xp_meaning.specs.Conversions.{nodes_of, text_in}
 use Rattle.xp_meaning.specs.Evaluation.{Lets, meaning}
-use Rattle.xp_meaning.specs.Names.{name_at, written_in}
+use Rattle.xp_meaning.specs.Names.{name_at}
 use Rattle.xp_locality_laws.specs.Locality.{AllKept, Changed, ExpressionsAreLocal}
 use Rattle.xp_locality_laws.proofs.AxisLemmas.{root-stays}
 use Rattle.xp_locality_laws.proofs.StandLemmas.{Same, no_nodes, same-bind, same-cond, same-done, same-given, same-made, same-visit}

@@ -7,10 +7,10 @@ use Rattle.doc_tree.specs.kind.Kind.TheVariants.{Root}
 use Rattle.doc_tree.specs.Kinds.{is_element}
 use Rattle.doc_tree.specs.Laws.{HasWaysUp, Ordered, WellFormed}
 use Rattle.doc_tree.specs.Lists.{mem}
-use Rattle.doc_tree.specs.Table.{Table, Name, Content, root, element, attribute, text, comment, instruction, attrs_of, content_of, kids_of, kind_at, kind_of, is_live, parent_of}
+use Rattle.doc_tree.specs.Table.{Content, Name, Table, attribute, attrs_of, comment, content_of, element, instruction, is_live, is_root, kids_of, kind_at, kind_of, parent_of, root, text}
 use Rattle.doc_tree.specs.Walks.{below}
 use Rattle.doc_tree.proofs.ListLemmas.{mem-head, mem-tail}
-use Rattle.sch_rules.specs.Elements.{document_element, element_name, first_or, is_at_top, is_foreign, is_ignored, is_other_name, is_root, local_in, word_at}
+use Rattle.sch_rules.specs.Elements.{document_element, element_name, first_or, is_at_top, is_foreign, is_ignored, is_other_name, local_in, word_at}
 use Rattle.sch_rules.specs.FirstBroken.{Broken}
 use Rattle.sch_rules.specs.Rules.{wrong_document}
 use Rattle.sch_rules.specs.Words.{schematron, word_of}

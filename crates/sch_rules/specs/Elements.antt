@@ -1,9 +1,9 @@
 -- The elements of a schema in a tree: those of other namespaces are left out with all that they hold.
-use Rattle.std.specs.Prelude.{ℕ, Bool, false, not, ◌==◌, List, Option, None, Some, find, option_and_then, if◌then◌else◌}
+use Rattle.std.specs.Prelude.{ℕ, Bool, false, not, List, Option, None, Some, find, option_and_then, if◌then◌else◌}
 use Rattle.std.specs.List.{list_any}
 use Rattle.std.specs.Str.{bytes_eq}
 use Rattle.doc_tree.specs.Kinds.{is_element}
-use Rattle.doc_tree.specs.Table.{Table, Name, Content, root, element, attribute, text, comment, instruction, content_of, kids_of, kind_of, parent_of}
+use Rattle.doc_tree.specs.Table.{Content, Name, Table, attribute, comment, content_of, element, instruction, is_root, kids_of, kind_of, parent_of, root, text}
 use Rattle.doc_tree.specs.Walks.{ancestors}
 use Rattle.sch_rules.specs.declared.word.Word.{Word}
 use Rattle.sch_rules.specs.Words.{schematron, word_of}
@@ -47,11 +47,6 @@ word_at T n = option_and_then word_of (local_at T n)
 -- which element of a schema the node's parent is
 abbrev pub word_above : Table → ℕ → Option Word
 word_above T n = option_and_then (word_at T) (parent_of T n)
-
--- whether the node is the root's kid
-abbrev pub is_root : Option ℕ → Bool
-is_root None = false
-is_root (Some n) = n == 0
 
 abbrev pub is_at_top : Table → ℕ → Bool
 is_at_top T n = is_root (parent_of T n)

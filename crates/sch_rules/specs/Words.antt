@@ -1,7 +1,7 @@
 -- The elements of a schema by their local names, which element may stand in which, and what each requires
 -- (ISO/IEC 19757-3, section 5).
 use Rattle.std.specs.Prelude.{ℕ, Bool, true, false, ◌==◌, List, [], ◌∷◌, Option, None, Some, codes, if◌then◌else◌}
-use Rattle.std.specs.Str.{bytes_eq}
+use Rattle.sch_base.specs.Named.{named}
 use Rattle.sch_rules.specs.declared.word.Word.{Word}
 use Rattle.sch_rules.specs.declared.word.Word.TheVariants.{Schema, Title, Ns, P, Let, Phase, Active, Pattern, Param, Rule, Extends, Assert, Report, Diagnostics, Diagnostic, Properties, Property, Dir, Emph, Span, ValueOf, Name}
 
@@ -35,14 +35,9 @@ word_names = (codes "schema", Schema)
     ∷ (codes "name", Name)
     ∷ []
 
--- what a table gives for a name
-abbrev pub look_up : {A : Type 0} → List (List ℕ × A) → List ℕ → Option A
-look_up [] name = None
-look_up (entry ∷ table) name = if bytes_eq name entry.0 then Some entry.1 else look_up table name
-
 -- the element with a local name; None where there is none
 unfoldable pub word_of : List ℕ → Option Word
-word_of name = look_up word_names name
+word_of name = named word_names name
 
 -- dir, emph and span, which hold text in titles and paragraphs
 abbrev pub is_styled : Word → Bool

@@ -1,7 +1,8 @@
 //! The elements of a schema by their names (ISO/IEC 19757-3, section 5).
 
 ghost use Rattle.std.specs.Prelude.{◌≡◌, map};
-ghost use Rattle.sch_rules.specs.Words.{has_text, is_styled, is_word, look_up, word_of};
+ghost use Rattle.sch_base.specs.Named.{named};
+ghost use Rattle.sch_rules.specs.Words.{has_text, is_styled, is_word, word_of};
 ghost use Rattle.sch_rules.specs.RawSchema.{holds_text};
 
 use sch_rules::Word;
@@ -37,12 +38,12 @@ const WORDS: [(&str, Word); 22] = [
 pub fn word_of(name: &str) -> Option<Word>
     ensures { result ≡ word_of name.now }
 {
-    look_up(&WORDS, name)
+    named(&WORDS, name)
 }
 
 /// What a table has beside a name.
-fn look_up(mut table: &[(&str, Word)], name: &str) -> Option<Word>
-    ensures { result ≡ look_up (map (λ entry. (entry.0.now, entry.1)) table.entry.now) name.now }
+fn named(mut table: &[(&str, Word)], name: &str) -> Option<Word>
+    ensures { result ≡ named (map (λ entry. (entry.0.now, entry.1)) table.entry.now) name.now }
 {
     while let [entry, rest @ ..] = table {
         if name == entry.0 {

@@ -5,8 +5,3 @@ use Rattle.std.specs.Prelude.{◌≡◌, ℕ, List, ◌++◌, chars, encode_utf8
 pub record IsAfter (front : List ℕ → List ℕ) (text rest : List ℕ) : Type 0 where
   pub characters : chars text ≡ front (chars text) ++ chars rest
   pub bytes : text ≡ encode_utf8_all (front (chars text)) ++ rest
-
--- a text ends with another one
-pub record IsEnd (text rest : List ℕ) : Type 0 where
-  pub front : List ℕ
-  pub split : text ≡ front ++ rest

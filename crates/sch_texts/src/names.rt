@@ -1,7 +1,8 @@
 //! Names at the front of a text.
 
 ghost use Rattle.std.specs.Prelude.{◌≡◌, ◌++◌};
-ghost use Rattle.sch_texts.specs.Fronts.{IsAfter, IsEnd};
+ghost use Rattle.sch_base.specs.Fronts.{IsEnd};
+ghost use Rattle.sch_texts.specs.Fronts.{IsAfter};
 ghost use Rattle.sch_texts.specs.Names.{longest_name, name_chars};
 
 use sch_base::{is_name_char, is_name_start};

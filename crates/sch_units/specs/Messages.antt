@@ -1,5 +1,6 @@
 -- The texts of messages and of diagnostics (ISO/IEC 19757-3, clauses 5.4 and 5.5).
 use Rattle.std.specs.Prelude.{ℕ, List, [], ◌∷◌, Option, None, Some, slice_get}
+use Rattle.doc_tree.specs.QNames.{written_in}
 use Rattle.doc_tree.specs.Table.{Table}
 use Rattle.xp_typed_tree.specs.TypedTree.{TypedTree}
 use Rattle.xp_outcome.specs.Evaluation.{Evaluation, done, given, bind, gather}
@@ -7,7 +8,7 @@ use Rattle.xp_values.specs.declared.values.EvalFault.{EvalFault}
 use Rattle.xp_values.specs.Texts.{concat}
 use Rattle.xp_meaning.specs.declared.context.Context.{Context}
 use Rattle.xp_meaning.specs.Conversions.{nodes_of, text_in}
-use Rattle.xp_meaning.specs.Names.{name_at, written_in}
+use Rattle.xp_meaning.specs.Names.{name_at}
 use Rattle.xp_meaning.specs.Evaluation.{Lets, meaning}
 use Rattle.sch_compiled.specs.declared.parts.PlanPart.{PlanPart}
 use Rattle.sch_compiled.specs.declared.parts.PlanPart.TheVariants.{Chars, ValueOf, Name}

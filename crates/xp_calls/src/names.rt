@@ -2,9 +2,9 @@
 
 ghost use Rattle.std.specs.Prelude.{◌≡◌, ◌<◌, length, option_map, IfSome, IfOk, Ok};
 ghost use Rattle.doc_tree.specs.Table.{Name, name_of, numbered};
-ghost use Rattle.doc_tree.specs.QNames.{spelled_name};
+ghost use Rattle.doc_tree.specs.QNames.{spelled_name, written_in};
 ghost use Rattle.xp_meaning.specs.Functions.{named_node};
-ghost use Rattle.xp_meaning.specs.Names.{local_in, uri_in, written_in, name_at};
+ghost use Rattle.xp_meaning.specs.Names.{local_in, uri_in, name_at};
 ghost use Rattle.xp_values.specs.Outcomes.{Gives};
 ghost use Rattle.xp_values.specs.declared.values.Value.TheVariants as values;
 

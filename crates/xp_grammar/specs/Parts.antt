@@ -1,6 +1,7 @@
 -- What the productions of XPath 1.0 join their parts to.
-use Rattle.std.specs.Prelude.{ℕ, zero, suc, Bool, ◌==◌, if◌then◌else◌, List, [], ◌∷◌, None, Some}
+use Rattle.std.specs.Prelude.{ℕ, zero, suc, if◌then◌else◌, List, [], ◌∷◌, None, Some}
 use Rattle.std.specs.List.{list_any, before_first, after_first}
+use Rattle.sch_base.specs.Names.{is_colon}
 use Rattle.xp_tree.specs.declared.terms.Level.{Level}
 use Rattle.xp_tree.specs.declared.terms.Level.TheVariants as level
 use Rattle.xp_tree.specs.declared.terms.Operator.{Operator}
@@ -58,9 +59,6 @@ with_steps offset base (step o a t at ps rest) = path offset (from base) (step o
 -- `//` stands for `/descendant-or-self::node()/`: section 2.5
 abbrev pub everywhere : ℕ → Steps → Steps
 everywhere offset rest = step offset axis.DescendantOrSelf test.Node offset no_trees rest
-
-abbrev pub is_colon : ℕ → Bool
-is_colon b = b == 58
 
 -- a name as a node test: section 2.3
 abbrev pub name_test : List ℕ → StepTest

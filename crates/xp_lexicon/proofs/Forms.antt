@@ -6,7 +6,7 @@ use Rattle.xp_grammar.specs.declared.token.Token.{Token}
 use Rattle.xp_lexicon.specs.declared.lexeme.Lexeme.{Lexeme}
 use Rattle.xp_lexicon.specs.declared.lexeme.Lexeme.TheVariants as lexeme
 use Rattle.xp_lexicon.specs.Lexicon.{symbols, is_quote, IsNumber, IsNcname, IsPrefixed, IsLexeme, symbol_lexeme, star_lexeme, literal_lexeme, number_lexeme, variable_lexeme, prefixed_variable_lexeme, name_lexeme, prefixed_name_lexeme, prefix_star_lexeme}
-use Rattle.xp_tree.specs.Named.{named}
+use Rattle.sch_base.specs.Named.{named}
 use Rattle.xp_lexicon.specs.inner.Scanning.{is_symbol, is_star, is_literal, is_number, is_pointed, is_variable, is_name}
 
 pub names : (P : List ℕ → Lexeme → Type 0) → ((bytes : List ℕ) → IsNcname bytes → P bytes (lexeme.Name bytes)) → ((bytes : List ℕ) → IsPrefixed bytes → P bytes (lexeme.PrefixedName bytes)) →

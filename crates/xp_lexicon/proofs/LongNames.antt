@@ -1,9 +1,10 @@
 -- The longest name and the longest variable in front of a text.
 use Rattle.std.proofs.Common.{◌≡◌, ℕ, suc, ◌+◌, ◌≤◌, List, [], ◌∷◌, ◌++◌, length, refl, sym, ap, subst, ◌∙◌, append_assoc, arith, length-append}
 use Rattle.std.proofs.lemmas.List.{append_cancel_right}
+use Rattle.sch_base.specs.Fronts.{IsEnd}
 use Rattle.xp_lexicon.specs.declared.lexeme.Lexeme.TheVariants as lexeme
 use Rattle.xp_lexicon.specs.Lexicon.{IsNcname, IsPrefixed, name_lexeme, prefixed_name_lexeme, prefix_star_lexeme, variable_lexeme, prefixed_variable_lexeme}
-use Rattle.xp_lexicon.specs.inner.Scanning.{IsEnd, IsHead, NoName, LocalAt, NoLocal, NoStar, QnameAt, EndsQname, with_local, without_local, LongestOf, NoneOf, is_name, is_variable}
+use Rattle.xp_lexicon.specs.inner.Scanning.{IsHead, NoName, LocalAt, NoLocal, NoStar, QnameAt, EndsQname, with_local, without_local, LongestOf, NoneOf, is_name, is_variable}
 use Rattle.xp_lexicon.proofs.Names.{no_longer, before_colon, name_takes}
 use Rattle.xp_lexicon.proofs.Forms.{names, variables}
 

@@ -8,9 +8,10 @@ use Rattle.std.proofs.lemmas.Bool.{and_parts, and_from, both_ways}
 use Rattle.std.proofs.lemmas.Bool.Decides.{nat_tests}
 use Rattle.std.proofs.lemmas.List.{append_cancel_right}
 use Rattle.std.proofs.lemmas.Str.{encode_ascii}
+use Rattle.sch_base.specs.Fronts.{IsEnd}
 use Rattle.xp_lexicon.specs.declared.lexeme.Lexeme.TheVariants as lexeme
 use Rattle.xp_lexicon.specs.Lexicon.{are_digits, IsNumber, whole_number, ending_point, inner_point, leading_point, number_lexeme}
-use Rattle.xp_lexicon.specs.inner.Scanning.{Stops, Ran, StartsWith, IsEnd, EndsNumber, with_point, without_point, NumberAt, LongestOf, NoneOf, is_number, is_pointed}
+use Rattle.xp_lexicon.specs.inner.Scanning.{Stops, Ran, StartsWith, EndsNumber, with_point, without_point, NumberAt, LongestOf, NoneOf, is_number, is_pointed}
 use Rattle.xp_lexicon.proofs.Runs.{stops_at_ascii}
 use Rattle.xp_lexicon.proofs.Names.{Within, run_within}
 use Rattle.xp_lexicon.proofs.Forms.{numbers, pointed}

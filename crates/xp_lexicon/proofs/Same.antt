@@ -14,7 +14,7 @@ use Rattle.xp_lexicon.specs.declared.lexeme.Lexeme.TheVariants as lexeme
 use Rattle.xp_lexicon.specs.declared.lexeme.Form.{Form}
 use Rattle.xp_lexicon.specs.declared.lexeme.Form.TheVariants as form
 use Rattle.xp_lexicon.specs.Lexicon.{symbols, are_digits, IsNumber, whole_number, ending_point, inner_point, leading_point, IsNcname, IsPrefixed, IsLexeme, symbol_lexeme, star_lexeme, literal_lexeme, number_lexeme, variable_lexeme, prefixed_variable_lexeme, name_lexeme, prefixed_name_lexeme, prefix_star_lexeme}
-use Rattle.xp_tree.specs.Named.{named}
+use Rattle.sch_base.specs.Named.{named}
 use Rattle.xp_lexicon.specs.inner.Scanning.{form_of, fits, is_symbol, is_literal, is_number, is_pointed, is_variable, is_name, IsHead}
 use Rattle.xp_lexicon.proofs.Runs.{stops_at_end, stops_at_ascii}
 use Rattle.xp_lexicon.proofs.Names.{name_parts, name_takes, before_colon, colon_stops, no_name}

@@ -9,7 +9,7 @@ use Rattle.std.proofs.lemmas.Str.{encode_ascii, encode_same}
 use Rattle.xp_grammar.specs.declared.token.Token.{Token}
 use Rattle.xp_lexicon.specs.declared.lexeme.Lexeme.TheVariants as lexeme
 use Rattle.xp_lexicon.specs.Lexicon.{symbols, symbol_lexeme}
-use Rattle.xp_tree.specs.Named.{named}
+use Rattle.sch_base.specs.Named.{named}
 use Rattle.xp_lexicon.specs.inner.Scanning.{LongestOf, NoneOf, is_symbol}
 use Rattle.xp_lexicon.proofs.Runs.{no_character}
 use Rattle.xp_lexicon.proofs.Forms.{symbolic}

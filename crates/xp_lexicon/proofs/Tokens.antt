@@ -8,15 +8,16 @@ use Rattle.std.proofs.lemmas.Bool.{and_parts, and_left, both_ways, ne_eqb}
 use Rattle.std.proofs.lemmas.Bool.Decides.{nat_tests}
 use Rattle.std.proofs.lemmas.List.{append_cancel_left}
 use Rattle.std.proofs.lemmas.Str.{encode_ascii}
+use Rattle.sch_base.specs.Fronts.{IsEnd}
 use Rattle.sch_base.specs.Characters.{is_whitespace}
 use Rattle.xp_grammar.specs.declared.token.Placed.{Placed}
 use Rattle.xp_grammar.specs.declared.token.Token.{Token}
 use Rattle.xp_grammar.specs.declared.token.Token.TheVariants as token
 use Rattle.xp_lexicon.specs.declared.lexeme.Lexeme.{Lexeme}
 use Rattle.xp_lexicon.specs.Lexicon.{node_types, trimmed, goes_on, called, name_token, starred_token, token_of, ends_operand, IsLexeme, IsLongest, TokensFrom, at_end, whitespace, one_token, bad_token, Tokenized}
-use Rattle.xp_tree.specs.Named.{named}
+use Rattle.sch_base.specs.Named.{named}
 use Rattle.xp_tree.specs.AxisNames.{axis_names}
-use Rattle.xp_lexicon.specs.inner.Scanning.{Stops, Ran, IsEnd, LongestAt, NoToken, ReadAt}
+use Rattle.xp_lexicon.specs.inner.Scanning.{Stops, Ran, LongestAt, NoToken, ReadAt}
 use Rattle.xp_lexicon.proofs.Same.{same_lexeme, lexeme_takes}
 
 pub whitespace_is_low : (c : ℕ) → is_whitespace c ≡ true → c < 128

@@ -9,7 +9,7 @@ use Rattle.sch_base.specs.Characters.{is_whitespace}
 use Rattle.sch_base.specs.Names.{is_ncname}
 use Rattle.xp_tree.specs.declared.terms.Operator.TheVariants as operator
 use Rattle.xp_tree.specs.AxisNames.{axis_names}
-use Rattle.xp_tree.specs.Named.{named}
+use Rattle.sch_base.specs.Named.{named}
 use Rattle.xp_grammar.specs.declared.token.NodeType.{NodeType}
 use Rattle.xp_grammar.specs.declared.token.NodeType.TheVariants as node_type
 use Rattle.xp_grammar.specs.declared.token.Placed.{Placed}

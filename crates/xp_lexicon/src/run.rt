@@ -1,7 +1,8 @@
 //! Characters of one class that stand in a row.
 
 ghost use Rattle.std.specs.Prelude.{◌≡◌, ◌++◌};
-ghost use Rattle.xp_lexicon.specs.inner.Scanning.{holds, Ran, IsEnd};
+ghost use Rattle.sch_base.specs.Fronts.{IsEnd};
+ghost use Rattle.xp_lexicon.specs.inner.Scanning.{holds, Ran};
 
 use sch_base::{is_name_char, is_whitespace};
 

@@ -2,7 +2,7 @@
 
 ghost use Rattle.std.specs.Prelude.{◌≡◌, ◌∷◌, ◌++◌, [], encode_utf8, MatchOption};
 ghost use Rattle.xp_lexicon.specs.Lexicon.{symbols};
-ghost use Rattle.xp_tree.specs.Named.{named};
+ghost use Rattle.sch_base.specs.Named.{named};
 ghost use Rattle.xp_lexicon.specs.inner.Scanning.{LongestOf, NoneOf, is_symbol};
 
 use crate::lexeme::{Lexeme, Scanned};

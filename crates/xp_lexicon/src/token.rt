@@ -4,7 +4,7 @@ ghost use Rattle.std.specs.Prelude.{◌≡◌, [], Some};
 ghost use Rattle.std.specs.Option.{option_map};
 ghost use Rattle.xp_grammar.specs.declared.token.Token.TheVariants as token;
 ghost use Rattle.xp_lexicon.specs.Lexicon.{node_types, called, ends_operand, name_token, starred_token, token_of};
-ghost use Rattle.xp_tree.specs.Named.{named};
+ghost use Rattle.sch_base.specs.Named.{named};
 ghost use Rattle.xp_tree.specs.AxisNames.{axis_names};
 ghost use Rattle.xp_lexicon.specs.declared.lexeme.Lexeme.TheVariants as lexeme;
 

@@ -2,7 +2,7 @@
 
 ghost use Rattle.std.specs.Prelude.{◌≡◌};
 ghost use Rattle.xp_lexicon.specs.Lexicon.{operator_names, node_types};
-ghost use Rattle.xp_tree.specs.Named.{named};
+ghost use Rattle.sch_base.specs.Named.{named};
 
 use xp_grammar::{NodeType, Token};
 use xp_tree::Operator;

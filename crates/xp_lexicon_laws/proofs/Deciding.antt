@@ -5,7 +5,7 @@ use Rattle.std.specs.Str.{is_utf8}
 use Rattle.std.proofs.lemmas.Bool.{cases_eq}
 use Rattle.std.proofs.lemmas.Str.{IsUtf8-from_is_utf8, is_utf8-from_IsUtf8}
 use Rattle.sch_base.specs.Names.{is_ncname}
-use Rattle.xp_tree.specs.Named.{named}
+use Rattle.sch_base.specs.Named.{named}
 use Rattle.xp_grammar.specs.declared.token.Token.{Token}
 use Rattle.xp_lexicon.specs.Lexicon.{IsLexeme, IsNcname, IsNumber, IsPrefixed, are_digits, ending_point, inner_point, is_quote, leading_point, literal_lexeme, name_lexeme, number_lexeme, prefix_star_lexeme, prefixed_name_lexeme, prefixed_variable_lexeme, star_lexeme, symbol_lexeme, symbols, variable_lexeme, whole_number}
 use Rattle.xp_lexicon.specs.declared.lexeme.Lexeme.{Lexeme}

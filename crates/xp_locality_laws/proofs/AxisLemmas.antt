@@ -6,11 +6,11 @@ use Rattle.doc_tree.specs.declared.axes.Axis.{Axis}
 use Rattle.doc_tree.specs.declared.axes.Axis.TheVariants.{Ancestor, AncestorOrSelf, Attribute, Child, Descendant, DescendantOrSelf, Following, FollowingSibling, Parent, Preceding, PrecedingSibling, SelfNode}
 use Rattle.doc_tree.specs.Kinds.{holds_kids, is_element}
 use Rattle.doc_tree.specs.Lists.{mem}
-use Rattle.doc_tree.specs.Table.{Table, attrs_of, is_live, kids_of, kind_of, parent_of}
+use Rattle.doc_tree.specs.Table.{Table, attrs_of, is_live, kids_above, kids_of, kind_of, parent_of}
 use Rattle.doc_tree.specs.Walks.{ancestors}
 use Rattle.doc_tree.proofs.ListLemmas.{mem-head}
 use Rattle.doc_tree.proofs.OrderLemmas.{nested}
-use Rattle.doc_axes.specs.Axes.{axis_nodes, axis_order, backwards, is_ancestor, is_attribute, is_attribute_kind, is_after, is_descendant, is_one, is_sibling, is_reverse, kids_above, kids_beside, on_axis}
+use Rattle.doc_axes.specs.Axes.{axis_nodes, axis_order, backwards, is_ancestor, is_attribute, is_attribute_kind, is_after, is_descendant, is_one, is_sibling, is_reverse, kids_beside, on_axis}
 use Rattle.doc_axes.specs.Plain.{plain_below}
 use Rattle.doc_axes.specs.Sets.{in_order}
 use Rattle.doc_axes.proofs.AxisLemmas.{descendant_axis}

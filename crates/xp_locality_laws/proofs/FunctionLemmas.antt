@@ -1,6 +1,7 @@
 -- A function gives the same in both trees, where the nodes of its arguments and of the context live in both.
 use Rattle.std.proofs.Common.{◌≡◌, ℕ, Bool, true, false, not, cond, ◌&&◌, List, [], ◌∷◌, ◌++◌, length, Option, None, Some, Result, Ok, Err, refl, sym, ap, ◌∙◌, subst}
 use Rattle.std.specs.Prelude.{bytes_eq, codes, find, flat_map}
+use Rattle.doc_tree.specs.QNames.{written_in}
 use Rattle.doc_tree.specs.cell.Cell.{Cell}
 use Rattle.doc_tree.specs.cell.Cell.TheVariants.{Attrs, Value as ValueOf}
 use Rattle.doc_tree.specs.Kinds.{is_element}
@@ -24,7 +25,7 @@ use Rattle.xp_meaning.specs.Conversions.{nodes_of, sum_in}
 use Rattle.xp_meaning.specs.Evaluation.{Lets}
 use Rattle.xp_meaning.specs.Functions.{applied, argument, as_chars, counted, length_in, named_node, nodes_at, number_at, number_of, number_or_own, text_at, text_of, text_or_own}
 use Rattle.xp_meaning.specs.Language.{decided_by, in_language, is_lang, is_language, lang_among, language_along, or_else, own_language}
-use Rattle.xp_meaning.specs.Names.{local_in, name_at, uri_in, written_in}
+use Rattle.xp_meaning.specs.Names.{local_in, name_at, uri_in}
 use Rattle.xp_locality_laws.specs.Locality.{Changed, ContextStays}
 use Rattle.xp_locality_laws.proofs.StandLemmas.{Same, no_nodes, same-bind, same-cond, same-done, same-equal, same-fault, same-made, same-reading}
 use Rattle.xp_locality_laws.proofs.ValueLemmas.{plain_done, same-first_name, same-name_at, same-number_in, same-sum_in, same-text_in}

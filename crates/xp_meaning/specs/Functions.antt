@@ -1,5 +1,6 @@
 -- The functions (XPath 1.0, section 4; XSLT 1.0, section 12.4).
 use Rattle.std.specs.Prelude.{ℕ, zero, suc, pos, Bool, true, false, not, List, [], ◌∷◌, length, Option, None, Some, Result, Ok, option_map, slice_get, flat_map}
+use Rattle.doc_tree.specs.QNames.{written_in}
 use Rattle.doc_tree.specs.Table.{Table}
 use Rattle.xp_typed_tree.specs.declared.function.Function.{Function}
 use Rattle.xp_typed_tree.specs.declared.function.Function.TheVariants as functions
@@ -16,7 +17,7 @@ use Rattle.xp_meaning.specs.declared.want.Want.{Want}
 use Rattle.xp_meaning.specs.declared.want.Want.TheVariants.{AsItIs, AsText, AsNumber}
 use Rattle.xp_meaning.specs.Conversions.{nodes_of, text_in, number_in, sum_in}
 use Rattle.xp_meaning.specs.declared.context.Context.{Context}
-use Rattle.xp_meaning.specs.Names.{name_at, local_in, uri_in, written_in}
+use Rattle.xp_meaning.specs.Names.{name_at, local_in, uri_in}
 use Rattle.xp_meaning.specs.Language.{in_language}
 
 -- what the first argument of `substring` is wanted as, and what the others are

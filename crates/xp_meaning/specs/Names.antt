@@ -1,6 +1,5 @@
 -- The names of nodes (XPath 1.0, section 4.1).
 use Rattle.std.specs.Prelude.{ℕ, List, [], Option, None, Some}
-use Rattle.doc_tree.specs.QNames.{qname_of}
 use Rattle.doc_tree.specs.Table.{Table, Name, name_of}
 
 abbrev pub local_in : Option Name → List ℕ
@@ -10,11 +9,6 @@ local_in (Some name) = name.local
 abbrev pub uri_in : Option Name → List ℕ
 uri_in None = []
 uri_in (Some name) = name.uri
-
--- a name as it is written (Namespaces in XML 1.0, section 4)
-abbrev pub written_in : Option Name → List ℕ
-written_in None = []
-written_in (Some name) = qname_of name
 
 -- the name of a node; none for no node, and for a node without a name
 abbrev pub name_at : Table → Option ℕ → Option Name

@@ -3,6 +3,7 @@ use Rattle.std.proofs.Common.{◌≡◌, ℕ, zero, suc, ◌≤◌, Bool, ℤ, p
 use Rattle.std.specs.Prelude.{flat_map}
 use Rattle.std.specs.List.{AllByRecursion as Each}
 use Rattle.std.proofs.lemmas.Str.{IsUtf8-nil, IsUtf8-append}
+use Rattle.doc_tree.specs.QNames.{written_in}
 use Rattle.doc_tree.specs.Laws.{WellFormed, Ordered}
 use Rattle.doc_tree.specs.Lists.{mem}
 use Rattle.doc_tree.specs.Table.{Table, Name, name_of}
@@ -25,7 +26,7 @@ use Rattle.xp_meaning.specs.declared.want.Want.TheVariants.{AsItIs}
 use Rattle.xp_meaning.specs.declared.context.Context.{Context}
 use Rattle.xp_meaning.specs.Conversions.{nodes_of, number_in, sum_in}
 use Rattle.xp_meaning.specs.Operators.{negated}
-use Rattle.xp_meaning.specs.Names.{name_at, local_in, uri_in, written_in}
+use Rattle.xp_meaning.specs.Names.{name_at, local_in, uri_in}
 use Rattle.xp_meaning.specs.Paths.{filtered, path}
 use Rattle.xp_meaning.specs.Functions.{applied, as_chars, in_place, argument, nodes_at, text_at, text_of, number_at, number_of, length_in, named_node, text_or_own, number_or_own, wanted}
 use Rattle.xp_meaning.specs.Language.{in_language}

@@ -13,7 +13,7 @@ use Rattle.xp_grammar.specs.declared.token.Token.{Token}
 use Rattle.xp_grammar.specs.declared.token.Token.TheVariants as token
 use Rattle.std.specs.List.{list_any}
 use Rattle.xp_lexicon.specs.Lexicon.{symbols, ends_operand, goes_on}
-use Rattle.xp_tree.specs.Named.{named}
+use Rattle.sch_base.specs.Named.{named}
 use Rattle.xp_print.specs.Printed.{operator_text, is_name_like, test_text, quoted}
 use Rattle.xp_tree.specs.AxisNames.{axis_text}
 use Rattle.xp_print_laws.specs.PrintedTokens.{test_tokens}

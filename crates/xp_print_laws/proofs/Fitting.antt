@@ -3,6 +3,7 @@ use Rattle.std.proofs.Common.{◌≡◌, ℕ, suc, ◌+◌, ◌≤◌, ◌<◌, 
 use Rattle.std.specs.List.{list_any, before_first, after_first, position_or_len}
 use Rattle.std.proofs.lemmas.Grind.{common_steps}
 use Rattle.std.proofs.lemmas.List.Sums.{split_at_first, passes_at_first}
+use Rattle.sch_base.specs.Names.{is_colon}
 use Rattle.xp_tree.specs.Tree.{Tree, Steps, Operands, Trees, chain, negated, path, filtered, variable, literal, number, call, root, here, no_steps, step, no_operands, operand, no_trees, tree}
 use Rattle.xp_tree.specs.declared.terms.Level.{Level}
 use Rattle.xp_tree.specs.declared.terms.Level.TheVariants as level
@@ -15,7 +16,7 @@ use Rattle.xp_grammar.specs.declared.token.NodeType.TheVariants as node_type
 use Rattle.xp_grammar.specs.declared.token.Placed.{Placed}
 use Rattle.xp_grammar.specs.declared.token.Token.{Token}
 use Rattle.xp_grammar.specs.declared.token.Token.TheVariants as token
-use Rattle.xp_grammar.specs.Parts.{offset_at, joined, with_signs, with_predicates, with_steps, everywhere, is_colon, name_test, type_test}
+use Rattle.xp_grammar.specs.Parts.{offset_at, joined, with_signs, with_predicates, with_steps, everywhere, name_test, type_test}
 use Rattle.xp_grammar.specs.Grammar.{tighter, IsSigns, no_sign, sign, IsAxis, no_axis, at_sign, named_axis, IsTest, star_test, prefix_test, named_test, typed_test, target_test, IsChain, chained, IsOperand, tighter_chain, signed, one_path, IsOperands, no_more, one_more, IsPath, root_alone, from_root, from_anywhere, from_here, from_filter, IsSteps, dot_step, parent_step, tested_step, IsMoreSteps, no_more_steps, slash_steps, double_slash_steps, IsPredicates, no_predicate, predicate, IsFilter, filter, IsPrimary, a_variable, a_literal, a_number, in_parens, a_call, IsArguments, no_argument, arguments, IsMoreArguments, no_more_arguments, one_more_argument}
 use Rattle.xp_print.specs.Printed.{binding, binding_of, is_name_like, name_like_next, is_base, is_path_base, test_text}
 use Rattle.xp_print_laws.specs.Reprinted.{BeginsNameLike}

@@ -8,7 +8,7 @@ use Rattle.xp_grammar.specs.declared.token.Token.{Token}
 use Rattle.xp_lexicon.specs.declared.lexeme.Lexeme.{Lexeme}
 use Rattle.xp_lexicon.specs.declared.lexeme.Lexeme.TheVariants as lexeme
 use Rattle.xp_lexicon.specs.Lexicon.{symbols, are_digits, IsNumber, whole_number, ending_point, inner_point, leading_point, is_quote, IsLexeme, symbol_lexeme, star_lexeme, literal_lexeme, number_lexeme, variable_lexeme, prefixed_variable_lexeme, name_lexeme, prefixed_name_lexeme, prefix_star_lexeme}
-use Rattle.xp_tree.specs.Named.{named}
+use Rattle.sch_base.specs.Named.{named}
 use Rattle.xp_print_laws.proofs.Fronts.{both, same-heads, same-tails}
 use Rattle.xp_print_laws.proofs.NameBytes.{is_start_byte, NameBytes, name-bytes}
 

@@ -12,7 +12,7 @@ use Rattle.xp_grammar.specs.declared.token.Token.{Token}
 use Rattle.xp_grammar.specs.declared.token.Token.TheVariants as token
 use Rattle.xp_lexicon.specs.declared.lexeme.Lexeme.TheVariants as lexeme
 use Rattle.xp_lexicon.specs.Lexicon.{symbols, operator_names, node_types, IsNumber, IsNcname, is_quote, IsLexeme, symbol_lexeme, star_lexeme, literal_lexeme, number_lexeme, variable_lexeme, prefixed_variable_lexeme, name_lexeme, prefixed_name_lexeme, prefix_star_lexeme, goes_on, called, name_token, token_of, ends_operand, IsRead, TokensFrom, at_end, whitespace, one_token}
-use Rattle.xp_tree.specs.Named.{named}
+use Rattle.sch_base.specs.Named.{named}
 use Rattle.xp_tree.specs.AxisNames.{axis_names}
 use Rattle.xp_print.specs.Printed.{quoted}
 use Rattle.xp_tree.specs.AxisNames.{axis_text}

@@ -10,7 +10,7 @@ use Rattle.xp_tree.specs.declared.terms.AxisName.TheVariants as axes
 use Rattle.xp_grammar.specs.declared.token.NodeType.{NodeType}
 use Rattle.xp_grammar.specs.declared.token.NodeType.TheVariants as node_type
 use Rattle.xp_lexicon.specs.Lexicon.{node_types, IsNcname}
-use Rattle.xp_tree.specs.Named.{named}
+use Rattle.sch_base.specs.Named.{named}
 use Rattle.xp_tree.specs.AxisNames.{axis_names}
 use Rattle.xp_tree.specs.AxisNames.{axis_text}
 

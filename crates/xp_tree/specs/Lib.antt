@@ -2,5 +2,4 @@ pub mod Tree
 pub mod View
 pub mod PatternTree
 pub mod Decimals
-pub mod Named
 pub mod AxisNames

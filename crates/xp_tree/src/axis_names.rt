@@ -2,7 +2,7 @@
 
 ghost use Rattle.std.specs.Prelude.{◌≡◌, map};
 ghost use Rattle.xp_tree.specs.AxisNames.{axis_names, axis_text};
-ghost use Rattle.xp_tree.specs.Named.{named};
+ghost use Rattle.sch_base.specs.Named.{named};
 
 use crate::terms::AxisName;
 

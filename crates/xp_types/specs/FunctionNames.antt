@@ -1,12 +1,9 @@
 -- The names of functions: XPath 1.0, section 4, and XSLT 1.0, section 12.
-use Rattle.std.specs.Prelude.{ℕ, Bool, false, List, [], ◌∷◌, Option, None, Some, ◌||◌, if◌then◌else◌, codes}
+use Rattle.std.specs.Prelude.{ℕ, Bool, false, List, [], ◌∷◌, Option, ◌||◌, codes}
 use Rattle.std.specs.Str.{bytes_eq}
+use Rattle.sch_base.specs.Named.{named}
 use Rattle.xp_typed_tree.specs.declared.function.Function.{Function}
 use Rattle.xp_typed_tree.specs.declared.function.Function.TheVariants.{Last, Position, Current, Count, Sum, LocalName, NamespaceUri, Name, String, Number, Boolean, Not, True, False, Concat, StartsWith, Contains, SubstringBefore, SubstringAfter, Substring, StringLength, NormalizeSpace, Translate, Lang, Floor, Ceiling, Round}
-
-abbrev pub named : List (List ℕ × Function) → List ℕ → Option Function
-named [] name = None
-named (e ∷ es) name = if bytes_eq name e.0 then Some e.1 else named es name
 
 abbrev pub listed : List (List ℕ) → List ℕ → Bool
 listed [] name = false

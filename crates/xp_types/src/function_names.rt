@@ -1,7 +1,8 @@
 //! The names of functions.
 
 ghost use Rattle.std.specs.Prelude.{◌≡◌, map};
-ghost use Rattle.xp_types.specs.FunctionNames.{function_named, is_left_out, listed, named};
+ghost use Rattle.sch_base.specs.Named.{named};
+ghost use Rattle.xp_types.specs.FunctionNames.{function_named, is_left_out, listed};
 
 use xp_typed_tree::Function;
 

@@ -1,6 +1,7 @@
 -- What doesn't ask for the position of the context node is the same at each.
 use Rattle.std.proofs.Common.{◌≡◌, ℕ, ◌+◌, Bool, true, false, ◌||◌, List, [], ◌∷◌, ◌++◌, refl, ◌∙◌, ap, true≢false}
 use Rattle.std.specs.Prelude.{flat_map, if◌then◌else◌}
+use Rattle.doc_tree.specs.QNames.{written_in}
 use Rattle.doc_tree.specs.Table.{Table}
 use Rattle.doc_axes.specs.Sets.{in_order}
 use Rattle.xp_tree.specs.declared.operators.Comparison.{Comparison}
@@ -22,7 +23,7 @@ use Rattle.xp_meaning.specs.declared.want.Want.TheVariants.{AsItIs}
 use Rattle.xp_meaning.specs.Conversions.{nodes_of, number_in, compare_in, as_wanted}
 use Rattle.xp_meaning.specs.declared.context.Context.{Context}
 use Rattle.xp_meaning.specs.Operators.{negated}
-use Rattle.xp_meaning.specs.Names.{name_at, local_in, uri_in, written_in}
+use Rattle.xp_meaning.specs.Names.{name_at, local_in, uri_in}
 use Rattle.xp_meaning.specs.Paths.{Meaning, filtered, path, placed}
 use Rattle.xp_meaning.specs.Functions.{applied, wanted, named_node, text_or_own, number_or_own, as_text, as_number}
 use Rattle.xp_meaning.specs.Evaluation.{Lets, Operand, meaning, meanings, some_true, all_true, compared, combined, values, start_nodes, steps_meant, comparands_meant, combinands_meant}

@@ -1,13 +1,12 @@
 -- The parts of a tree's text, node by node.
-use Rattle.std.specs.Prelude.{ℕ, Bool, true, false, List, [], Option, None, Some}
+use Rattle.std.specs.Prelude.{ℕ, Bool, true, false, List, Option, None, Some}
 use Rattle.std.specs.List.{flat_map}
 use Rattle.pyx_core.specs.Written.{attr_line}
 use Rattle.doc_tree.specs.kind.Kind.{Kind}
 use Rattle.doc_tree.specs.kind.Kind.TheVariants.{Root, Element, Attribute, Text, Comment, Pi}
 use Rattle.doc_tree.specs.Lines.{lines_below, opens, closes}
 use Rattle.doc_tree.specs.Scope.{Decl}
-use Rattle.doc_tree.specs.Table.{Name, Table}
-use Rattle.doc_tree.specs.QNames.{qname_of}
+use Rattle.doc_tree.specs.Table.{Table}
 use Rattle.doc_write.specs.TreeText.{declaring_name, line_text}
 
 -- the text of a node and all below it
@@ -35,8 +34,3 @@ has_name (Some Attribute) = true
 has_name (Some Text) = false
 has_name (Some Comment) = false
 has_name (Some Pi) = true
-
--- the QName of a name, where there is one
-abbrev pub spelled_at : Option Name → List ℕ
-spelled_at None = []
-spelled_at (Some name) = qname_of name

@@ -1,6 +1,6 @@
 -- How the bytes of a script are cut into lines.
 use Rattle.std.specs.Prelude.{◌≡◌, ℕ, ◌+◌, ◌<◌, ◌≤◌, false, List, ◌∷◌, ◌++◌, length, None}
-use Rattle.pyx_core.specs.Before.{is_nil}
+use Rattle.sch_base.specs.Lists.{is_nil}
 use Rattle.edit_script.specs.Script.{lines_of, script_at, with_end}
 
 -- the first line of some bytes, and what follows it; where there is more, the line has its line end

@@ -3,11 +3,12 @@ use Rattle.std.proofs.Common.{◌≡◌, Bool, true, false, not, ◌&&◌, List,
 use Rattle.std.specs.List.{flat_map, list_all}
 use Rattle.std.proofs.lemmas.Bool.{and_parts}
 use Rattle.std.proofs.lemmas.List.Folds.{list_all-append}
+use Rattle.sch_base.specs.Lists.{is_nil}
 use Rattle.pyx_core.specs.declared.event.Attr.{Attr}
 use Rattle.pyx_core.specs.declared.event.Event.{Event}
 use Rattle.pyx_core.specs.declared.event.Event.TheVariants.{Start, End, Chars, Pi, Comment}
 use Rattle.pyx_core.specs.declared.mode.Mode.TheVariants.{Document}
-use Rattle.pyx_core.specs.Before.{is_nil, outer}
+use Rattle.pyx_core.specs.Before.{outer}
 use Rattle.pyx_core.specs.Nesting.{Place, HasRoom, Nest, IsEnd, after, is_attr, is_name, of_chars, place_after, start}
 use Rattle.sch_flat.specs.FlatDocument.{characters, element, only_given}
 use Rattle.sch_flat_laws.specs.FlatText.{are_apart, is_made}

@@ -9,11 +9,11 @@ use Rattle.doc_tree.specs.kind.Kind.TheVariants as kind
 use Rattle.doc_tree.specs.Kinds.{is_element}
 use Rattle.doc_tree.specs.Laws.{HasWaysUp, Ordered, WellFormed}
 use Rattle.doc_tree.specs.Lists.{mem}
-use Rattle.doc_tree.specs.Table.{Table, Name, Content, Facts, root, element, attribute, text, comment, instruction, content_at, content_of, entry_at, is_live, kids_of, kind_at, kind_of, parent_of}
+use Rattle.doc_tree.specs.Table.{Content, Facts, Name, Table, attribute, comment, content_at, content_of, element, entry_at, instruction, is_live, is_root, kids_of, kind_at, kind_of, parent_of, root, text}
 use Rattle.doc_tree.specs.Walks.{order}
 use Rattle.sch_rules.specs.declared.word.Word.{Word}
 use Rattle.sch_rules.specs.declared.word.Word.TheVariants as word
-use Rattle.sch_rules.specs.Elements.{document_element, element_name, first_or, is_at_top, is_foreign, is_ignored, is_other_name, is_root, local_in, word_at}
+use Rattle.sch_rules.specs.Elements.{document_element, element_name, first_or, is_at_top, is_foreign, is_ignored, is_other_name, local_in, word_at}
 use Rattle.sch_rules.specs.FirstBroken.{first_broken}
 use Rattle.sch_rules.specs.Words.{is_word, schematron, word_of}
 use Rattle.sch_flat_laws.proofs.Rules.Unbroken.{Held, held_at}

@@ -9,7 +9,7 @@ use Rattle.doc_table.proofs.ListLemmas.{mem-head}
 use Rattle.doc_tree.specs.Laws.{HasWaysUp, Ordered, Walks, WellFormed}
 use Rattle.doc_tree.specs.Lists.{mem}
 use Rattle.doc_tree.specs.Scope.{HasScopes}
-use Rattle.doc_tree.specs.Table.{Table, Name, attrs_of, content_of, kids_of}
+use Rattle.doc_tree.specs.Table.{Name, Table, attrs_of, content_of, is_root, kids_of}
 use Rattle.doc_tree.specs.Walks.{below, order}
 use Rattle.name_scopes.specs.ScopedTree.{Scoped}
 use Rattle.name_scopes.specs.Scoping.{InScope}
@@ -21,7 +21,7 @@ use Rattle.sch_model.specs.declared.parts.Phase.{Phase}
 use Rattle.sch_rules.specs.declared.named.Named.{Named}
 use Rattle.sch_rules.specs.declared.named.Named.TheVariants as named
 use Rattle.sch_rules.specs.declared.word.Word.TheVariants as word
-use Rattle.sch_rules.specs.Elements.{element_name, is_at_top, is_foreign, is_root, local_at, word_above, word_at}
+use Rattle.sch_rules.specs.Elements.{element_name, is_at_top, is_foreign, local_at, word_above, word_at}
 use Rattle.sch_rules.specs.FirstBroken.{first_broken}
 use Rattle.sch_rules.specs.Keys.{Key, is_taken}
 use Rattle.sch_rules.specs.Rules.{other_binding}

@@ -9,14 +9,14 @@ use Rattle.doc_tree.specs.Kinds.{can_be_kid}
 use Rattle.doc_tree.specs.Laws.{HasWaysUp, Ordered, Walks, WellFormed}
 use Rattle.doc_tree.specs.Lists.{mem}
 use Rattle.doc_tree.specs.Scope.{HasScopes}
-use Rattle.doc_tree.specs.Table.{Table, Name, Content, root, element, attribute, text, comment, instruction, attrs_of, content_of, kids_of, kind_at, kind_of, parent_of}
+use Rattle.doc_tree.specs.Table.{Content, Name, Table, attribute, attrs_of, comment, content_of, element, instruction, is_root, kids_of, kind_at, kind_of, parent_of, root, text}
 use Rattle.doc_tree.specs.Walks.{below}
 use Rattle.name_scopes.specs.Scoping.{InScope}
 use Rattle.pyx_core.specs.declared.event.Event.{Event}
 use Rattle.sch_rules.specs.declared.word.Word.{Word}
 use Rattle.sch_rules.specs.declared.word.Word.TheVariants as word
 use Rattle.sch_rules.specs.Attributes.{is_true, said as said_at}
-use Rattle.sch_rules.specs.Elements.{element_name, is_at_top, is_root, local_at, local_in, word_above, word_at}
+use Rattle.sch_rules.specs.Elements.{element_name, is_at_top, local_at, local_in, word_above, word_at}
 use Rattle.sch_rules.specs.Keys.{Key, keys_of}
 use Rattle.sch_rules.specs.Rules.{mixed, other_binding, unsupported}
 use Rattle.sch_rules.specs.Words.{holds, is_word, may_hold, required, word_of}

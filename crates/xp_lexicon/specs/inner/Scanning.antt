@@ -38,11 +38,6 @@ pub record StartsWith (test : ℕ → Bool) (text : List ℕ) : Type 0 where
   pub split : text ≡ encode_utf8 first ++ behind
   pub pass : test first ≡ true
 
--- a text ends with another one
-pub record IsEnd (text rest : List ℕ) : Type 0 where
-  pub front : List ℕ
-  pub split : text ≡ front ++ rest
-
 -- a name stands in front, and what is after it goes on with no character of a name
 pub record IsHead (text name rest : List ℕ) : Type 0 where
   pub split : text ≡ name ++ rest

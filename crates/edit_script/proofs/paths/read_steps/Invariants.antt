@@ -3,7 +3,8 @@ use Rattle.std.proofs.Common.{◌≡◌, length}
 use denote.Text.{Utf8}
 use denote.Shadow.{shadow}
 use Rattle.std.specs.List.{slice_split}
-use Rattle.edit_script.specs.Paths.{is_slash, steps_of}
+use Rattle.sch_base.specs.Characters.{is_slash}
+use Rattle.edit_script.specs.Paths.{steps_of}
 use Rattle.edit_script.proofs.PathLemmas.{before_steps}
 use Rattle.edit_script.proofs.paths.read_steps.Given as goal
 

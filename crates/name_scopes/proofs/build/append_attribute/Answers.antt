@@ -15,8 +15,8 @@ append_node-requires-clause-fits c =
 pub append_node-requires-clause-name : goal.append_node-requires-clause-name
 append_node-requires-clause-name c = slice_get_within c.number.new.tree.names c.in_ok-id.id _ c.in_ok-id.ensures.numbered.given
 
-pub returns-in-Ok : goal.returns-in-Ok
-returns-in-Ok c =
+pub returns : goal.returns
+returns c =
     let named : numbered c.number.new.tree.names c.in_ok-id.id ≡ attribute_name c.args.scope.now c.args.attr.now.name =
     rw (c.known_uri.ensures, c.split-parts.ensures.prefix, c.split-parts.ensures.local, c.as_str-name.ensures) at (numbered-is c.number.new.tree.names c.in_ok-id.id _ c.in_ok-id.ensures.numbered.given) in
-    rw (c.number.ensures.nodes, named, c.as_str.ensures) at c.in-Ok.ensures.grew
+    rw (c.in_ok-n.ensures, c.number.ensures.nodes, named, c.as_str.ensures) at c.append_node.ensures.grew

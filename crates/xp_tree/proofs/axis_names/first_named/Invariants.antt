@@ -1,6 +1,6 @@
 use Rattle.std.proofs.Common.{◌≡◌, map, length}
 use Rattle.xp_tree.specs.AxisNames.{axis_text}
-use Rattle.xp_tree.specs.Named.{named}
+use Rattle.sch_base.specs.Named.{named}
 use Rattle.xp_tree.proofs.axis_names.first_named.Given as goal
 
 -- the axes before these have other names

@@ -1,5 +1,5 @@
 use Rattle.std.proofs.Common.{◌≡◌, map, length}
-use Rattle.xp_types.specs.FunctionNames.{named}
+use Rattle.sch_base.specs.Named.{named}
 use Rattle.xp_types.proofs.function_names.named.Given as goal
 
 -- the entries before these have other names

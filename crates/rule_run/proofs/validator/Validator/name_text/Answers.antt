@@ -1,10 +1,11 @@
 use Rattle.std.proofs.Common.{ap, sym}
+use Rattle.doc_tree.specs.QNames.{written_in}
 use Rattle.xp_outcome.specs.Evaluation.{done}
 use Rattle.xp_outcome.proofs.Runs.{ran_alike, ran_bind, ran_stop}
 use Rattle.xp_values.specs.declared.values.EvalFault.{EvalFault}
 use Rattle.xp_meaning.proofs.Exits.{exit_same}
 use Rattle.xp_meaning.specs.Functions.{named_node}
-use Rattle.xp_meaning.specs.Names.{name_at, written_in}
+use Rattle.xp_meaning.specs.Names.{name_at}
 use Rattle.sch_units.specs.Messages.{alone}
 use Rattle.rule_run.proofs.validator.Validator.name_text.Goals as goal
 

@@ -1,5 +1,6 @@
 use Rattle.std.proofs.Common.{Ok, subst}
-use Rattle.xp_meaning.specs.Names.{written_in, name_at}
+use Rattle.doc_tree.specs.QNames.{written_in}
+use Rattle.xp_meaning.specs.Names.{name_at}
 use Rattle.xp_values.specs.Outcomes.{Gives}
 use Rattle.xp_values.specs.declared.values.Value.TheVariants as values
 use Rattle.xp_calls.proofs.caller.Caller.name.Goals as goal
