@@ -1,0 +1,3 @@
+mod WayLemmas
+mod CoverLemmas
+mod AlikeLemmas

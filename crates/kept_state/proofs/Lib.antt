@@ -1,0 +1,13 @@
+mod SetLemmas
+mod ReadLemmas
+mod UnitLemmas
+mod LiveLemmas
+mod EditLemmas
+mod PairLemmas
+mod LetLemmas
+mod RightLemmas
+mod DirtyLemmas
+mod ReachedLemmas
+mod LetStepLemmas
+mod PairStepLemmas
+mod UnitListLemmas

@@ -1,0 +1,5 @@
+pub mod Kept
+pub mod Steps
+pub mod Running
+pub mod Laws
+pub mod Refreshing

@@ -1,0 +1,3 @@
+mod MatchingLemmas
+mod MessageLemmas
+mod UnitLemmas

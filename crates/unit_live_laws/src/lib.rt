@@ -1,0 +1,11 @@
+//! The cells that units read are of live nodes, and so are the nodes that lets in force give.
+#![tactic(auto)]
+
+ghost use Rattle.unit_live_laws.specs.LiveReads.{LetsGiveLiveNodes, UnitsReadLiveCells};
+
+/// The cells that a let in force reads, or a live node under a pattern, are of live nodes, where the nodes of the lets' values
+/// live; so are the nodes of the value that a let in force gives.
+pub fn units_read_live_cells()
+    ensures reads { UnitsReadLiveCells }
+    ensures answers { LetsGiveLiveNodes }
+{}
