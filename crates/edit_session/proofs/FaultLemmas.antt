@@ -87,7 +87,7 @@ units-clear plan T ordered is =
     (none-of-map (has_fault plan T) in_force (range_with_len 0 (length plan.lets)) (let-clear plan T is))
     (none-of-range (has_fault plan T) (node_units T) 0 (length plan.patterns) (λ p above below. nodes-clear plan T ordered is p (omega arith)))
 
-run-clear : (plan : Plan) (T : Table) (since : Option Since) → Ordered T → first_fault plan T ≡ None → list_any (has_fault plan T) (units_to_run plan since T) ≡ false
+pub run-clear : (plan : Plan) (T : Table) (since : Option Since) → Ordered T → first_fault plan T ≡ None → list_any (has_fault plan T) (units_to_run plan since T) ≡ false
 run-clear plan T None ordered is = units-clear plan T ordered is
 run-clear plan T (Some since) ordered is = none-kept (has_fault plan T) (is_dirty plan since.base T since.touched) (units_of plan T) (units-clear plan T ordered is)
 

@@ -5,3 +5,4 @@ pub mod CountLemmas
 pub mod UnitLemmas
 pub mod KeptLemmas
 pub mod FaultLemmas
+pub mod CountingLemmas

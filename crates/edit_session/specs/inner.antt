@@ -1,3 +1,4 @@
 pub mod Evaluated
 pub mod Kept
 pub mod Shown
+pub mod Counting

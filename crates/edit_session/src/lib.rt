@@ -1,6 +1,7 @@
 //! A document under a plan, as an editor has it: it is edited by commands, and its state is written at any time.
 #![tactic(auto)]
 
+mod counting;
 mod kept;
 mod laws;
 mod pairs;
@@ -9,6 +10,7 @@ mod refusal;
 mod session;
 mod state;
 
+pub use counting::Counts;
 pub use laws::{pair_cap_is_for_pairs, stale_after_edit};
 pub use refusal::OpenRefusal;
 pub use session::Session;

@@ -1,6 +1,6 @@
 //! The session of an editor.
 
-ghost use Rattle.std.specs.Prelude.{◌≡◌, ◌≤◌, true, false, length, None, IfErr, IfOk, IfSome, OnErr, OnOk};
+ghost use Rattle.std.specs.Prelude.{◌≡◌, ◌≤◌, ◌+◌, true, false, length, None, IfErr, IfOk, IfSome, OnErr, OnOk};
 ghost use Rattle.doc_tree.specs.Kinds.{is_document};
 ghost use Rattle.doc_tree.specs.Laws.{WellFormed};
 ghost use Rattle.doc_edit_laws.specs.Along.{Edit};
@@ -11,11 +11,13 @@ ghost use Rattle.edit_commands.specs.Touched.{touched_by};
 ghost use Rattle.sch_compiled.specs.Soundness.{IsSound};
 ghost use Rattle.edit_costs.specs.Costs.{Raised, cost_of};
 ghost use Rattle.edit_costs.specs.Dirty.{stale_units, units_to_run};
+ghost use Rattle.edit_session.specs.Counts.{counts_of};
 ghost use Rattle.edit_session.specs.Laws.{LedTo};
 ghost use Rattle.edit_session.specs.Pairs.{has_too_many_pairs, pair_cap_for};
 ghost use Rattle.edit_session.specs.Standing.{RefusesOpening, done_more, evaluated_over, since_of};
 ghost use Rattle.edit_session.specs.Wrote.{RoseBy, UnlessMemory, WroteState};
 
+use crate::counting::{Counts, count_units};
 use crate::kept::{mark, refreshed};
 use crate::pairs::{has_too_many_pairs, pair_cap_for, units_over};
 use crate::past::Remembered;
@@ -188,6 +190,39 @@ impl Session {
         self.tree.laws();
         self.refresh(steps)?;
         self.write_kept(sink)
+    }
+
+    /// Evaluates what `refresh` does, and counts: the rules that fire, the assertions that fail and the reports that succeed, over all
+    /// nodes under all active patterns, and whether the state is a fault.
+    ///
+    /// Looks at the outcomes of the nodes at which a rule fires or a fault was met.
+    pub fn counts<L: Ledger>(&mut self, steps: &mut Steps<L>) -> Result<Counts, AllocError>
+        ensures counted { IfOk result (λ counts. counts ≡ counts_of self.old.plan self.old.tree.nodes) }
+        ensures tree { self.new.tree ≡ self.old.tree }
+        ensures plan { self.new.plan ≡ self.old.plan }
+        ensures fresh { OnOk result (self.new.past ≡ evaluated_over self.old.tree.nodes) }
+        ensures raised { OnOk result (Raised self.old.plan self.old.tree.nodes
+            (units_to_run self.old.plan (since_of self.old.past) self.old.tree.nodes) steps.old steps.new) }
+        ensures exactly { IfOk result (λ counts. counts.faulted ≡ false → steps.new ≡ steps.old + cost_of self.old.plan self.old.tree.nodes
+            (units_to_run self.old.plan (since_of self.old.past) self.old.tree.nodes)) }
+        ensures steps { steps.old ≤ steps.new }
+    {
+        self.tree.laws();
+        match self.refresh(steps) {
+            Ok(()) => self.count_kept(),
+            Err(refused) => Err(refused),
+        }
+    }
+
+    /// What is counted of the document, whose units were evaluated.
+    fn count_kept(&self) -> Result<Counts, AllocError>
+        requires { self.now.past ≡ evaluated_over self.now.tree.nodes }
+        ensures { IfOk result (λ counts. counts ≡ counts_of self.now.plan self.now.tree.nodes) }
+    {
+        match &self.kept {
+            Some(kept) => count_units(self.alloc, &self.plan, &self.tree, kept),
+            None => unreachable!(),
+        }
     }
 
     /// Writes the state of the document, whose units were evaluated; answers what it shows.

@@ -5,3 +5,4 @@ pub mod FollowLemmas
 pub mod RunLemmas
 pub mod OneOutput
 pub mod StepLemmas
+pub mod MeasureLemmas

@@ -35,8 +35,11 @@ use Rattle.sch_stops.specs.declared.refusal.FileRefusal.TheVariants.{TooLarge}
 use Rattle.sch_stops.specs.declared.refusal.ScriptRefusal.TheVariants as script
 use Rattle.sch_words.specs.declared.status.Status.TheVariants.{ScriptRefused, Usage}
 use Rattle.sch_stops.specs.Refusals.{script_refused_line}
-use Rattle.sch_cli.specs.Behaviours.{Any, IsEnd, IsOutput, Opening, OpeningAll, States, Treeing, asked_by, behaviour, too_many_pairs, tree_under}
-use Rattle.sch_words.specs.Commands.{Command, tell, expand, validate, follow, command_of}
+use Rattle.sch_measure.specs.Shelf.{measure_files}
+use Rattle.sch_measure.specs.declared.shelf.TheConstants.{SCHEMA_NAME, DOCUMENT_NAME, SCRIPT_NAME}
+use Rattle.sch_cli.specs.Behaviours.{Any, Apart, IsEnd, IsOutput, Making, Measures, Opening, OpeningAll, States, Treeing, asked_by, behaviour, too_many_pairs, tree_under}
+use Rattle.sch_cli.specs.Measuring.{LeadsTo, measure_text, measured_as, past_edited, past_refused, to_a_fault, to_the_end}
+use Rattle.sch_words.specs.Commands.{Command, tell, expand, validate, follow, measure, command_of, default_phase}
 use Rattle.sch_loading.specs.Documents.{IsDocument, IsParsed}
 use Rattle.sch_cli.specs.Following.{Follows, comes_to_end, edits, refuses, stops_at, then_shown, under}
 use Rattle.sch_stops.specs.EditLines.{edit_line, refused_line}
@@ -116,6 +119,45 @@ module _ (one_edit : OneEdit) (plan : Plan) where
   one-states : (T : Table) (bytes : List ℕ) (a b : Output) → States plan T bytes a → States plan T bytes b → a ≡ b
   one-states T bytes a b p q = p.2 ∙ ap (in_front (state_text plan T)) (one-follows T 1 (shows plan T) (script_of bytes) (script_of bytes) p.0 q.0 refl p.1 q.1) ∙ sym q.2
 
+  -- and so is the document that commands make
+  one-leads : (T : Table) (script other : Script) (U V : Table) → script ≡ other → LeadsTo plan T script U → LeadsTo plan T other V → U ≡ V
+  one-leads T _ _ _ _ same (to_the_end _) (to_the_end _) = refl
+  one-leads T _ _ _ _ same (to_the_end _) (to_a_fault _ fault) = refl
+  one-leads T _ _ _ _ same (to_the_end _) (past_refused _ V command reason rest some leads) = absurd (ends-or-goes command rest same)
+  one-leads T _ _ _ _ same (to_the_end _) (past_edited _ W V command rest none makes leads) = absurd (ends-or-goes command rest same)
+  one-leads T _ _ _ _ same (to_a_fault _ fault) (to_the_end _) = refl
+  one-leads T _ _ _ _ same (to_a_fault _ fault) (to_a_fault _ found) = refl
+  one-leads T _ _ _ _ same (to_a_fault _ fault) (past_refused _ V command reason rest some leads) = absurd (stops-or-goes fault command rest same)
+  one-leads T _ _ _ _ same (to_a_fault _ fault) (past_edited _ W V command rest none makes leads) = absurd (stops-or-goes fault command rest same)
+  one-leads T _ _ _ _ same (past_refused _ U command reason rest some leads) (to_the_end _) = absurd (ends-or-goes command rest (sym same))
+  one-leads T _ _ _ _ same (past_refused _ U command reason rest some leads) (to_a_fault _ fault) = absurd (stops-or-goes fault command rest (sym same))
+  one-leads T _ _ _ _ same (past_refused _ U command reason rest some leads) (past_refused _ V other cause more so behind) =
+      one-leads T rest more U V (command-same command other rest more same).1 leads behind
+  one-leads T _ _ _ _ same (past_refused _ U command reason rest some leads) (past_edited _ W V other more none makes behind) =
+      let at = command-same command other rest more same in
+      absurd (refused-or-none some (ap (command_refusal (under plan T)) at.0 ∙ none))
+  one-leads T _ _ _ _ same (past_edited _ X U command rest none makes leads) (to_the_end _) = absurd (ends-or-goes command rest (sym same))
+  one-leads T _ _ _ _ same (past_edited _ X U command rest none makes leads) (to_a_fault _ fault) = absurd (stops-or-goes fault command rest (sym same))
+  one-leads T _ _ _ _ same (past_edited _ X U command rest none makes leads) (past_refused _ V other cause more so behind) =
+      let at = command-same command other rest more same in
+      absurd (refused-or-none (ap (command_refusal (under plan T)) at.0 ∙ so) none)
+  one-leads T _ _ _ _ same (past_edited _ X U command rest none makes leads) (past_edited _ W V other more empty made behind) =
+      let at = command-same command other rest more same in
+      let trees : W ≡ X = sym (one_edit T X W command makes (subst (λ (c : EditCommand). IsEdited T c W) (sym at.0) made)) in
+      one-leads X rest more U V at.1 leads (subst (λ (Y : Table). LeadsTo plan Y more V) trees behind)
+
+  pub one-measures : (T : Table) (bytes : List ℕ) (a b : Output) → Measures plan T bytes a → Measures plan T bytes b → a ≡ b
+  one-measures T bytes a b p q =
+      let lasts : p.last ≡ q.last = one-leads T (script_of bytes) (script_of bytes) p.last q.last refl p.leads q.leads in
+      p.is
+      ∙ ap (λ (U : Table). measured_as p.followed.ends (measure_text plan T U) p.followed) lasts
+      ∙ ap (λ (o : Output). measured_as o.ends (measure_text plan T q.last) o) (one-states T bytes p.followed q.followed p.states q.states)
+      ∙ sym q.is
+
+-- stages over another shelf
+pub one-apart : {A : Type 0} (stage : Stage A) → Single stage → Single (Apart stage)
+one-apart stage one opened others came other p q decided so = (p.0 ∙ sym q.0, (one p.1 q.1 came other p.2 q.2 decided so).1)
+
 -- what was read of a file is one thing where the outside did not fail
 one-fetching : (files : Files) (name : List ℕ) (limit : ℕ) → Single (Fetching files name limit)
 one-fetching files name limit opened others came other p q decided so =
@@ -180,6 +222,13 @@ module _ (one_tree : OneTree) (one_inclusion : OneInclusion) (one_plan : OnePlan
       (one-opening phase schema document) (λ treed. one-then (Scripting files script) (λ bytes. Is (goes (record { treed = treed; script = bytes })))
       (one-scripting script) (λ bytes. one-is (goes (record { treed = treed; script = bytes }))))
 
+-- what is made for a measure
+pub one-making : OneTree → OneInclusion → OnePlan → OneEdit → (items : ℕ) → Single (Making items)
+one-making one_tree one_inclusion one_plan one_edit items =
+    one-apart (OpeningAll (measure_files items) default_phase SCHEMA_NAME.now DOCUMENT_NAME.now SCRIPT_NAME.now)
+    (one-opening-all one_tree one_inclusion one_plan one_edit (measure_files items) default_phase SCHEMA_NAME.now DOCUMENT_NAME.now SCRIPT_NAME.now)
+
+module _ (one_tree : OneTree) (one_inclusion : OneInclusion) (one_plan : OnePlan) (one_edit : OneEdit) (files : Files) where
   -- and so the output of a run
   one-from : {A : Type 0} (ready : Stage A) (outputs : A → Output → Type 0) → Single ready → ((value : A) (a b : Output) → outputs value a → outputs value b → a ≡ b) → Single (Then ready (λ value. Any (outputs value)))
   one-from ready outputs one each = one-then ready (λ value. Any (outputs value)) one (λ value. one-by (outputs value) goes (each value))
@@ -191,11 +240,13 @@ module _ (one_tree : OneTree) (one_inclusion : OneInclusion) (one_plan : OnePlan
   one-ends None = one-written (Is (halts (stopped Usage usage_line))) (one-is (halts (stopped Usage usage_line)))
   one-ends (Some (tell notice)) = one-written (Is (goes (notice_output notice))) (one-is (goes (notice_output notice)))
   one-ends (Some (expand schema)) = one-written (Then (Expanding files schema) (λ flat. Is (goes (expanded flat))))
-      (one-then (Expanding files schema) (λ flat. Is (goes (expanded flat))) (one-expanding schema) (λ flat. one-is (goes (expanded flat))))
+      (one-then (Expanding files schema) (λ flat. Is (goes (expanded flat))) (one-expanding one_tree one_inclusion one_plan one_edit files schema) (λ flat. one-is (goes (expanded flat))))
   one-ends (Some (validate phase schema document)) = one-from (Opening files phase schema document) (λ at output. output ≡ state at.plan at.tree)
-      (one-opening phase schema document) (λ at a b p q. p ∙ sym q)
+      (one-opening one_tree one_inclusion one_plan one_edit files phase schema document) (λ at a b p q. p ∙ sym q)
   one-ends (Some (follow phase schema document script)) = one-from (OpeningAll files phase schema document script) (λ at. States at.treed.plan at.treed.tree at.script)
-      (one-opening-all phase schema document script) (λ at. one-states one_edit at.treed.plan at.treed.tree at.script)
+      (one-opening-all one_tree one_inclusion one_plan one_edit files phase schema document script) (λ at. one-states one_edit at.treed.plan at.treed.tree at.script)
+  one-ends (Some (measure items)) = one-from (Making items) (λ at. Measures at.treed.plan at.treed.tree at.script)
+      (one-making one_tree one_inclusion one_plan one_edit items) (λ at. one-measures one_edit at.treed.plan at.treed.tree at.script)
 
   one-end : (stages : Stage Output) → Single stages → (opened others : List (List ℕ)) (a b : Output) → IsEnd stages opened a → IsEnd stages others b → a ≡ b
   one-end stages one opened others a b p q =

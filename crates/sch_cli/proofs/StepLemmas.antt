@@ -205,7 +205,7 @@ rest_stops_counting earlier later before after costed error stop result is says 
     by script.Memory found = λ first start was. tt
 
 -- where the writing stops, nothing is said
-unsaid : (R : List ℕ → Type 0) (W M : Type 0) (costs : ℕ → Type 0) (before after : ℕ) (stop : Stop) → ByCause (λ _. ⊥) R W M stop → CountsAlong costs before after (Err stop)
+pub unsaid : (R : List ℕ → Type 0) (W M : Type 0) (costs : ℕ → Type 0) (before after : ℕ) (stop : Stop) → ByCause (λ _. ⊥) R W M stop → CountsAlong costs before after (Err stop)
 unsaid R W M costs before after Usage says = tt
 unsaid R W M costs before after (SchemaRefused refusal) says = tt
 unsaid R W M costs before after (DocumentRefused refusal) says = tt

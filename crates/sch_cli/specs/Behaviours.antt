@@ -8,8 +8,11 @@ use Rattle.edit_session.specs.Pairs.{has_too_many_pairs}
 use Rattle.edit_session.specs.State.{shows, state_text}
 use Rattle.sch_stops.specs.declared.refusal.DocumentRefusal.TheVariants.{TooManyPairs}
 use Rattle.sch_words.specs.declared.status.Status.TheVariants.{DocumentRefused, Usage}
-use Rattle.sch_words.specs.Commands.{Command, tell, expand, validate, follow, command_of}
+use Rattle.sch_words.specs.Commands.{Command, tell, expand, validate, follow, measure, command_of, default_phase}
+use Rattle.sch_measure.specs.Shelf.{measure_files}
+use Rattle.sch_measure.specs.declared.shelf.TheConstants.{SCHEMA_NAME, DOCUMENT_NAME, SCRIPT_NAME}
 use Rattle.sch_cli.specs.Following.{Begins, Follows}
+use Rattle.sch_cli.specs.Measuring.{LeadsTo, measure_text, measured_as}
 use Rattle.sch_loading.specs.Loading.{Expanding, Loading, Planning, Scripting}
 use Rattle.sch_stops.specs.Output.{Output, stopped, usage_line}
 use Rattle.sch_cli.specs.Output.{expanded, in_front, notice_output, state}
@@ -63,6 +66,28 @@ BeginsStates plan T script text =
 abbrev pub StatesCost : Plan → Table → List ℕ → ℕ → Type 0
 StatesCost plan T script cost = (later : ℕ) × EditsCost plan T (script_of script) later × (cost ≡ first_cost plan T + later)
 
+-- What is made for a measure
+
+-- stages over another shelf, which open no file of this one
+abbrev pub Apart : {A : Type 0} → Stage A → Stage A
+Apart stage opened came = (opened ≡ []) × (others : List (List ℕ)) × stage others came
+
+-- the document under its plan and the script that are made for so many items
+abbrev pub Making : ℕ → Stage Scripted
+Making items = Apart (OpeningAll (measure_files items) default_phase SCHEMA_NAME.now DOCUMENT_NAME.now SCRIPT_NAME.now)
+
+-- what is measured of a document and of what the commands of a script make of it, by what comes of following the script
+pub record Measures (plan : Plan) (T : Table) (script : List ℕ) (output : Output) : Type 0 where
+  pub followed : Output
+  pub states : States plan T script followed
+  pub last : Table
+  pub leads : LeadsTo plan T (script_of script) last
+  pub is : output ≡ measured_as followed.ends (measure_text plan T last) followed
+
+-- and the text of it
+abbrev pub MeasuresText : Plan → Table → List ℕ → List ℕ → Type 0
+MeasuresText plan T script text = (output : Output) × Measures plan T script output × (text ≡ output.out)
+
 -- Commands
 
 -- what words ask for: the files that they name, in the order in which they are opened; by the content of the files the stages up to
@@ -103,6 +128,9 @@ behaviour (Some (validate phase schema document)) =
 behaviour (Some (follow phase schema document script)) =
     from (schema_file schema ∷ file document ∷ file script ∷ []) (λ files. OpeningAll files phase schema document script)
     (λ at. States at.treed.plan at.treed.tree at.script) (λ at. BeginsStates at.treed.plan at.treed.tree at.script)
+    (λ at. StatesCost at.treed.plan at.treed.tree at.script) true
+behaviour (Some (measure items)) =
+    from [] (λ files. Making items) (λ at. Measures at.treed.plan at.treed.tree at.script) (λ at. MeasuresText at.treed.plan at.treed.tree at.script)
     (λ at. StatesCost at.treed.plan at.treed.tree at.script) true
 
 -- what the words ask for

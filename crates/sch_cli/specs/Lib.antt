@@ -1,7 +1,10 @@
 pub use Rattle.sch_words.specs.Commands
 pub use Rattle.sch_words.specs.Notices
+pub use Rattle.sch_words.specs.Counts
 pub use Rattle.sch_words.specs.Status
 pub use Rattle.sch_words.specs.declared.status
+pub use Rattle.sch_measure.specs.Texts
+pub use Rattle.sch_measure.specs.Shelf
 pub use Rattle.sch_stops.specs.Refusals
 pub use Rattle.sch_stops.specs.EditLines
 pub use Rattle.sch_stops.specs.Stops
@@ -12,6 +15,7 @@ pub use Rattle.sch_loading.specs.Reads
 pub mod Output
 pub mod Following
 pub mod Steps
+pub mod Measuring
 pub mod Behaviours
 pub mod OneOutput
 pub mod Runs

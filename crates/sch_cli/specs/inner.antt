@@ -2,3 +2,4 @@ pub mod Writing
 pub mod Carried
 pub mod Followers
 pub mod Counts
+pub mod Measurers

@@ -52,13 +52,13 @@ pub(crate) fn follow<S: Shelf, O: Sink, L: Ledger>(
 
 /// A document under a plan, and the bytes of a script for it.
 #[derive(Drop)]
-struct Scripted {
-    session: Session,
-    script: Bytes,
+pub(crate) struct Scripted {
+    pub(crate) session: Session,
+    pub(crate) script: Bytes,
 }
 
 /// The document and the script that are asked for.
-fn load_scripted<S: Shelf>(
+pub(crate) fn load_scripted<S: Shelf>(
     alloc: Global,
     asked: ScriptedValidation<'_>,
     shelf: &mut S,

@@ -4,6 +4,7 @@
 mod expansion;
 mod following;
 mod laws;
+mod measuring;
 mod notice;
 mod program;
 mod validation;

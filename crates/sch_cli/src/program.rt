@@ -15,6 +15,7 @@ ghost use Rattle.sch_cli.specs.inner.Carried.{Carried, HasStatus, line_of_end, s
 
 use crate::expansion::expand_schema;
 use crate::following::follow;
+use crate::measuring::measure;
 use crate::notice::write_notice;
 use crate::validation::validate;
 use edit_session::Shown;
@@ -85,6 +86,7 @@ fn carry_out<S: Shelf, O: Sink, L: Ledger>(
         Some(Command::Expand { schema }) => expand_schema(alloc, schema, shelf, out),
         Some(Command::Validate(asked)) => validate(alloc, asked, shelf, out, steps),
         Some(Command::Follow(asked)) => follow(alloc, asked, shelf, out, steps),
+        Some(Command::Measure { items }) => measure(alloc, items, out, steps),
     }
 }
 

@@ -10,17 +10,17 @@ use Rattle.name_scopes.specs.ScopedTree.{OneTree}
 use Rattle.sch_compiled.specs.declared.plan.Plan.{Plan}
 use Rattle.sch_include.specs.Included.{OneInclusion}
 use Rattle.sch_plan.specs.OnePlan.{OnePlan}
-use Rattle.sch_words.specs.Commands.{Command, tell, expand, validate, follow, command_of}
+use Rattle.sch_words.specs.Commands.{Command, tell, expand, validate, follow, measure, command_of}
 use Rattle.sch_words.specs.declared.status.Status.TheVariants.{Usage}
 use Rattle.sch_stops.specs.EditLines.{edit_line, refused_line}
 use Rattle.sch_stops.specs.Output.{Output, stopped, usage_line}
 use Rattle.sch_loading.specs.Loading.{Expanding}
 use Rattle.sch_loading.specs.Stages.{Came, Is, Onward, Stage, Then, goes, halts, unread}
 use Rattle.sch_loading.proofs.StageLemmas.{Single, one-is, one-then, through}
-use Rattle.sch_cli.specs.Behaviours.{Any, BeginsStates, IsEnd, Opening, OpeningAll, States, behaviour}
+use Rattle.sch_cli.specs.Behaviours.{Any, BeginsStates, IsEnd, Making, Measures, MeasuresText, Opening, OpeningAll, States, behaviour}
 use Rattle.sch_cli.specs.Following.{Begins, Follows, edited, nothing_yet, refused, then_shown}
 use Rattle.sch_cli.specs.Output.{expanded, in_front, notice_output, state}
-use Rattle.sch_cli.proofs.OneOutput.{one-expanding, one-opening, one-opening-all}
+use Rattle.sch_cli.proofs.OneOutput.{one-expanding, one-making, one-measures, one-opening, one-opening-all}
 use Rattle.sch_cli_laws.specs.Decided.{BegunIsFront}
 use Rattle.sch_cli_laws.proofs.ScriptCases.{WritesEdited, WritesRefused, follows-onto, refused-or-none, refused-same}
 
@@ -122,6 +122,13 @@ module _ (one_tree : OneTree) (one_inclusion : OneInclusion) (one_plan : OnePlan
       begun-front (OpeningAll files phase schema document script) (one-opening-all one_tree one_inclusion one_plan one_edit files phase schema document script)
       (λ at. States at.treed.plan at.treed.tree at.script) (λ at. BeginsStates at.treed.plan at.treed.tree at.script)
       (λ at. states-front one_edit at.treed.plan at.treed.tree at.script)
+  asked-front (Some (measure items)) =
+      begun-front (Making items) (one-making one_tree one_inclusion one_plan one_edit items)
+      (λ at. Measures at.treed.plan at.treed.tree at.script) (λ at. MeasuresText at.treed.plan at.treed.tree at.script)
+      (λ at text output begun whole. (
+        [],
+        ap (λ (o : Output). o.out) (one-measures one_edit at.treed.plan at.treed.tree at.script output begun.0 whole begun.1) ∙ sym begun.2 ∙ sym (append-nil text),
+      ))
 
 pub begun-is-front : OneTree → OneInclusion → OnePlan → OneEdit → BegunIsFront
 begun-is-front one_tree one_inclusion one_plan one_edit words files opened text output begun found =

@@ -9,16 +9,16 @@ use Rattle.name_scopes.specs.ScopedTree.{OneTree}
 use Rattle.sch_compiled.specs.declared.plan.Plan.{Plan}
 use Rattle.sch_include.specs.Included.{OneInclusion}
 use Rattle.sch_plan.specs.OnePlan.{OnePlan}
-use Rattle.sch_words.specs.Commands.{Command, tell, expand, validate, follow, command_of}
+use Rattle.sch_words.specs.Commands.{Command, tell, expand, validate, follow, measure, command_of}
 use Rattle.sch_words.specs.declared.status.Status.TheVariants.{Usage}
 use Rattle.sch_stops.specs.Output.{Output, stopped, usage_line}
 use Rattle.sch_loading.specs.Loading.{Expanding}
 use Rattle.sch_loading.specs.Stages.{Is, Stage, Then, goes, halts}
 use Rattle.sch_loading.proofs.StageLemmas.{Single, one-by, one-is, one-then}
-use Rattle.sch_cli.specs.Behaviours.{Any, Opening, OpeningAll, StatesCost, behaviour}
+use Rattle.sch_cli.specs.Behaviours.{Any, Making, Opening, OpeningAll, StatesCost, behaviour}
 use Rattle.sch_cli.specs.Output.{expanded, notice_output}
 use Rattle.sch_cli.specs.Steps.{EditsCost, at_a_fault, at_the_end, edit_cost, first_cost, of_edited, of_refused}
-use Rattle.sch_cli.proofs.OneOutput.{one-expanding, one-opening, one-opening-all}
+use Rattle.sch_cli.proofs.OneOutput.{one-expanding, one-making, one-opening, one-opening-all}
 use Rattle.sch_cli_laws.specs.Decided.{OneCost}
 use Rattle.sch_cli_laws.proofs.ScriptCases.{CostsEdited, CostsRefused, costs-nothing, costs-onto, costs-stops, refused-or-none}
 
@@ -65,6 +65,9 @@ module _ (one_tree : OneTree) (one_inclusion : OneInclusion) (one_plan : OnePlan
   one-costs (Some (follow phase schema document script)) =
       visited (OpeningAll files phase schema document script) (λ at. StatesCost at.treed.plan at.treed.tree at.script)
       (one-opening-all one_tree one_inclusion one_plan one_edit files phase schema document script) (λ at. one-states-cost one_edit at.treed.plan at.treed.tree at.script)
+  one-costs (Some (measure items)) =
+      visited (Making items) (λ at. StatesCost at.treed.plan at.treed.tree at.script) (one-making one_tree one_inclusion one_plan one_edit items)
+      (λ at. one-states-cost one_edit at.treed.plan at.treed.tree at.script)
 
 pub one-cost : OneTree → OneInclusion → OnePlan → OneEdit → OneCost
 one-cost one_tree one_inclusion one_plan one_edit words files a b p q =

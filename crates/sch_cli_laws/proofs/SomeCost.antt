@@ -6,13 +6,13 @@ use Rattle.edit_script.specs.Script.{Script, script_of}
 use Rattle.edit_session.specs.State.{shows}
 use Rattle.edit_session.specs.declared.state.Shown.{Shown}
 use Rattle.sch_compiled.specs.declared.plan.Plan.{Plan}
-use Rattle.sch_words.specs.Commands.{Command, tell, expand, validate, follow, command_of}
+use Rattle.sch_words.specs.Commands.{Command, tell, expand, validate, follow, measure, command_of}
 use Rattle.sch_words.specs.declared.status.Status.TheVariants.{Usage}
 use Rattle.sch_stops.specs.Output.{Output, stopped, usage_line}
 use Rattle.sch_loading.specs.Loading.{Expanding}
 use Rattle.sch_loading.specs.Stages.{Is, Stage, Then, goes, halts}
 use Rattle.sch_loading.proofs.StageLemmas.{through}
-use Rattle.sch_cli.specs.Behaviours.{Any, Opening, OpeningAll, States, StatesCost, behaviour}
+use Rattle.sch_cli.specs.Behaviours.{Any, Making, Measures, Opening, OpeningAll, States, StatesCost, behaviour}
 use Rattle.sch_cli.specs.Following.{Follows, comes_to_end, edits, refuses, stops_at, then_shown}
 use Rattle.sch_cli.specs.Output.{expanded, notice_output, state}
 use Rattle.sch_cli.specs.Steps.{EditsCost, at_a_fault, at_the_end, edit_cost, first_cost, of_edited, of_refused}
@@ -65,6 +65,9 @@ asked-cost files (Some (validate phase schema document)) =
 asked-cost files (Some (follow phase schema document script)) =
     visited (OpeningAll files phase schema document script) (λ at. States at.treed.plan at.treed.tree at.script) (λ at. StatesCost at.treed.plan at.treed.tree at.script)
     (λ at. states-cost at.treed.plan at.treed.tree at.script)
+asked-cost files (Some (measure items)) =
+    visited (Making items) (λ at. Measures at.treed.plan at.treed.tree at.script) (λ at. StatesCost at.treed.plan at.treed.tree at.script)
+    (λ at output measures. states-cost at.treed.plan at.treed.tree at.script measures.followed measures.states)
 
 pub some-cost : SomeCost
 some-cost words files = asked-cost files (command_of words)

@@ -38,7 +38,9 @@ use Rattle.sch_plan_laws.specs.Planned.{EachPhaseIsCompiled}
 use Rattle.edit_session.specs.Pairs.{has_too_many_pairs}
 use Rattle.edit_session.specs.State.{shows, state_text}
 use Rattle.edit_session.specs.declared.state.Shown.{Shown}
-use Rattle.sch_words.specs.Commands.{Command, tell, expand, validate, follow, command_of}
+use Rattle.sch_words.specs.Commands.{Command, tell, expand, validate, follow, measure, command_of, default_phase}
+use Rattle.sch_measure.specs.Shelf.{measure_files}
+use Rattle.sch_measure.specs.declared.shelf.TheConstants.{SCHEMA_NAME, DOCUMENT_NAME, SCRIPT_NAME}
 use Rattle.sch_words.specs.declared.status.Status.TheVariants.{SchemaRefused, ScriptRefused, Usage}
 use Rattle.sch_stops.specs.declared.refusal.FileRefusal.TheVariants as refusal
 use Rattle.sch_stops.specs.declared.refusal.ScriptRefusal.TheVariants as script
@@ -47,11 +49,12 @@ use Rattle.sch_stops.specs.Output.{Output, stopped, usage_line}
 use Rattle.sch_stops.specs.Refusals.{include_line, script_refused_line}
 use Rattle.sch_loading.specs.Loading.{Compiling, Expanding, Fetching, Flattening, Inclusion, Loading, Parsing, Planning, Reading, Scripting, as_script, at_include, held_under, missing, refused_document, refused_file, refused_rule, script_too_large}
 use Rattle.sch_loading.specs.Stages.{Is, Stage, Then, goes, halt_at, halt_if, halts}
-use Rattle.sch_cli.specs.Behaviours.{Any, IsEnd, Opening, OpeningAll, Scripted, States, Treed, Treeing, behaviour, too_many_pairs, tree_under}
+use Rattle.sch_cli.specs.Behaviours.{Any, IsEnd, Making, Measures, Opening, OpeningAll, Scripted, States, Treed, Treeing, behaviour, too_many_pairs, tree_under}
 use Rattle.sch_cli.specs.Following.{Follows, comes_to_end, edits, refuses, stops_at, then_shown, under}
+use Rattle.sch_cli.specs.Measuring.{LeadsTo, measure_text, measured_as, past_edited, past_refused, to_a_fault, to_the_end}
 use Rattle.sch_cli.specs.Output.{ended, expanded, in_front, notice_output, state}
 use Rattle.sch_cli_laws.specs.Ended.{SomeOutput}
-use Rattle.sch_cli_laws.proofs.Ways.{Anything, Ends, goes-ends, halt-at-ends, halt-if-ends, halted, on_with, then-ends}
+use Rattle.sch_cli_laws.proofs.Ways.{apart-ends, Anything, Ends, goes-ends, halt-at-ends, halt-if-ends, halted, on_with, then-ends}
 
 -- the tree of a document
 abbrev IsTree : Table → Type 0
@@ -60,6 +63,13 @@ IsTree T = WellFormed T × (is_document T ≡ true)
 -- no more bytes than a limit, where there are bytes
 abbrev IsShort : ℕ → Option (List ℕ) → Type 0
 IsShort limit found = IfSome found (λ bytes. length bytes ≤ limit)
+
+-- a document's tree is one, and a script is short enough
+abbrev IsTreed : Treed → Type 0
+IsTreed treed = IsTree treed.tree
+
+abbrev IsScripted : Scripted → Type 0
+IsScripted at = IsTree at.treed.tree × (length at.script ≤ MAX_SCRIPT_BYTES)
 
 -- what is to come of a script, by its parts
 abbrev script_with : List Edit → Option ScriptFault → Script
@@ -89,6 +99,23 @@ module _ (makes_trees : EditsMakeTrees) (keeps_trees : EditsKeepTrees) (plan : P
   some-states formed T bytes tree short =
       let rest = some-follows (script_of bytes).commands (script_of bytes).fault T 1 (shows plan T) tree (formed bytes short) in
       (in_front (state_text plan T) rest.0, (rest.0, rest.1, refl))
+
+  -- what is written for the commands of a script is written for those that make some document
+  follows-leads : (T : Table) (number : ℕ) (seen : Shown) (script : Script) (output : Output) → Follows plan T number seen script output → (U : Table) × LeadsTo plan T script U
+  follows-leads T number seen _ _ (comes_to_end _ _ _) = (T, to_the_end T)
+  follows-leads T number seen _ _ (stops_at _ _ _ fault) = (T, to_a_fault T fault)
+  follows-leads T number seen _ _ (refuses _ _ _ command reason rest output some follows) =
+      let later = follows-leads T (number + 1) seen rest output follows in (later.0, past_refused T later.0 command reason rest some later.1)
+  follows-leads T number seen _ _ (edits _ V _ _ command rest output none makes follows) =
+      let later = follows-leads V (number + 1) (then_shown seen (shows plan V)) rest output follows in (later.0, past_edited T V later.0 command rest none makes later.1)
+
+  some-measures : ScriptsAreWellFormed → (T : Table) (bytes : List ℕ) → IsTree T → length bytes ≤ MAX_SCRIPT_BYTES → (output : Output) × Measures plan T bytes output
+  some-measures formed T bytes tree short =
+      let states = some-states formed T bytes tree short in
+      let last = follows-leads T 1 (shows plan T) (script_of bytes) states.1.0 states.1.1 in (
+        measured_as states.0.ends (measure_text plan T last.0) states.0,
+        record { followed = states.0; states = states.1; last = last.0; leads = last.1; is = refl },
+      )
 
 -- an include stops a run, but where the outside failed
 halted-at : (what : IncludeKind) (name : List ℕ) → (what ≡ kind.Failed → ⊥) → (output : Output) × (at_include what name ≡ halts output)
@@ -172,12 +199,6 @@ module _ (trees : DocumentsHaveTrees) (some_inclusion : SomeInclusion) (each_com
       then-ends (Fetching files name MAX_SCRIPT_BYTES) (λ found. Is (as_script found)) (IsShort MAX_SCRIPT_BYTES) (λ bytes. length bytes ≤ MAX_SCRIPT_BYTES)
       (fetching-ends name MAX_SCRIPT_BYTES) script-ends
 
-  abbrev IsTreed : Treed → Type 0
-  IsTreed treed = IsTree treed.tree
-
-  abbrev IsScripted : Scripted → Type 0
-  IsScripted at = IsTree at.treed.tree × (length at.script ≤ MAX_SCRIPT_BYTES)
-
   treeing-ends : (plan : Plan) (document : List ℕ) → Ends (Treeing files plan document) IsTreed
   treeing-ends plan document =
       then-ends (Loading files document) (λ T. Is (halt_if (has_too_many_pairs plan T) too_many_pairs (tree_under plan T))) IsTree IsTreed (loading-ends document)
@@ -194,6 +215,13 @@ module _ (trees : DocumentsHaveTrees) (some_inclusion : SomeInclusion) (each_com
       (λ treed tree. then-ends (Scripting files script) (λ bytes. Is (goes (record { treed = treed; script = bytes }))) (λ bytes. length bytes ≤ MAX_SCRIPT_BYTES) IsScripted
       (scripting-ends script) (λ bytes short. goes-ends (record { treed = treed; script = bytes }) IsScripted (tree, short)))
 
+-- what is made for a measure
+making-ends : DocumentsHaveTrees → SomeInclusion → EachPhaseIsCompiled → (items : ℕ) → Ends (Making items) IsScripted
+making-ends trees some_inclusion each_compiled items =
+    apart-ends (OpeningAll (measure_files items) default_phase SCHEMA_NAME.now DOCUMENT_NAME.now SCRIPT_NAME.now) IsScripted
+    (opening-all-ends trees some_inclusion each_compiled (measure_files items) default_phase SCHEMA_NAME.now DOCUMENT_NAME.now SCRIPT_NAME.now)
+
+module _ (trees : DocumentsHaveTrees) (some_inclusion : SomeInclusion) (each_compiled : EachPhaseIsCompiled) (files : Files) where
   -- and so each command
   from-ends : {A : Type 0} (ready : Stage A) (outputs : A → Output → Type 0) (holds : A → Type 0) → Ends ready holds →
       ((value : A) → holds value → (output : Output) × outputs value output) → Ends (Then ready (λ value. Any (outputs value))) Anything
@@ -209,13 +237,16 @@ module _ (trees : DocumentsHaveTrees) (some_inclusion : SomeInclusion) (each_com
     asked-ends (Some (tell notice)) = written-ends (Is (goes (notice_output notice))) (goes-ends (notice_output notice) Anything tt)
     asked-ends (Some (expand schema)) =
         written-ends (Then (Expanding files schema) (λ flat. Is (goes (expanded flat))))
-        (then-ends (Expanding files schema) (λ flat. Is (goes (expanded flat))) Anything Anything (expanding-ends schema) (λ flat any. goes-ends (expanded flat) Anything tt))
+        (then-ends (Expanding files schema) (λ flat. Is (goes (expanded flat))) Anything Anything (expanding-ends trees some_inclusion each_compiled files schema) (λ flat any. goes-ends (expanded flat) Anything tt))
     asked-ends (Some (validate phase schema document)) =
-        from-ends (Opening files phase schema document) (λ at output. output ≡ state at.plan at.tree) IsTreed (opening-ends phase schema document)
+        from-ends (Opening files phase schema document) (λ at output. output ≡ state at.plan at.tree) IsTreed (opening-ends trees some_inclusion each_compiled files phase schema document)
         (λ at tree. (state at.plan at.tree, refl))
     asked-ends (Some (follow phase schema document script)) =
-        from-ends (OpeningAll files phase schema document script) (λ at. States at.treed.plan at.treed.tree at.script) IsScripted (opening-all-ends phase schema document script)
+        from-ends (OpeningAll files phase schema document script) (λ at. States at.treed.plan at.treed.tree at.script) IsScripted (opening-all-ends trees some_inclusion each_compiled files phase schema document script)
         (λ at is. some-states makes_trees keeps_trees at.treed.plan formed at.treed.tree at.script is.0 is.1)
+    asked-ends (Some (measure items)) =
+        from-ends (Making items) (λ at. Measures at.treed.plan at.treed.tree at.script) IsScripted (making-ends trees some_inclusion each_compiled items)
+        (λ at is. some-measures makes_trees keeps_trees at.treed.plan formed at.treed.tree at.script is.0 is.1)
 
 -- and so a run
 abbrev IsOf : Stage Output → Output → Type 0

@@ -3,6 +3,7 @@ use Rattle.std.proofs.Common.{List, [], ◌++◌, ℕ, Bool, true, false, Option
 use Rattle.sch_stops.specs.Output.{Output}
 use Rattle.sch_loading.specs.Stages.{Is, Stage, Then, goes, halt_at, halt_if, halts}
 use Rattle.sch_loading.proofs.StageLemmas.{goes-first, halts-first}
+use Rattle.sch_cli.specs.Behaviours.{Apart}
 
 -- a stage goes on with a value of which something holds, or halts the run
 pub data Ends {A : Type 0} (stage : Stage A) (holds : A → Type 0) : Type 0 where
@@ -34,3 +35,8 @@ halt-if-ends false output value holds is = on_with [] value (refl, refl) is
 pub halt-at-ends : {A F : Type 0} (fault : Option F) (output : F → Output) (value : A) (holds : A → Type 0) → holds value → Ends (Is (halt_at fault output value)) holds
 halt-at-ends (Some fault) output value holds is = halted [] (output fault) (refl, refl)
 halt-at-ends None output value holds is = on_with [] value (refl, refl) is
+
+-- stages over another shelf
+pub apart-ends : {A : Type 0} (stage : Stage A) (holds : A → Type 0) → Ends stage holds → Ends (Apart stage) holds
+apart-ends stage holds (on_with opened value goes_on is) = on_with [] value (refl, opened, goes_on) is
+apart-ends stage holds (halted opened output stops) = halted [] output (refl, opened, stops)

@@ -5,14 +5,16 @@ use Rattle.sch_words.specs.declared.command.Command.{Command as Borrowed}
 use Rattle.sch_words.specs.declared.command.Command.TheVariants as borrowed
 use Rattle.sch_words.specs.declared.notice.Notice.{Notice}
 use Rattle.sch_words.specs.declared.notice.Notice.TheVariants.{Help, Version}
+use Rattle.sch_words.specs.Counts.{count_of}
 
--- what accepted words ask for: to say something of the program, to expand a schema, to validate by a phase and a schema a document, or
--- to do the same after each command of an edit script
+-- what accepted words ask for: to say something of the program, to expand a schema, to validate by a phase and a schema a document, to
+-- do the same after each command of an edit script, or to measure that for a number of items
 pub data Command : Type 0 where
   tell : Notice → Command
   expand : List ℕ → Command
   validate : List ℕ → List ℕ → List ℕ → Command
   follow : List ℕ → List ℕ → List ℕ → List ℕ → Command
+  measure : ℕ → Command
 
 -- a file's name is not empty and does not begin with `-`
 abbrev pub is_file_name : List ℕ → Bool
@@ -37,6 +39,19 @@ notice_of word =
 abbrev pub expansion_of : List ℕ → List ℕ → Option Command
 expansion_of verb schema = if bytes_eq verb (codes "expand") && is_file_name schema then Some (expand schema) else None
 
+-- a measure of N items
+abbrev pub measure_of : Option ℕ → Option Command
+measure_of None = None
+measure_of (Some items) = Some (measure items)
+
+-- `measure N`
+abbrev pub measuring_of : List ℕ → Option Command
+measuring_of count = measure_of (count_of count)
+
+-- `measure N` or `expand S`
+abbrev pub of_one_name : List ℕ → List ℕ → Option Command
+of_one_name verb word = if bytes_eq verb (codes "measure") then measuring_of word else expansion_of verb word
+
 -- `validate S D`, under a phase
 abbrev pub validation_of : List ℕ → List ℕ → List ℕ → List ℕ → Option Command
 validation_of verb phase schema document =
@@ -48,11 +63,11 @@ following_of verb phase schema document script =
     if bytes_eq verb (codes "follow") && is_file_name schema && is_file_name document && is_file_name script
     then Some (follow phase schema document script) else None
 
--- `--help`, `--version`, `expand S`, `validate S D`, `validate --phase P S D`, `follow S D E`, `follow --phase P S D E`, where P is not
--- empty; no other words are accepted
+-- `--help`, `--version`, `expand S`, `measure N`, `validate S D`, `validate --phase P S D`, `follow S D E`, `follow --phase P S D E`, where
+-- P is not empty; no other words are accepted
 abbrev pub command_of : List (List ℕ) → Option Command
 command_of (word ∷ []) = notice_of word
-command_of (verb ∷ schema ∷ []) = expansion_of verb schema
+command_of (verb ∷ word ∷ []) = of_one_name verb word
 command_of (verb ∷ schema ∷ document ∷ []) = validation_of verb default_phase schema document
 command_of (verb ∷ schema ∷ document ∷ script ∷ []) = following_of verb default_phase schema document script
 command_of (verb ∷ option ∷ phase ∷ schema ∷ document ∷ []) =
@@ -67,3 +82,4 @@ shown (borrowed.Tell notice) = tell notice
 shown (borrowed.Expand schema) = expand schema.now
 shown (borrowed.Validate asked) = validate asked.phase.now asked.schema.now asked.document.now
 shown (borrowed.Follow asked) = follow asked.validation.phase.now asked.validation.schema.now asked.validation.document.now asked.script.now
+shown (borrowed.Measure items) = measure items

@@ -1,3 +1,4 @@
 pub mod Notices
+pub mod Counts
 pub mod Commands
 pub mod Status

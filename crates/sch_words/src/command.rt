@@ -1,13 +1,14 @@
 //! Which words are accepted, and what they ask for.
 
 ghost use Rattle.std.specs.Prelude.{◌≡◌, MatchOption, Some, None};
-ghost use Rattle.sch_words.specs.Commands.{command_of, expansion_of, following_of, is_file_name, is_of_phase, notice_of, shown, validation_of};
+ghost use Rattle.sch_words.specs.Commands.{command_of, expansion_of, following_of, is_file_name, is_of_phase, measuring_of, notice_of, of_one_name, shown, validation_of};
 
+use crate::count::count_of;
 use crate::notice::Notice;
 use sch_base::Text;
 
 /// The phase where none is named: the one that the schema chooses.
-const DEFAULT_PHASE: &str = "#DEFAULT";
+pub const DEFAULT_PHASE: &str = "#DEFAULT";
 
 /// What a validation is asked for: the document, by the schema under the phase.
 #[derive(Clone, Copy)]
@@ -35,6 +36,8 @@ pub enum Command<'a> {
     Validate(Validation<'a>),
     /// Validate a document, and again after each command of an edit script; write each report.
     Follow(ScriptedValidation<'a>),
+    /// Follow the script of a document with so many items, both made for that, and write counts of the first state and the last one.
+    Measure { items: u32 },
 }
 
 /// Whether a word may name a file: it is not empty and does not begin with `-`.
@@ -71,6 +74,27 @@ fn expansion_of<'a>(verb: &Text, schema: &'a Text) -> Option<Command<'a>>
         Some(Command::Expand { schema })
     } else {
         None
+    }
+}
+
+/// The measure that the word asks for.
+fn measuring_of(count: &Text) -> Option<Command<'_>>
+    ensures { MatchOption result (measuring_of count.now ≡ None) (λ command. measuring_of count.now ≡ Some (shown command)) }
+{
+    match count_of(count.as_str()) {
+        Some(items) => Some(Command::Measure { items }),
+        None => None,
+    }
+}
+
+/// What a verb and a word behind it ask for.
+fn of_one_name<'a>(verb: &Text, word: &'a Text) -> Option<Command<'a>>
+    ensures { MatchOption result (of_one_name verb.now word.now ≡ None) (λ command. of_one_name verb.now word.now ≡ Some (shown command)) }
+{
+    if verb.as_str() == "measure" {
+        measuring_of(word)
+    } else {
+        expansion_of(verb, word)
     }
 }
 
@@ -112,7 +136,7 @@ pub fn command_of(words: &[Text]) -> Option<Command<'_>>
 {
     match words {
         [word] => notice_of(word),
-        [verb, schema] => expansion_of(verb, schema),
+        [verb, word] => of_one_name(verb, word),
         [verb, schema, document] => {
             let phase = DEFAULT_PHASE;
             let asked = Validation {

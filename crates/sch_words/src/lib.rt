@@ -2,11 +2,13 @@
 #![tactic(auto)]
 
 mod command;
+mod count;
 mod notice;
 mod status;
 mod words;
 
-pub use command::{Command, ScriptedValidation, Validation, command_of};
+pub use command::{Command, DEFAULT_PHASE, ScriptedValidation, Validation, command_of};
+pub use count::MAX_MEASURED_ITEMS;
 pub use notice::Notice;
 pub use status::Status;
 pub use words::Words;

@@ -1,7 +1,7 @@
 -- What the words ask for ends the run.
 use Rattle.std.proofs.Common.{◌∙◌, Some, ap}
 use Rattle.sch_words.specs.declared.command.Command.TheVariants as borrowed
-use Rattle.sch_words.specs.Commands.{command_of, expand, follow, tell, validate}
+use Rattle.sch_words.specs.Commands.{command_of, expand, follow, measure, tell, validate}
 use Rattle.sch_cli.proofs.CarryLemmas.{accepted as writing_accepted}
 use Rattle.sch_cli.proofs.RunLemmas.{accepted, asks, asks_nothing, carries, carries_nothing, carries_notice}
 use Rattle.sch_cli.proofs.program.carry_out.Goals as goal
@@ -65,3 +65,17 @@ returns-in-Some-Follow-clause-usage g c =
     accepted (command_of c.args.words.now) (follow at.asked.validation.phase.now at.asked.validation.schema.now at.asked.validation.document.now at.asked.script.now) c.follow.result
     (rw (← c.as_slice.ensures) (asks c.as_slice.result.now c.command_of.result (borrowed.Follow at.asked) c.command_of.ensures (at.is ∙ ap Some at.field-0-is)))
     c.follow.ensures.accepted
+
+pub returns-in-Some-Measure-clause-carried : goal.returns-in-Some-Measure-clause-carried
+returns-in-Some-Measure-clause-carried g c =
+    let at = c.in-Some-Measure in
+    carries c.args.words.now (measure at.items) _ _ _ _ _ _ c.measure.result
+    (rw (← c.as_slice.ensures) (asks c.as_slice.result.now c.command_of.result (borrowed.Measure at.items) c.command_of.ensures (at.is ∙ ap Some at.field-0-is)))
+    (c.measure.ensures.carried (g.S.Shelf.state c.args.shelf.now))
+
+pub returns-in-Some-Measure-clause-usage : goal.returns-in-Some-Measure-clause-usage
+returns-in-Some-Measure-clause-usage g c =
+    let at = c.in-Some-Measure in
+    accepted (command_of c.args.words.now) (measure at.items) c.measure.result
+    (rw (← c.as_slice.ensures) (asks c.as_slice.result.now c.command_of.result (borrowed.Measure at.items) c.command_of.ensures (at.is ∙ ap Some at.field-0-is)))
+    c.measure.ensures.accepted

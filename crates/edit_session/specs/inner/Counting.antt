@@ -1,0 +1,42 @@
+-- What the counts add up, by the outcomes that are kept.
+use Rattle.std.specs.Prelude.{ℕ, true, false, List, Option, None, Some, sum_by}
+use Rattle.sch_compiled.specs.declared.findings.Outcome.{Outcome}
+use Rattle.sch_compiled.specs.declared.parts.PlanRule.{PlanRule}
+use Rattle.sch_compiled.specs.declared.plan.Plan.{Plan}
+use Rattle.sch_compiled.specs.declared.state_fault.StateFault.{StateFault}
+use Rattle.sch_compiled.specs.Findings.{OutcomeTable, outcome_at}
+use Rattle.sch_compiled.specs.Plan.{rules_of}
+use Rattle.sch_units.specs.Validity.{pattern_numbers}
+use Rattle.kept_units.specs.declared.scanning.Evaluated.{Evaluated}
+use Rattle.kept_units.specs.declared.scanning.Evaluated.TheVariants.{Whole, Faulted}
+use Rattle.edit_session.specs.declared.counting.Counted.{Counted}
+use Rattle.edit_session.specs.declared.counting.Counted.TheVariants.{FiredRules, FailedAssertions, SuccessfulReports}
+use Rattle.edit_session.specs.Counts.{fired_by, found_by}
+
+-- what an outcome adds to a count
+abbrev pub adds : Counted → List PlanRule → Outcome → ℕ
+adds FiredRules rules outcome = fired_by outcome
+adds FailedAssertions rules outcome = found_by false rules outcome
+adds SuccessfulReports rules outcome = found_by true rules outcome
+
+-- what one that is kept adds; where none is, nothing
+abbrev pub adds_kept : Counted → List PlanRule → Option Outcome → ℕ
+adds_kept what rules None = 0
+adds_kept what rules (Some outcome) = adds what rules outcome
+
+-- what a node adds under a pattern with these rules
+abbrev pub node_adds : Counted → OutcomeTable → ℕ → List PlanRule → ℕ → ℕ
+node_adds what found p rules n = adds_kept what rules (outcome_at found p n)
+
+-- what some nodes add under a pattern
+abbrev pub nodes_add : Counted → Plan → OutcomeTable → List ℕ → ℕ → ℕ
+nodes_add what plan found nodes p = sum_by (node_adds what found p (rules_of plan p)) nodes
+
+-- and under all patterns
+abbrev pub pairs_add : Counted → Plan → OutcomeTable → List ℕ → ℕ
+pairs_add what plan found nodes = sum_by (nodes_add what plan found nodes) (pattern_numbers plan)
+
+-- the first fault, by what the units came to
+abbrev pub fault_of : Evaluated → Option StateFault
+fault_of (Whole found) = None
+fault_of (Faulted fault) = Some fault
