@@ -3,7 +3,8 @@ use Rattle.std.proofs.Common.{◌≡◌, ◌≢◌, ℕ, ◌+◌, ◌<◌, ◌�
 use Rattle.std.proofs.lemmas.List.{map-append, at_drop_more, take_more, get_or_append_left}
 use Rattle.doc_table.specs.Table.{Name, numbered, no_name}
 use Rattle.doc_table.specs.declared.node.Node.{Node}
-use Rattle.doc_table.specs.inner.Kept.{NamesAreBelow, depth_at, rank_at, place_in}
+use Rattle.doc_table.specs.Lists.{place_in}
+use Rattle.doc_table.specs.inner.Kept.{NamesAreBelow, depth_at, rank_at}
 use Rattle.doc_table.specs.inner.Views.{node_seen}
 use Rattle.doc_table.proofs.ListLemmas.{eq_or}
 use Rattle.doc_table.proofs.SoundLemmas.{names-more, table-kept}

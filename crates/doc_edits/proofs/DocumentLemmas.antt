@@ -7,10 +7,9 @@ use Rattle.std.proofs.lemmas.List.Sums.{sum_by-cons, sum_by-append, sum_by-take-
 use Rattle.doc_table.specs.declared.kind.Kind.{Kind}
 use Rattle.doc_table.specs.declared.kind.Kind.TheVariants.{Root, Element, Attribute, Text, Comment, Pi}
 use Rattle.doc_table.specs.Kinds.{holds_kids, is_document, is_element, is_text}
-use Rattle.doc_table.specs.Lists.{mem}
+use Rattle.doc_table.specs.Lists.{mem, place_in}
 use Rattle.doc_table.specs.Table.{Facts, Name, Table, attrs_of, content_at, entry_at, is_live, kids_above, kids_of, kind_at, kind_of, parent_of}
 use Rattle.doc_table.specs.Walks.{below}
-use Rattle.doc_table.specs.inner.Kept.{place_in}
 use Rattle.doc_table.specs.inner.Sound.{Formed}
 use Rattle.doc_table.proofs.Appending.{holder-live}
 use Rattle.doc_table.proofs.ListLemmas.{In, In-mem, eq_or, occurs-head}

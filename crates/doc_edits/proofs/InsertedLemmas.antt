@@ -3,10 +3,10 @@ use Rattle.std.proofs.Common.{◌≡◌, ℕ, ◌+◌, ◌-◌, ◌*◌, ◌<◌
 use Rattle.std.proofs.Math.Nat.{mul-le-mul_right}
 use Rattle.doc_table.specs.declared.limits.TheConstants.{MAX_DEPTH}
 use Rattle.doc_table.specs.declared.node.Node.{Node}
-use Rattle.doc_table.specs.Lists.{mem}
+use Rattle.doc_table.specs.Lists.{mem, place_in}
 use Rattle.doc_table.specs.Table.{Name, Table, is_live}
 use Rattle.doc_table.specs.Walks.{order}
-use Rattle.doc_table.specs.inner.Kept.{depth_at, place_in}
+use Rattle.doc_table.specs.inner.Kept.{depth_at}
 use Rattle.doc_table.specs.inner.Parts.{Parts, IsSound, table_of}
 use Rattle.doc_table.specs.inner.Sound.{Formed}
 use Rattle.doc_table.specs.inner.Views.{node_seen}

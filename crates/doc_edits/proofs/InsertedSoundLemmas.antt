@@ -2,10 +2,10 @@
 use Rattle.std.proofs.Common.{◌≡◌, ℕ, ◌+◌, ◌*◌, ◌<◌, ◌≤◌, true, List, [], ◌∷◌, ◌++◌, length, map, get_or, set, Option, None, Some, is_some, refl, sym, ap, ap₂, ◌∙◌, subst, ⊎_elim, true≢false, arith, length-append, length-set}
 use Rattle.std.proofs.lemmas.List.{map-append, length-map, get_or_append_left}
 use Rattle.doc_table.specs.declared.node.Node.{Node}
-use Rattle.doc_table.specs.Lists.{occurs, Rise}
+use Rattle.doc_table.specs.Lists.{occurs, place_in, Rise}
 use Rattle.doc_table.specs.Table.{Table, Name, entry_at, is_live}
 use Rattle.doc_table.specs.Walks.{ancestors, order}
-use Rattle.doc_table.specs.inner.Kept.{NamesAreBelow, depth_at, place_in, rank_at, ranks_of}
+use Rattle.doc_table.specs.inner.Kept.{NamesAreBelow, depth_at, rank_at, ranks_of}
 use Rattle.doc_table.specs.inner.Sound.{Formed, Sound}
 use Rattle.doc_table.specs.inner.Views.{node_seen, table_seen}
 use Rattle.doc_table.proofs.Appending.{holder-live}

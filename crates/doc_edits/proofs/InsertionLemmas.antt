@@ -2,7 +2,7 @@
 use Rattle.std.proofs.Common.{◌≡◌, ◌≢◌, ℕ, ◌+◌, ◌-◌, ◌<◌, ◌≤◌, zero, suc, true, false, List, [], ◌∷◌, ◌++◌, ◌⊎◌, length, map, take, drop, Option, None, Some, is_some, refl, sym, ap, ap₂, ◌∙◌, subst, inl, inr, ⊎_elim, true≢false, arith, append-nil, length-append, length-set, get_or-set_same, get_or-set_other}
 use Rattle.std.proofs.lemmas.List.{length-map, get_or_append_left, get_or_past}
 use Rattle.std.proofs.lemmas.Bool.{cases_lt}
-use Rattle.doc_table.specs.Lists.{occurs}
+use Rattle.doc_table.specs.Lists.{occurs, place_in}
 use Rattle.doc_table.specs.Table.{Table, Facts, entry_at, parent_at, kids_at, attrs_at, content_at, parent_of, kids_of, attrs_of, content_of, is_live}
 use Rattle.doc_table.specs.inner.Forest.{Forest, bare, tree, tops, flat, Shows, ShowsAttributes, Whole, alive}
 use Rattle.doc_table.proofs.ListLemmas.{In, occurs-append, occurs-head, occurs-same, eq_or}
@@ -14,7 +14,6 @@ use Rattle.doc_table.proofs.Telling.{order-flat}
 use Rattle.doc_table.proofs.TreeLaws.{ordered}
 use Rattle.doc_table.proofs.Ways.{live-below, In-live}
 use Rattle.doc_table.specs.inner.Sound.{Formed}
-use Rattle.doc_table.specs.inner.Kept.{place_in}
 use Rattle.doc_edits.specs.Changes.{changed_at, nodes_in, given_number, given_parent, given, with_kid, inserted}
 use Rattle.doc_edits.proofs.NumberingLemmas.{place-first, place-short, place-one, Placed, placed, get-mapped, occurs-map_none, occurs-map_same}
 use Rattle.doc_edits.proofs.GraftLemmas.{moved, tops-moved, size-moved, flat-moved}

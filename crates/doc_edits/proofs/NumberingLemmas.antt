@@ -1,9 +1,8 @@
 -- Places in a list of numbers, and lists of numbers under another numbering.
 use Rattle.std.proofs.Common.{◌≡◌, ◌≢◌, ℕ, ◌+◌, ◌<◌, ◌≤◌, zero, suc, true, List, [], ◌∷◌, ◌++◌, length, map, get_or, refl, sym, ap, ◌∙◌, subst, ⊎_elim, true≢false, arith, eq-eqb, ne_eqb}
 use Rattle.std.proofs.lemmas.List.{get_or-append-add}
-use Rattle.doc_table.specs.Lists.{mem, occurs}
+use Rattle.doc_table.specs.Lists.{mem, occurs, place_in}
 use Rattle.doc_table.proofs.ListLemmas.{In, In-cons, In-mem, mem-In, occurs-head, occurs-other, occurs-same, eq_or}
-use Rattle.doc_table.specs.inner.Kept.{place_in}
 
 pub place-head : (n x : ℕ) (xs : List ℕ) → n ≡ x → place_in n (x ∷ xs) ≡ 0
 place-head n x xs e = rw (eq-eqb n x e) refl

@@ -7,10 +7,10 @@ use Rattle.std.proofs.Math.Seq.{map-set_same}
 use Rattle.sch_base.proofs.Lists.{flat_map-next}
 use Rattle.doc_table.specs.declared.node.Node.{Node}
 use Rattle.doc_table.specs.declared.ranks.TheConstants.{RANK_STEP}
-use Rattle.doc_table.specs.Lists.{occurs, Distinct, Rise}
+use Rattle.doc_table.specs.Lists.{Distinct, occurs, place_in, Rise}
 use Rattle.doc_table.specs.Table.{Table, Name, attrs_of, is_live, kids_of}
 use Rattle.doc_table.specs.Walks.{ancestors, below, order}
-use Rattle.doc_table.specs.inner.Kept.{NamesAreBelow, depth_at, place_in, rank_at, ranks_of}
+use Rattle.doc_table.specs.inner.Kept.{NamesAreBelow, depth_at, rank_at, ranks_of}
 use Rattle.doc_table.specs.inner.Parts.{Parts, table_of}
 use Rattle.doc_table.specs.inner.Sound.{Formed, Sound, count_live, text_held}
 use Rattle.doc_table.specs.inner.Views.{node_seen, table_seen}

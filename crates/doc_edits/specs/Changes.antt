@@ -1,7 +1,7 @@
 -- What edits make of the table of a tree (XPath 1.0, section 5).
 use Rattle.std.specs.Prelude.{ℕ, zero, suc, ◌+◌, ◌==◌, not, ◌&&◌, List, [], ◌∷◌, ◌++◌, length, map, filter, take, drop, Option, None, Some, slice_set, if◌then◌else◌}
 use Rattle.std.specs.List.{flat_map}
-use Rattle.doc_table.specs.inner.Kept.{place_in}
+use Rattle.doc_table.specs.Lists.{place_in}
 use Rattle.doc_table.specs.Kinds.{is_text}
 use Rattle.doc_table.specs.Table.{Content, Facts, Name, Table, attribute, comment, element, entry_at, instruction, kids_above, kids_of, kind_of, parent_of, root, text, value_of}
 use Rattle.doc_table.specs.Walks.{below}

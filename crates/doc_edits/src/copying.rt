@@ -2,9 +2,9 @@
 
 ghost use Rattle.std.specs.Prelude.{◌≡◌, ◌+◌, ◌<◌, ◌≤◌, ◌^◌, ℕ, None, Some, IfOk, length, map, slice_index_or, true};
 ghost use Rattle.doc_names.specs.Name.{numbered};
-ghost use Rattle.doc_table.specs.Lists.{mem};
+ghost use Rattle.doc_table.specs.Lists.{mem, place_in};
 ghost use Rattle.doc_table.specs.declared.node.NodeContent.TheVariants.{Element};
-ghost use Rattle.doc_table.specs.inner.Kept.{NameIsBelow, depth_at, place_in};
+ghost use Rattle.doc_table.specs.inner.Kept.{NameIsBelow, depth_at};
 ghost use Rattle.doc_table.specs.inner.Views.{content_seen};
 ghost use Rattle.doc_edits.specs.Changes.{given_parent};
 ghost use Rattle.doc_edits.specs.Keeping.{NamesGrow};

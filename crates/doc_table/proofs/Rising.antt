@@ -1,10 +1,10 @@
 -- Lists that rise, and numbers given along a list that do.
 use Rattle.std.proofs.Common.{◌≡◌, ◌≢◌, ℕ, ◌+◌, ◌*◌, ◌<◌, ◌≤◌, zero, suc, Bool, true, false, List, [], ◌∷◌, ◌++◌, length, map, Option, None, get_or, refl, sym, ap, ap₂, ◌∙◌, subst, ⊎_elim, arith, ltb, eqb, eq-eqb, ne_eqb, lt-ltb, le-ltb}
 use Rattle.std.proofs.lemmas.List.{map-append}
-use Rattle.doc_table.specs.Lists.{mem, occurs, last_or, Rise}
+use Rattle.doc_table.specs.Lists.{last_or, mem, occurs, place_in, Rise}
 use Rattle.doc_table.specs.Order.{after}
 use Rattle.doc_table.specs.declared.node.Node.{Node}
-use Rattle.doc_table.specs.inner.Kept.{place_in, rank_at, ranks_of}
+use Rattle.doc_table.specs.inner.Kept.{rank_at, ranks_of}
 use Rattle.doc_table.proofs.ListLemmas.{In, In-mem, In-cons, none-mem, occurs-head, occurs-other, occurs-same, eq_or}
 
 pub rise-bounds : (low : ℕ) (ns : List ℕ) (high : ℕ) → Rise low ns high → low ≤ high

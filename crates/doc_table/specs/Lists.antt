@@ -1,4 +1,4 @@
--- Lists of node numbers: membership, how often a number stands in a list, the last one, all below a number, longer lists, and
+-- Lists of node numbers: membership, how often a number stands in a list, its place, the last one, all below a number, longer lists, and
 -- lists that rise.
 use Rattle.std.specs.Prelude.{◌≡◌, ℕ, zero, suc, ◌+◌, ◌≤◌, ◌==◌, Bool, false, ◌||◌, List, [], ◌∷◌, ◌++◌, if◌then◌else◌}
 
@@ -15,6 +15,11 @@ occurs n (m ∷ ms) = (if n == m then 1 else 0) + occurs n ms
 -- no number stands in the list twice
 abbrev pub Distinct : List ℕ → Type 0
 Distinct ms = (n : ℕ) → occurs n ms ≤ 1
+
+-- how many numbers stand before one in a list
+abbrev pub place_in : ℕ → List ℕ → ℕ
+place_in n [] = 0
+place_in n (m ∷ ms) = if n == m then 0 else 1 + place_in n ms
 
 -- the last number of the list, or the given one where it is empty
 abbrev pub last_or : ℕ → List ℕ → ℕ

@@ -1,11 +1,10 @@
 -- Paths, and numbers of places, as a script writes them.
-use Rattle.std.specs.Prelude.{ℕ, Bool, ◌&&◌, ◌==◌, nat_le, if◌then◌else◌, List, [], ◌∷◌, Option, None, Some, codes, slice_index}
+use Rattle.std.specs.Prelude.{ℕ, Bool, ◌&&◌, ◌==◌, if◌then◌else◌, List, [], ◌∷◌, Option, None, Some, codes}
 use Rattle.std.specs.List.{list_any, before_first, after_first, slice_split}
-use Rattle.std.specs.Str.{all_ascii_digits}
-use Rattle.std.specs.Str.Parse.{digits_value}
 use Rattle.sch_base.specs.Lists.{is_nil}
 use Rattle.sch_base.specs.Characters.{is_slash}
 use Rattle.sch_base.specs.Named.{named}
+use Rattle.sch_base.specs.Numbers.{number_up_to}
 use Rattle.doc_tree.specs.kind.Kind.{Kind}
 use Rattle.doc_tree.specs.kind.Kind.TheVariants as kinds
 use Rattle.edit_script.specs.declared.command.PathStep.{PathStep}
@@ -19,15 +18,9 @@ is_open b = b == 91
 abbrev pub is_close : ℕ → Bool
 is_close b = b == 93
 
--- a digit other than 0
-abbrev pub is_leading : ℕ → Bool
-is_leading b = nat_le 49 b && nat_le b 57
-
--- the number of a place: decimal, without leading zeros, from 1 to MAX_PLACE
+-- the number of a place
 abbrev pub number_of : List ℕ → Option ℕ
-number_of text =
-    if is_leading (slice_index text 0) && all_ascii_digits text && nat_le (digits_value 10 text) MAX_PLACE
-    then Some (digits_value 10 text) else None
+number_of text = number_up_to MAX_PLACE text
 
 -- how a step names a kind
 abbrev pub step_names : List (List ℕ × Kind)

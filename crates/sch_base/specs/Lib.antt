@@ -3,3 +3,4 @@ pub mod Fronts
 pub mod Lists
 pub mod Named
 pub mod Names
+pub mod Numbers

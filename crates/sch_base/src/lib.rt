@@ -6,6 +6,7 @@ mod item_list;
 mod laws;
 mod limits;
 mod names;
+mod numbers;
 mod text;
 
 pub use characters::{is_name_char, is_name_start, is_whitespace, is_xml_char};
@@ -18,4 +19,5 @@ pub use limits::{
     MAX_LETS, MAX_NESTING, MAX_PAIRS, MAX_RULES, MAX_TEXT_BYTES,
 };
 pub use names::{is_ncname, split_qname};
+pub use numbers::number_up_to;
 pub use text::Text;

@@ -127,7 +127,7 @@ module _ (T : Table) (G : ℕ → Type 0) (may : Read → Type 0) (closed : Clos
   first_good [] h = tt
   first_good (n ∷ ns) h = (h.0, tt)
 
-  pub text_sound : (v : Value) → Nodes v → Sound may Any (text_in T v)
+  text_sound : (v : Value) → Nodes v → Sound may Any (text_in T v)
   unfolding text_in
   text_sound v h = taking_sound Any (first_of (nodes_of v)) (done (to_text T v)) (first_good (nodes_of v) h) (sound_done may Any (to_text T v) tt)
 

@@ -1,5 +1,5 @@
 -- What is kept beside what contracts see: depths, ranks, and names by number.
-use Rattle.std.specs.Prelude.{ℕ, ◌+◌, ◌<◌, ◌==◌, Bool, true, false, List, [], ◌∷◌, ◌++◌, map, Option, None, Some, slice_index_or, if◌then◌else◌}
+use Rattle.std.specs.Prelude.{ℕ, ◌<◌, Bool, true, false, List, [], ◌∷◌, ◌++◌, map, Option, None, Some, slice_index_or}
 use Rattle.doc_table.specs.declared.node.Node.{Node}
 use Rattle.doc_table.specs.declared.node.NodeContent.{NodeContent}
 use Rattle.doc_table.specs.declared.node.NodeContent.TheVariants as kept
@@ -17,11 +17,6 @@ rank_at (Some node) = node.rank
 -- the ranks of some nodes, by their numbers
 abbrev pub ranks_of : List (Option Node) → List ℕ → List ℕ
 ranks_of nodes ns = map (λ n. rank_at (slice_index_or nodes n None)) ns
-
--- how many numbers stand before one in a list
-abbrev pub place_in : ℕ → List ℕ → ℕ
-place_in n [] = 0
-place_in n (m ∷ ms) = if n == m then 0 else 1 + place_in n ms
 
 -- the name of a node, where it has one, is among the first so many
 abbrev pub NameIsBelow : ℕ → NodeContent → Type 0

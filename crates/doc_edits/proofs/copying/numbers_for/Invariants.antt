@@ -1,5 +1,5 @@
 use Rattle.std.proofs.Common.{◌≡◌, ◌+◌, ◌≤◌, ℕ, length, get_or, drop}
-use Rattle.doc_table.specs.inner.Kept.{place_in}
+use Rattle.doc_table.specs.Lists.{place_in}
 use Rattle.doc_edits.proofs.copying.numbers_for.Given as goal
 
 -- the numbers of the nodes from a place on are written
