@@ -5,7 +5,7 @@ ghost use Rattle.doc_tree.specs.Kinds.{is_document};
 ghost use Rattle.sch_compiled.specs.Soundness.{IsSound};
 
 use crate::texts::{DOCUMENT, SCHEMA};
-use anyhow::{Error, anyhow};
+use anyhow::Error;
 use doc_tree::{MAX_LIVE_TEXT_BYTES, Tree};
 use edit_session::Session;
 use name_scopes::load_tree;
@@ -41,13 +41,7 @@ fn document_of(alloc: Global, text: &[u8]) -> Result<Tree, Error>
     requires { length text.now ≤ MAX_LIVE_TEXT_BYTES }
     ensures { IfOk result (λ tree. is_document tree.nodes ≡ true) }
 {
-    let tree = load_tree(alloc, text)?;
-    if tree.is_document() {
-        Ok(tree)
-    } else {
-        drop(tree);
-        Err(anyhow!("no document"))
-    }
+    Ok(load_tree(alloc, text)?)
 }
 
 /// The plan of a schema's tree, for the phase that it names as its default, or all patterns where it names none.

@@ -8,7 +8,7 @@ use Rattle.std.proofs.lemmas.Bool.{eq-eqb, false_from_ne_true}
 use Rattle.std.proofs.lemmas.List.Sums.{sum_by-cons}
 use Rattle.doc_tree.specs.Laws.{Ordered}
 use Rattle.doc_tree.specs.Lists.{mem}
-use Rattle.doc_tree.specs.Table.{Table}
+use Rattle.doc_tree.specs.Table.{Contents, Table}
 use Rattle.doc_tree.specs.Walks.{order}
 use Rattle.sch_compiled.specs.declared.findings.Outcome.{Outcome}
 use Rattle.sch_compiled.specs.declared.findings.Outcome.TheVariants.{NoRule, Fired, Fault}
@@ -18,18 +18,19 @@ use Rattle.sch_compiled.specs.declared.state_fault.StateFault.{StateFault}
 use Rattle.sch_compiled.specs.Findings.{OutcomeTable, ToldInOrder, is_told, outcome_at}
 use Rattle.sch_compiled.specs.Plan.{rules_of}
 use Rattle.sch_units.specs.Validity.{first_fault, pair_outcome}
-use Rattle.kept_units.specs.declared.scanning.Evaluated.{Evaluated}
-use Rattle.kept_units.specs.declared.scanning.Evaluated.TheVariants.{Whole, Faulted}
-use Rattle.kept_units.specs.Evaluated.{Evaluates}
+use Rattle.state_run.specs.declared.scanning.Evaluated.{Evaluated}
+use Rattle.state_run.specs.declared.scanning.Evaluated.TheVariants.{Whole, Faulted}
+use Rattle.state_run.specs.Evaluated.{Evaluates}
 use Rattle.edit_session.specs.declared.counting.Counted.{Counted}
 use Rattle.edit_session.specs.declared.counting.Counted.TheVariants.{FiredRules, FailedAssertions, SuccessfulReports}
 use Rattle.edit_costs.specs.Costs.{Raised, cost_of}
-use Rattle.edit_costs.specs.Dirty.{Since, units_to_run}
+use Rattle.kept_state.specs.Kept.{Kept}
+use Rattle.kept_state.specs.Running.{to_run}
 use Rattle.edit_session.specs.Counts.{counts_of, failed_assertions, fired_rules, over_pairs, successful_reports}
 use Rattle.edit_session.specs.declared.counting.Counts.{Counts}
-use Rattle.edit_session.specs.Standing.{Standing, evaluated_over}
+use Rattle.edit_session.specs.Standing.{Standing}
 use Rattle.edit_session.specs.inner.Counting.{adds, adds_kept, fault_of, node_adds, nodes_add, pairs_add}
-use Rattle.edit_session.specs.inner.Evaluated.{Holds}
+use Rattle.state_run.specs.Outcomes.{Holds}
 use Rattle.edit_session.proofs.FaultLemmas.{run-clear}
 use Rattle.edit_session.proofs.SearchLemmas.{or_right}
 
@@ -130,22 +131,23 @@ pub at_place : {A B : Type 0} (f : A → B) (xs : List A) (i : ℕ) (x : A) (d :
 at_place f xs i x d is less = ap (λ (o : Option _). option_map_or f o d) (slice_get_read xs (length xs) i x refl less is)
 
 -- a count without a fault rose by the visits of all that was to be evaluated
-pub counted-whole : (plan : Plan) (T : Table) (since : Option Since) (before after : ℕ) → Ordered T → Raised plan T (units_to_run plan since T) before after → is_some (first_fault plan T) ≡ false →
-    after ≡ before + cost_of plan T (units_to_run plan since T)
-counted-whole plan T since before after ordered raised whole = raised.exactly (run-clear plan T since ordered (none (first_fault plan T) whole))
+counted-whole : (plan : Plan) (T : Table) (kept : Kept) (before after : ℕ) → Ordered T → Raised plan T (to_run plan T kept) before after → is_some (first_fault plan T) ≡ false →
+    after ≡ before + cost_of plan T (to_run plan T kept)
+counted-whole plan T kept before after ordered raised whole = raised.exactly (run-clear plan T kept ordered (none (first_fault plan T) whole))
   where
     none : (o : Option StateFault) → is_some o ≡ false → o ≡ None
     none None is = refl
     none (Some fault) is = absurd (cc)
 
 -- what is counted of a session that was refreshed is counted of it as it was
-pub counted-as : {E : Type 0} (before after : Standing) → after ≡ record before { past = evaluated_over before.tree.nodes } → (result : Result Counts E) →
+pub counted-as : {E : Type 0} (before after : Standing) → after.plan ≡ before.plan → after.tree ≡ before.tree → (result : Result Counts E) →
     IfOk result (λ counts. counts ≡ counts_of after.plan after.tree.nodes) → IfOk result (λ counts. counts ≡ counts_of before.plan before.tree.nodes)
-counted-as before after is (Ok counts) counted = counted ∙ ap (λ (s : Standing). counts_of s.plan s.tree.nodes) is
-counted-as before after is (Err error) counted = tt
+counted-as before after plan tree (Ok counts) counted =
+    counted ∙ ap (λ (p : Plan). counts_of p after.tree.nodes) plan ∙ ap (λ (t : Contents). counts_of before.plan t.nodes) tree
+counted-as before after plan tree (Err error) counted = tt
 
-pub counted-by : {E : Type 0} (plan : Plan) (T : Table) (since : Option Since) (before after : ℕ) (result : Result Counts E) → Ordered T → Raised plan T (units_to_run plan since T) before after →
-    IfOk result (λ counts. counts ≡ counts_of plan T) → IfOk result (λ counts. counts.faulted ≡ false → after ≡ before + cost_of plan T (units_to_run plan since T))
-counted-by plan T since before after (Ok counts) ordered raised counted = λ whole.
-    counted-whole plan T since before after ordered raised (sym (ap (λ (c : Counts). c.faulted) counted) ∙ whole)
-counted-by plan T since before after (Err error) ordered raised counted = tt
+pub counted-by : {E : Type 0} (plan : Plan) (T : Table) (kept : Kept) (before after : ℕ) (result : Result Counts E) → Ordered T → Raised plan T (to_run plan T kept) before after →
+    IfOk result (λ counts. counts ≡ counts_of plan T) → IfOk result (λ counts. counts.faulted ≡ false → after ≡ before + cost_of plan T (to_run plan T kept))
+counted-by plan T kept before after (Ok counts) ordered raised counted = λ whole.
+    counted-whole plan T kept before after ordered raised (sym (ap (λ (c : Counts). c.faulted) counted) ∙ whole)
+counted-by plan T kept before after (Err error) ordered raised counted = tt

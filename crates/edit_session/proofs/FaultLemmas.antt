@@ -13,8 +13,9 @@ use Rattle.sch_compiled.specs.declared.state_fault.StateFault.{StateFault}
 use Rattle.sch_units.specs.Units.{lets_of}
 use Rattle.sch_units.specs.Validity.{first_fault, first_let_fault, first_node_fault, first_with, let_fault, pattern_numbers}
 use Rattle.edit_costs.specs.Costs.{Raised, cost_of}
-use Rattle.edit_costs.specs.Dirty.{Since, is_dirty, units_to_run}
-use Rattle.edit_costs.specs.Units.{has_fault, in_force, let_units, node_units, under, units_of}
+use Rattle.edit_costs.specs.Units.{ValidationUnit, has_fault, in_force, let_units, node_units, under, units_of}
+use Rattle.kept_state.specs.Kept.{Kept}
+use Rattle.kept_state.specs.Running.{is_run, to_run}
 use Rattle.edit_session.specs.declared.state.ReportError.{ReportError}
 use Rattle.edit_session.specs.declared.state.Shown.{Shown}
 use Rattle.edit_session.specs.declared.state.Shown.TheVariants.{Fault}
@@ -81,15 +82,14 @@ nodes-clear plan T ordered is p below =
     none-of-kept (has_fault plan T) (under p) (is_live T) (range_with_len 0 (length T))
     (λ n lives. ap (λ (o : Option StateFault). not (is_none o)) (pair_clear plan T is p n below (sym (ordered.live_in_order n) ∙ lives)))
 
-units-clear : (plan : Plan) (T : Table) → Ordered T → first_fault plan T ≡ None → list_any (has_fault plan T) (units_of plan T) ≡ false
+pub units-clear : (plan : Plan) (T : Table) → Ordered T → first_fault plan T ≡ None → list_any (has_fault plan T) (units_of plan T) ≡ false
 units-clear plan T ordered is =
     none-of-both (has_fault plan T) (let_units plan) (flat_map (node_units T) (pattern_numbers plan))
     (none-of-map (has_fault plan T) in_force (range_with_len 0 (length plan.lets)) (let-clear plan T is))
     (none-of-range (has_fault plan T) (node_units T) 0 (length plan.patterns) (λ p above below. nodes-clear plan T ordered is p (omega arith)))
 
-pub run-clear : (plan : Plan) (T : Table) (since : Option Since) → Ordered T → first_fault plan T ≡ None → list_any (has_fault plan T) (units_to_run plan since T) ≡ false
-run-clear plan T None ordered is = units-clear plan T ordered is
-run-clear plan T (Some since) ordered is = none-kept (has_fault plan T) (is_dirty plan since.base T since.touched) (units_of plan T) (units-clear plan T ordered is)
+pub run-clear : (plan : Plan) (T : Table) (kept : Kept) → Ordered T → first_fault plan T ≡ None → list_any (has_fault plan T) (to_run plan T kept) ≡ false
+run-clear plan T kept ordered is = none-kept (has_fault plan T) (is_run plan T kept) (units_of plan T) (units-clear plan T ordered is)
 
 -- What a report shows
 
@@ -100,9 +100,9 @@ first-clear plan T seen is whole = by (first_fault plan T) is
     by None is = refl
     by (Some fault) is = absurd (whole is)
 
--- a report that shows no fault counts the visits of the units that were to be evaluated
-pub counts-whole : (plan : Plan) (T : Table) (since : Option Since) (before after : ℕ) (old new : SinkLog) (result : Result Shown ReportError) → Ordered T →
-    WroteState old new plan T result → Raised plan T (units_to_run plan since T) before after → RoseBy (cost_of plan T (units_to_run plan since T)) before after result
-counts-whole plan T since before after old new (Ok seen) ordered wrote raised = λ whole.
-    raised.exactly (run-clear plan T since ordered (first-clear plan T seen wrote.grown.0 whole))
-counts-whole plan T since before after old new (Err error) ordered wrote raised = tt
+-- a report that shows no fault counts the visits of the units that were to be evaluated, where none of those has a fault then
+pub counts-whole : (plan : Plan) (T : Table) (units : List ValidationUnit) (before after : ℕ) (old new : SinkLog) (result : Result Shown ReportError) →
+    (first_fault plan T ≡ None → list_any (has_fault plan T) units ≡ false) → WroteState old new plan T result → Raised plan T units before after →
+    RoseBy (cost_of plan T units) before after result
+counts-whole plan T units before after old new (Ok seen) clear wrote raised = λ whole. raised.exactly (clear (first-clear plan T seen wrote.grown.0 whole))
+counts-whole plan T units before after old new (Err error) clear wrote raised = tt

@@ -1,38 +1,59 @@
--- What is kept where no unit is stale, and after an edit.
-use Rattle.std.proofs.Common.{◌≡◌, ◌∙◌, Option, None, Some, Result, Ok, Err, IfOk, IfSome, subst, sym}
-use Rattle.doc_tree.specs.Laws.{Ordered}
+-- What is kept where all units are done, and after an edit.
+use Rattle.std.proofs.Common.{◌≡◌, ◌∙◌, ℕ, ◌<◌, Bool, false, Some, length, subst}
+use Rattle.doc_tree.specs.cell.Cell.{Cell}
+use Rattle.doc_tree.specs.Laws.{Ordered, WellFormed}
 use Rattle.doc_tree.specs.Table.{Table}
-use Rattle.edit_script.specs.declared.command.Command.{Command}
-use Rattle.edit_commands.specs.Touched.{touched_by}
+use Rattle.doc_edit_laws.specs.Along.{Edit, Edits, none, then}
+use Rattle.xp_outcome.specs.Slots.{in_slot}
 use Rattle.sch_compiled.specs.declared.plan.Plan.{Plan}
+use Rattle.sch_compiled.specs.Findings.{outcome_at}
+use Rattle.sch_compiled.specs.Soundness.{IsSound}
+use Rattle.sch_units.specs.Units.{lets_of}
+use Rattle.sch_units.specs.Validity.{pair_outcome}
+use Rattle.sch_locality_laws.specs.Locality.{RulesTyped}
+use Rattle.edit_costs.specs.Dirty.{dirty_units}
+use Rattle.edit_costs.specs.Units.{in_force, under}
+use Rattle.state_run.specs.Outcomes.{Holds, LetsHold}
+use Rattle.kept_state.specs.Kept.{Keeps, Kept}
+use Rattle.kept_state.specs.Laws.{DirtyUnitsAreRun, EditsKeep}
+use Rattle.kept_state.specs.Running.{IsDone, IsFresh, to_run}
+use Rattle.kept_state.specs.Steps.{Marks}
 use Rattle.kept_units.specs.declared.kept_units.KeptUnits.{KeptUnits}
-use Rattle.kept_units.specs.Keeping.{Keeps, fresh, touched_too}
-use Rattle.edit_session.specs.Laws.{LedTo}
-use Rattle.edit_session.specs.Standing.{Past, done_more, since_of}
-use Rattle.edit_session.specs.inner.Evaluated.{Holds}
-use Rattle.edit_session.specs.inner.Kept.{AreKept}
+use Rattle.kept_units.specs.Keeping.{seen_in}
 
--- the table of outcomes is that of the tree
-pub holds-fresh : (plan : Plan) (T : Table) (kept : KeptUnits) → Ordered T → Keeps plan T (Some (fresh T)) kept → Holds plan T kept.found
-holds-fresh plan T kept ordered keeps = record {
-  patterns = keeps.patterns;
-  outcomes = λ p n below there. let lives = ordered.live_in_order n ∙ there in keeps.known.outcomes p n below lives lives;
+-- the slots hold the outcomes of the tree
+pub lets-fresh : (plan : Plan) (T : Table) (kept : KeptUnits) → IsFresh plan T (seen_in kept) → LetsHold plan T kept.lets
+lets-fresh plan T kept fresh = record {
+  few = fresh.keeps.few;
+  each = λ slot below.
+      let done : IsDone plan T (seen_in kept) (in_force slot) = fresh.done (in_force slot) below in
+      let gives : in_slot kept.lets slot ≡ in_slot (lets_of plan T) slot = done.right.gives in
+      gives;
 }
 
--- what is kept with the cells that a command touched is kept with the command
-pub kept-more : (plan : Plan) (T U : Table) (past : Option Past) (command : Command) (kept : KeptUnits) →
-    Keeps plan U (touched_too (since_of past) (touched_by T command)) kept → Keeps plan U (since_of (done_more past T command)) kept
-kept-more plan T U None command kept keeps = keeps
-kept-more plan T U (Some past) command kept keeps = keeps
+-- and so does the table of outcomes
+pub holds-fresh : (plan : Plan) (T : Table) (kept : KeptUnits) → Ordered T → kept.found.patterns ≡ length plan.patterns → IsFresh plan T (seen_in kept) → Holds plan T kept.found
+holds-fresh plan T kept ordered patterns fresh = record {
+  patterns = patterns;
+  outcomes = λ p n below there.
+      let done : IsDone plan T (seen_in kept) (under p n) = fresh.done (under p n) (below, ordered.live_in_order n ∙ there) in
+      let gives : outcome_at kept.found p n ≡ Some (pair_outcome plan T p n) = done.right.gives in
+      gives;
+}
 
--- units that are all stale are kept where nothing was evaluated
-pub kept-nothing : {E : Type 0} (plan : Plan) (T : Table) (past : Option Past) (made : Result KeptUnits E) → past ≡ None →
-    IfOk made (λ units. (T : Table) → Keeps plan T None units) → IfOk made (Keeps plan T (since_of past))
-kept-nothing plan T past (Err e) none new = tt
-kept-nothing plan T past (Ok units) none new = subst (λ p. Keeps plan T (since_of p) units) (sym none) (new T)
+-- marks told by a test are those of another that tells the same
+pub marks-same : (touched held : Cell → Bool) (old new : Kept) → ((c : Cell) → held c ≡ touched c) → Marks held old new → Marks touched old new
+marks-same touched held old new same marks = subst (λ (test : Cell → Bool). Marks test old new) (λ i c. same c i) marks
 
--- what is kept is of a tree from which the commands since led to this one
-pub kept-led : (plan : Plan) (T : Table) (past : Option Past) (kept : Option KeptUnits) → AreKept plan T past kept → IfSome past (λ p. LedTo p T)
-kept-led plan T past None none = subst (λ (o : Option Past). IfSome o (λ p. LedTo p T)) (sym none) tt
-kept-led plan T None (Some kept) keeps = tt
-kept-led plan T (Some past) (Some kept) keeps = record { formed = keeps.known.formed; edits = keeps.known.edits }
+-- one edit
+one-edit : (T U : Table) (touched : Cell → Bool) → Edit T U touched → Edits T U touched
+one-edit T U touched edit = (then) T U (λ c. false) touched none edit
+
+-- an edit keeps the state
+pub kept-edited : EditsKeep → (plan : Plan) (T U : Table) (touched : Cell → Bool) (old new : Kept) → WellFormed T → Edit T U touched → Keeps plan T old → Marks touched old new → Keeps plan U new
+kept-edited keep plan T U touched old new formed edit keeps marks = keep plan T U touched old new formed (one-edit T U touched edit) keeps marks
+
+-- where all units were done, those are to be run then that the edit left dirty
+pub dirty-edited : DirtyUnitsAreRun → (plan : Plan) (T U : Table) (touched : Cell → Bool) (old new : Kept) → IsSound plan → WellFormed T → Edit T U touched → Marks touched old new →
+    ((p : ℕ) → p < length plan.patterns → RulesTyped plan p) → IsFresh plan T old → to_run plan U new ≡ dirty_units plan T U touched
+dirty-edited run plan T U touched old new sound formed edit marks typed fresh = run plan T U touched old new sound formed (one-edit T U touched edit) fresh marks typed

@@ -1,7 +1,6 @@
 pub mod SearchLemmas
 pub mod StateLemmas
 pub mod PairLemmas
-pub mod CountLemmas
 pub mod UnitLemmas
 pub mod KeptLemmas
 pub mod FaultLemmas

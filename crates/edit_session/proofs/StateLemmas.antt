@@ -1,5 +1,5 @@
 -- The state of a document from what was evaluated: the table can be reported, and its report is that of the tree.
-use Rattle.std.proofs.Common.{◌≡◌, ◌∙◌, ℕ, ◌+◌, ◌-◌, ◌<◌, ◌≤◌, ◌==◌, Bool, true, false, ◌||◌, if◌then◌else◌, List, [], ◌∷◌, ◌++◌, length, All, Option, None, Some, IsSomeAnd, Result, Ok, Err, refl, sym, ap, subst, arith, codes}
+use Rattle.std.proofs.Common.{◌≡◌, ◌∙◌, ℕ, ◌+◌, ◌-◌, ◌<◌, ◌≤◌, ◌==◌, Bool, true, false, ◌||◌, if◌then◌else◌, List, [], ◌∷◌, ◌++◌, length, All, Option, None, Some, IsSomeAnd, Result, Ok, Err, IsErrAnd, refl, sym, ap, subst, arith, codes}
 use Rattle.std.proofs.lemmas.Bool.{eq-eqb}
 use Rattle.std.proofs.lemmas.List.FromFn.{get_or-range_with_len, length-range_with_len}
 use Rattle.std.specs.List.{enumerate_from, flat_map, range_with_len}
@@ -29,13 +29,15 @@ use Rattle.svrl_out.specs.FaultLine.{IsFaultOf, fault_line}
 use Rattle.svrl_out.specs.Locations.{location_of}
 use Rattle.svrl_out.specs.Report.{IsFindingOf, IsOutcomeOf, IsReportable, Reported, active_pattern, node_lines, ns_lines, outcome_lines, output_attributes, pattern_lines, report}
 use Rattle.sch_io.specs.SinkLog.{SinkLog}
+use Rattle.std.proofs.KnownBytes.{Appends-nil}
 use Rattle.sch_io.specs.Wrote.{Appends}
 use Rattle.edit_session.specs.declared.state.ReportError.{ReportError}
+use Rattle.edit_session.specs.declared.state.ReportError.TheVariants.{Memory}
 use Rattle.edit_session.specs.declared.state.Shown.{Shown}
 use Rattle.edit_session.specs.declared.state.Shown.TheVariants as shown
 use Rattle.edit_session.specs.State.{report_of, shown_by, shows, state_text, text_by}
 use Rattle.edit_session.specs.Wrote.{WroteState}
-use Rattle.edit_session.specs.inner.Evaluated.{Holds}
+use Rattle.state_run.specs.Outcomes.{Holds}
 use Rattle.edit_session.specs.inner.Shown.{ShownAs, shown_of}
 use Rattle.edit_session.proofs.SearchLemmas.{mem_item, or_right, with_none, with_some}
 
@@ -173,3 +175,11 @@ pub fault_wrote : (plan : Plan) (T : Table) (fault : StateFault) (old new : Sink
 fault_wrote plan T fault old new written result first reported shows_as =
     wrote_state old new plan T (fault_line plan T fault) written shown.Fault result reported shows_as
     (ap (text_by plan T) first) (sym (ap (shown_by plan T) first))
+
+-- where memory ran out before anything was written, nothing was
+pub memory-wrote : (log : SinkLog) (plan : Plan) (T : Table) (result : Result Shown ReportError) → IsErrAnd result (λ error. error ≡ Memory) →
+    WroteState log log plan T result
+memory-wrote log plan T (Ok shown) is = absurd is
+memory-wrote log plan T (Err error) is =
+    subst (λ (e : ReportError). WroteState log log plan T (Err e)) (sym is)
+    (record { counted = refl; grown = ([], state_text plan T, refl, Appends-nil log.written) })

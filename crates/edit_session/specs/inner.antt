@@ -1,4 +1,3 @@
-pub mod Evaluated
 pub mod Kept
 pub mod Shown
 pub mod Counting

@@ -2,17 +2,17 @@
 
 ghost use Rattle.std.specs.Prelude.{◌≡◌, ◌+◌, ◌<◌, Some, IfOk, count_by, length, sum_by};
 ghost use Rattle.sch_compiled.specs.Plan.{rules_of};
-ghost use Rattle.sch_compiled.specs.Soundness.{IsCounted};
-ghost use Rattle.kept_units.specs.Keeping.{Keeps, fresh};
+ghost use Rattle.state_run.specs.Outcomes.{Holds, LetsHold};
 ghost use Rattle.edit_session.specs.Counts.{counts_of, found_by, is_kind, is_of_kind};
 ghost use Rattle.edit_session.specs.inner.Counting.{adds, fault_of, node_adds, pairs_add};
 
 use doc_tree::{NodeId, Tree};
-use kept_units::{Evaluated, KeptUnits};
+use rule_run::Lets;
 use sch_compiled::{
     Finding, FindingList, Findings, Outcome, Plan, PlanAssert, PlanAssertList, PlanRuleList,
     StateFault,
 };
+use state_run::{Evaluated, came_to};
 use std::alloc::{AllocError, Global};
 
 /// What a document counts by a plan, over all its nodes under all active patterns.
@@ -36,23 +36,22 @@ enum Counted {
     SuccessfulReports,
 }
 
-/// What is counted of a document whose units were evaluated, none of which is stale. A count past 64 bits counts as want of memory.
+/// What is counted of a document by the outcomes of its units. A count past 64 bits counts as want of memory.
 ///
 /// Looks at the outcomes of the nodes at which a rule fired or a fault was met; the memory grows with these nodes.
-pub(crate) fn count_units(
+pub(crate) fn count_outcomes(
     alloc: Global,
     plan: &Plan,
     tree: &Tree,
-    kept: &KeptUnits,
+    lets: &Lets,
+    found: &Findings,
 ) -> Result<Counts, AllocError>
-    requires counted { IsCounted plan.now }
-    requires fresh { Keeps plan.now tree.now.nodes (Some (fresh tree.now.nodes)) kept.now }
+    requires lets { LetsHold plan.now tree.now.nodes lets.now }
+    requires found { Holds plan.now tree.now.nodes found.now }
     ensures { IfOk result (λ counts. counts ≡ counts_of plan.now tree.now.nodes) }
 {
-    tree.laws();
-    let evaluated = kept.evaluated(alloc, plan, tree)?;
+    let evaluated = came_to(alloc, plan, tree, lets, found)?;
     let faulted = fault_of(evaluated).is_some();
-    let found = kept.found();
     let nodes = found.told_in_order(alloc, tree)?;
     let nodes = nodes.as_slice();
     let fired = sum_of_pairs(plan, found, nodes, Counted::FiredRules)?;

@@ -3,16 +3,12 @@
 ghost use Rattle.edit_session.specs.Laws.{StaleAfterEdit};
 ghost use Rattle.edit_session.specs.Pairs.{CapIsForPairs};
 
-use doc_edit_laws::edits_leave_the_rest;
-
 /// The pair cap of a plan keeps the pairs within their limit, and is the greatest that does.
 pub fn pair_cap_is_for_pairs()
     ensures { CapIsForPairs }
 {}
 
-/// After an edit those units are stale that were so before, that read a cell which the edit touches, or that are new.
+/// After an edit those units are stale that were so before, of which a kept cell is touched, or that are new.
 pub fn stale_after_edit()
     ensures { StaleAfterEdit }
-{
-    edits_leave_the_rest();
-}
+{}

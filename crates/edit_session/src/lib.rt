@@ -2,10 +2,8 @@
 #![tactic(auto)]
 
 mod counting;
-mod kept;
 mod laws;
 mod pairs;
-mod past;
 mod refusal;
 mod session;
 mod state;

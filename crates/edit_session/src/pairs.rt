@@ -1,8 +1,7 @@
 //! Pairs of an active pattern and a live node.
 
-ghost use Rattle.std.specs.Prelude.{◌≡◌, length, None};
+ghost use Rattle.std.specs.Prelude.{◌≡◌};
 ghost use Rattle.sch_compiled.specs.Soundness.{IsCounted};
-ghost use Rattle.edit_costs.specs.Dirty.{stale_units};
 ghost use Rattle.edit_session.specs.Pairs.{has_too_many_pairs, pair_cap_for};
 
 use doc_tree::{MAX_LIVE_NODES, Tree};
@@ -28,13 +27,4 @@ pub(crate) fn pair_cap_for(plan: &Plan) -> u32
         return MAX_LIVE_NODES;
     }
     (MAX_PAIRS as u32 / patterns).min(MAX_LIVE_NODES)
-}
-
-/// How many units there are, all of which are stale where none was evaluated: the lets in force and the pairs.
-pub(crate) fn units_over(plan: &Plan, tree: &Tree) -> u64
-    requires { IsCounted plan.now }
-    ensures { result ≡ length (stale_units plan.now None tree.now.nodes) }
-{
-    tree.laws();
-    u64::from(plan.let_count()) + u64::from(plan.pattern_count()) * u64::from(tree.live_nodes())
 }

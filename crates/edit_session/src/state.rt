@@ -1,19 +1,18 @@
 //! The state of an evaluated document, written: the report, or the line of the first fault.
 
-ghost use Rattle.std.specs.Prelude.{◌≡◌, Some};
-ghost use Rattle.sch_compiled.specs.Soundness.{IsCounted};
-ghost use Rattle.kept_units.specs.Evaluated.{Evaluates};
-ghost use Rattle.kept_units.specs.Keeping.{Keeps, fresh};
+ghost use Rattle.std.specs.Prelude.{◌≡◌};
+ghost use Rattle.state_run.specs.Evaluated.{Evaluates};
+ghost use Rattle.state_run.specs.Outcomes.{Holds, LetsHold};
 ghost use Rattle.edit_session.specs.declared.state.ReportError.TheVariants as errors;
 ghost use Rattle.edit_session.specs.Wrote.{WroteState};
-ghost use Rattle.edit_session.specs.inner.Evaluated.{Holds};
 ghost use Rattle.edit_session.specs.inner.Shown.{ShownAs, shown_of};
 
 use doc_tree::Tree;
-use kept_units::{Evaluated, KeptUnits};
+use rule_run::Lets;
 use sch_compiled::{Findings, Plan};
 use sch_io::Sink;
 use sch_units::{first_match_fires, lets_stand_in_order};
+use state_run::{Evaluated, came_to};
 use std::alloc::{AllocError, Global};
 use svrl_out::{OutError, write_fault, write_report};
 use thiserror::Error;
@@ -47,21 +46,21 @@ impl From<AllocError> for ReportError {
     }
 }
 
-/// Writes the state of a document whose units were evaluated, none of which is stale; answers what it shows.
-pub(crate) fn write_units<O: Sink>(
+/// Writes the state of a document by the outcomes of its units; answers what it shows.
+pub(crate) fn write_outcomes<O: Sink>(
     alloc: Global,
     plan: &Plan,
     tree: &Tree,
-    kept: &KeptUnits,
+    lets: &Lets,
+    found: &Findings,
     out: &mut O,
 ) -> Result<Shown, ReportError>
-    requires counted { IsCounted plan.now }
-    requires fresh { Keeps plan.now tree.now.nodes (Some (fresh tree.now.nodes)) kept.now }
+    requires lets { LetsHold plan.now tree.now.nodes lets.now }
+    requires found { Holds plan.now tree.now.nodes found.now }
     ensures { WroteState (O.log out.old) (O.log out.new) plan.now tree.now.nodes result }
 {
-    tree.laws();
-    let evaluated = kept.evaluated(alloc, plan, tree)?;
-    write_evaluated(alloc, plan, tree, kept.found(), evaluated, out)
+    let evaluated = came_to(alloc, plan, tree, lets, found)?;
+    write_evaluated(alloc, plan, tree, found, evaluated, out)
 }
 
 /// Writes the state of a document by what its units came to; answers what it shows.

@@ -23,8 +23,10 @@ sum_more f n =
 count_more : (p : ℕ → Bool) (n : ℕ) (b : Bool) → p n ≡ b → count_by p (range_with_len 0 (n + 1)) ≡ count_by p (range_with_len 0 n) + cond b 1 0
 count_more p n b is = sum_more (λ (k : ℕ). cond (p k) 1 0) n ∙ ap (λ (b : Bool). count_by p (range_with_len 0 n) + cond b 1 0) is
 
-pub count_one : (p : ℕ → Bool) (n old new : ℕ) → p n ≡ true → old ≡ count_by p (range_with_len 0 n) → new ≡ old + 1 → new ≡ count_by p (range_with_len 0 (n + 1))
+pub count_one : (p : ℕ → Bool) (n old new : ℕ) → p n ≡ true → old ≡ count_by p (range_with_len 0 n) → new ≡ old + 1 →
+    new ≡ count_by p (range_with_len 0 (n + 1))
 count_one p n old new passes so_far is = is ∙ ap (λ (k : ℕ). k + 1) so_far ∙ sym (count_more p n true passes)
 
-pub count_none : (p : ℕ → Bool) (n old new : ℕ) → p n ≡ false → old ≡ count_by p (range_with_len 0 n) → new ≡ old → new ≡ count_by p (range_with_len 0 (n + 1))
+pub count_none : (p : ℕ → Bool) (n old new : ℕ) → p n ≡ false → old ≡ count_by p (range_with_len 0 n) → new ≡ old →
+    new ≡ count_by p (range_with_len 0 (n + 1))
 count_none p n old new fails so_far is = is ∙ so_far ∙ sym (add-zero (count_by p (range_with_len 0 n))) ∙ sym (count_more p n false fails)

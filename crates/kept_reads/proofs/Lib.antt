@@ -1,6 +1,6 @@
 pub mod Sets
-pub mod ListLemmas
-pub mod ReaderLemmas
+pub mod EntryLemmas
 pub mod DroppingLemmas
 pub mod TouchedLemmas
 pub mod CountingLemmas
+pub mod ForgettingLemmas

@@ -9,7 +9,7 @@ use Rattle.std.specs.FinSet.{contains-from_list, contains-items, from_list, item
 use Rattle.std.specs.List.{list_any}
 
 -- two tests that hold on each other's side are one
-same_bool : (a b : Bool) → (a ≡ true → b ≡ true) → (b ≡ true → a ≡ true) → a ≡ b
+pub same_bool : (a b : Bool) → (a ≡ true → b ≡ true) → (b ≡ true → a ≡ true) → a ≡ b
 same_bool true b there back = sym (there refl)
 same_bool false true there back = back refl
 same_bool false false there back = refl
@@ -20,17 +20,21 @@ module _ {K : Type 0} {R : K → K → Ordering} (o : IsTotalOrder R) (same : Is
   passes_there x passes [] there = absurd (cc)
   passes_there x passes (y ∷ ys) there = by (eq_by_cmp R x y) refl there (passes_there x passes ys)
     where
-      by : (b : Bool) → eq_by_cmp R x y ≡ b → (b || list_any (eq_by_cmp R x) ys) ≡ true → (list_any (eq_by_cmp R x) ys ≡ true → list_any p ys ≡ true) → list_any p (y ∷ ys) ≡ true
+      by : (b : Bool) → eq_by_cmp R x y ≡ b → (b || list_any (eq_by_cmp R x) ys) ≡ true →
+          (list_any (eq_by_cmp R x) ys ≡ true → list_any p ys ≡ true) → list_any p (y ∷ ys) ≡ true
       by true tied there rest = or_left (p y) (list_any p ys) (ap p (sym (same x y ((Equal-is (R x y)).0 tied))) ∙ passes)
       by false other there rest = or_right (p y) (list_any p ys) (rest there)
 
   -- a list whose items all stand in another has none that passes where the other has none
-  passes_along : (xs ys : List K) → ((q : K) → list_any (eq_by_cmp R q) xs ≡ true → list_any (eq_by_cmp R q) ys ≡ true) → list_any p xs ≡ true → list_any p ys ≡ true
+  passes_along : (xs ys : List K) → ((q : K) → list_any (eq_by_cmp R q) xs ≡ true → list_any (eq_by_cmp R q) ys ≡ true) → list_any p xs ≡ true →
+      list_any p ys ≡ true
   passes_along [] ys each some = absurd (cc)
-  passes_along (x ∷ xs) ys each some = by (p x) refl some (passes_along xs ys (λ q there. each q (or_right (eq_by_cmp R q x) (list_any (eq_by_cmp R q) xs) there)))
+  passes_along (x ∷ xs) ys each some =
+      by (p x) refl some (passes_along xs ys (λ q there. each q (or_right (eq_by_cmp R q x) (list_any (eq_by_cmp R q) xs) there)))
     where
       by : (b : Bool) → p x ≡ b → (b || list_any p xs) ≡ true → (list_any p xs ≡ true → list_any p ys ≡ true) → list_any p ys ≡ true
-      by true passes some rest = passes_there x passes ys (each x (or_left (eq_by_cmp R x x) (list_any (eq_by_cmp R x) xs) (ap is_eq (tied_itself o x))))
+      by true passes some rest =
+          passes_there x passes ys (each x (or_left (eq_by_cmp R x x) (list_any (eq_by_cmp R x) xs) (ap is_eq (tied_itself o x))))
       by false fails some rest = rest some
 
   -- lists with the same items

@@ -13,7 +13,7 @@ use Rattle.edit_commands.specs.declared.touched.Touched.TheVariants.{Said, Attri
 use Rattle.edit_commands.specs.Touched.{holds_cell, left_cell, said_cell}
 use Rattle.kept_reads.specs.declared.kept_reads.KeptReads.{KeptReads}
 use Rattle.kept_reads.specs.Marking.{Marks}
-use Rattle.kept_reads.specs.inner.Dropping.{DropsTouched, IsAbove, IsAround, IsLeft, KnowsReaders}
+use Rattle.kept_reads.specs.inner.Dropping.{DropsTouched, IsAbove, IsAround, IsLeft}
 use Rattle.kept_reads.proofs.DroppingLemmas.{marks_all}
 
 both_true : (a b : Bool) → (a && b) ≡ true → (a ≡ true) × (b ≡ true)
@@ -23,13 +23,15 @@ both_true false b is = absurd (false≢true is)
 
 -- The way up
 
-pub above_more : (T : Table) (n p : ℕ) (with_shapes : Bool) → HasWaysUp T → parent_of T n ≡ Some p → (c : Cell) → IsAround p with_shapes c ⊎ IsAbove T p with_shapes c → IsAbove T n with_shapes c
+pub above_more : (T : Table) (n p : ℕ) (with_shapes : Bool) → HasWaysUp T → parent_of T n ≡ Some p → (c : Cell) →
+    IsAround p with_shapes c ⊎ IsAbove T p with_shapes c → IsAbove T n with_shapes c
 above_more T n p with_shapes ways is c (inl around) =
     (p, ap (mem p) (ways.ancestors_at n p is) ∙ or_left (p == p) (mem p (ancestors T p)) (eq-eqb p p refl), around)
 above_more T n p with_shapes ways is c (inr up) =
     (up.0, ap (mem up.0) (ways.ancestors_at n p is) ∙ or_right (up.0 == p) (mem up.0 (ancestors T p)) up.1, up.2)
 
-pub above_less : (T : Table) (n p : ℕ) (with_shapes : Bool) → HasWaysUp T → parent_of T n ≡ Some p → (c : Cell) → IsAbove T n with_shapes c → IsAround p with_shapes c ⊎ IsAbove T p with_shapes c
+pub above_less : (T : Table) (n p : ℕ) (with_shapes : Bool) → HasWaysUp T → parent_of T n ≡ Some p → (c : Cell) → IsAbove T n with_shapes c →
+    IsAround p with_shapes c ⊎ IsAbove T p with_shapes c
 above_less T n p with_shapes ways is c up =
     by (or_cases (up.0 == p) (mem up.0 (ancestors T p)) (ap (mem up.0) (sym (ways.ancestors_at n p is)) ∙ up.1))
   where
@@ -42,7 +44,8 @@ above_none T n with_shapes ways is c up = false≢true (ap (mem up.0) (sym (ways
 
 -- A node that says another text
 
-pub said_touched : (T : Table) (n : ℕ) (is_text : Bool) (c : Cell) → (c ≡ Value n) ⊎ ((is_text ≡ true) × IsAbove T n false c) → said_cell T n is_text c ≡ true
+pub said_touched : (T : Table) (n : ℕ) (is_text : Bool) (c : Cell) → (c ≡ Value n) ⊎ ((is_text ≡ true) × IsAbove T n false c) →
+    said_cell T n is_text c ≡ true
 said_touched T n is_text c (inl same) = ap (said_cell T n is_text) same ∙ eq-eqb n n refl
 said_touched T n is_text c (inr up) = by up.1.2
   where
@@ -50,7 +53,8 @@ said_touched T n is_text c (inr up) = by up.1.2
     by (inl same) = ap (said_cell T n is_text) same ∙ and_from is_text (mem up.1.0 (ancestors T n)) up.0 up.1.1
     by (inr shape) = absurd (false≢true shape.0)
 
-pub said_covered : (T : Table) (n : ℕ) (is_text : Bool) (c : Cell) → said_cell T n is_text c ≡ true → (c ≡ Value n) ⊎ ((is_text ≡ true) × IsAbove T n false c)
+pub said_covered : (T : Table) (n : ℕ) (is_text : Bool) (c : Cell) → said_cell T n is_text c ≡ true →
+    (c ≡ Value n) ⊎ ((is_text ≡ true) × IsAbove T n false c)
 said_covered T n is_text (Value m) hit = inl (ap Value (eqb-true m n hit))
 said_covered T n is_text (Text m) hit = let parts = both_true is_text (mem m (ancestors T n)) hit in inr (parts.0, (m, parts.1, inl refl))
 said_covered T n is_text (Kids m) hit = absurd (false≢true hit)
@@ -123,23 +127,25 @@ below_covered T p left c hit = by (or_cases (touched_kids T p c) (left_cell left
 -- All that was touched
 
 module _ (T : Table) (width : ℕ) (old new : KeptReads) where
-  pub said_marked : (touched : Touched) (n : ℕ) (is_text : Bool) → touched ≡ Said n is_text → KnowsReaders old →
-      DropsTouched (holds_cell T touched) width (λ c. (c ≡ Value n) ⊎ ((is_text ≡ true) × IsAbove T n false c)) old new → Marks (holds_cell T touched) width old new
-  said_marked touched n is_text is knows drops =
+  pub said_marked : (touched : Touched) (n : ℕ) (is_text : Bool) → touched ≡ Said n is_text →
+      DropsTouched (holds_cell T touched) width (λ c. (c ≡ Value n) ⊎ ((is_text ≡ true) × IsAbove T n false c)) old new →
+      Marks (holds_cell T touched) width old new
+  said_marked touched n is_text is drops =
       marks_all (holds_cell T touched) width (λ c. (c ≡ Value n) ⊎ ((is_text ≡ true) × IsAbove T n false c)) old new
       (λ c there. ap (λ (t : Touched). holds_cell T t c) is ∙ said_touched T n is_text c there)
-      (λ c hit. said_covered T n is_text c (ap (λ (t : Touched). holds_cell T t c) (sym is) ∙ hit)) knows drops
+      (λ c hit. said_covered T n is_text c (ap (λ (t : Touched). holds_cell T t c) (sym is) ∙ hit)) drops
 
-  pub attributes_marked : (touched : Touched) (n : ℕ) → touched ≡ Attributes n → KnowsReaders old → DropsTouched (holds_cell T touched) width (λ c. c ≡ Attrs n) old new →
+  pub attributes_marked : (touched : Touched) (n : ℕ) → touched ≡ Attributes n → DropsTouched (holds_cell T touched) width (λ c. c ≡ Attrs n) old new →
       Marks (holds_cell T touched) width old new
-  attributes_marked touched n is knows drops =
+  attributes_marked touched n is drops =
       marks_all (holds_cell T touched) width (λ c. c ≡ Attrs n) old new
       (λ c there. ap (λ (t : Touched). holds_cell T t c) is ∙ attributes_touched n c there)
-      (λ c hit. attributes_covered n c (ap (λ (t : Touched). holds_cell T t c) (sym is) ∙ hit)) knows drops
+      (λ c hit. attributes_covered n c (ap (λ (t : Touched). holds_cell T t c) (sym is) ∙ hit)) drops
 
-  pub below_marked : (touched : Touched) (p : ℕ) (left : Option ℕ) → touched ≡ Below p left → KnowsReaders old → DropsTouched (holds_cell T touched) width (IsBelow T p left) old new →
+  pub below_marked : (touched : Touched) (p : ℕ) (left : Option ℕ) → touched ≡ Below p left →
+      DropsTouched (holds_cell T touched) width (IsBelow T p left) old new →
       Marks (holds_cell T touched) width old new
-  below_marked touched p left is knows drops =
+  below_marked touched p left is drops =
       marks_all (holds_cell T touched) width (IsBelow T p left) old new
       (λ c there. ap (λ (t : Touched). holds_cell T t c) is ∙ below_touched T p left c there)
-      (λ c hit. below_covered T p left c (ap (λ (t : Touched). holds_cell T t c) (sym is) ∙ hit)) knows drops
+      (λ c hit. below_covered T p left c (ap (λ (t : Touched). holds_cell T t c) (sym is) ∙ hit)) drops

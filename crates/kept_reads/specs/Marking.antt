@@ -1,20 +1,15 @@
 -- What stays of what units read, once some cells were touched.
 use Rattle.std.specs.Prelude.{◌≡◌, ℕ, ◌/◌, ◌<◌, Bool, true, false, List, length, Option, None, Some}
-use Rattle.std.specs.FinSet.{items}
-use Rattle.std.specs.List.{list_any}
 use Rattle.doc_tree.specs.cell.Cell.{Cell}
-use Rattle.xp_outcome.specs.Recorded.{CellSet, Recorded}
+use Rattle.cover_laws.specs.Covering.{has_touched}
+use Rattle.xp_outcome.specs.Recorded.{Recorded}
 use Rattle.kept_reads.specs.declared.kept_reads.KeptReads.{KeptReads}
-use Rattle.kept_reads.specs.Reads.{IsIndexed, may_be_stale, reads_at}
-
--- whether one of the cells was touched
-abbrev pub some_touched : (Cell → Bool) → CellSet → Bool
-some_touched touched cells = list_any touched (items cells)
+use Rattle.kept_reads.specs.Reads.{may_be_stale, reads_at}
 
 -- whether a cell that a unit has read was touched; of a stale unit none is known
 abbrev pub reads_touched : (Cell → Bool) → Option Recorded → Bool
 reads_touched touched None = false
-reads_touched touched (Some reads) = some_touched touched reads.cells
+reads_touched touched (Some reads) = has_touched touched reads.cells
 
 -- what is kept at a place stays, or it is dropped, as a cell of it was touched, and then its row may be stale
 pub data Thinned (touched : Cell → Bool) (width place : ℕ) (blocks : List Bool) (before after : Option Recorded) : Type 0 where
@@ -24,14 +19,13 @@ pub data Thinned (touched : Cell → Bool) (width place : ℕ) (blocks : List Bo
 
 -- nothing but touched reads is dropped
 pub record Thins (touched : Cell → Bool) (width : ℕ) (old new : KeptReads) : Type 0 where
-  pub places : length new.entries.items ≡ length old.entries.items
+  pub places : length new.entries ≡ length old.entries
   pub entries : (place : ℕ) →
-      Thinned touched width place new.stale_blocks.items (reads_at old.entries.items place) (reads_at new.entries.items place)
+      Thinned touched width place new.stale_blocks.items (reads_at old.entries place) (reads_at new.entries place)
   pub blocks : length new.stale_blocks.items ≡ length old.stale_blocks.items
   pub still : (row : ℕ) → may_be_stale old.stale_blocks.items row ≡ true → may_be_stale new.stale_blocks.items row ≡ true
 
 -- all touched reads are dropped, and nothing else
 pub record Marks (touched : Cell → Bool) (width : ℕ) (old new : KeptReads) : Type 0 where
   pub thins : Thins touched width old new
-  pub clean : (place : ℕ) → reads_touched touched (reads_at new.entries.items place) ≡ false
-  pub indexed : IsIndexed new
+  pub clean : (place : ℕ) → reads_touched touched (reads_at new.entries place) ≡ false

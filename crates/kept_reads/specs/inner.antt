@@ -1,3 +1,4 @@
 pub mod Dropping
-pub mod Readers
-pub mod UnitReads
+pub mod Entries
+pub mod Forgetting
+pub mod LetsRead

@@ -13,7 +13,7 @@ impl KeptReads {
     ///
     /// Looks at each of them.
     pub fn stale_places(&self, count: u32) -> u32
-        ensures { result ≡ count_by (λ place. is_none (reads_at self.now.entries.items place)) (range_with_len 0 count) }
+        ensures { result ≡ count_by (λ place. is_none (reads_at self.now.entries place)) (range_with_len 0 count) }
     {
         let mut stale = 0;
         for place in 0..count {
@@ -29,7 +29,7 @@ impl KeptReads {
     /// Looks at each node that was made.
     pub fn stale_nodes(&self, tree: &Tree, patterns: u32, p: u32) -> u32
         requires { p < patterns }
-        ensures { result ≡ count_by (is_stale_node tree.now.nodes self.now.entries.items patterns p) (range_with_len 0 (length tree.now.nodes)) }
+        ensures { result ≡ count_by (is_stale_node tree.now.nodes self.now.entries patterns p) (range_with_len 0 (length tree.now.nodes)) }
     {
         let numbers = tree.numbers_made();
         let mut count = 0;
@@ -44,7 +44,7 @@ impl KeptReads {
     /// Whether a node lives and is stale under a pattern.
     fn is_stale_node(&self, tree: &Tree, patterns: u32, p: u32, n: NodeId) -> bool
         requires { p < patterns }
-        ensures { result ≡ is_stale_node tree.now.nodes self.now.entries.items patterns p n }
+        ensures { result ≡ is_stale_node tree.now.nodes self.now.entries patterns p n }
     {
         tree.contains(n) && self.is_stale(place_in_row(n, patterns, p))
     }

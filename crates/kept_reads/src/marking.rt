@@ -1,16 +1,13 @@
 //! Which units an edit touches.
 
-ghost use Rattle.std.specs.Prelude.{◌≡◌, ◌/◌, ◌<◌, ◌⊎◌, ℕ, true, false, IfNone, IfSome, OnSome, slice_set};
-ghost use Rattle.std.specs.List.{list_any};
+ghost use Rattle.std.specs.Prelude.{◌≡◌, ◌/◌, ◌<◌, ◌⊎◌, ℕ, true, false, None, IfNone, IfSome, OnSome, slice_set};
 ghost use Rattle.doc_tree.specs.cell.Cell.{Cell};
 ghost use Rattle.edit_commands.specs.Touched.{holds_cell};
-ghost use Rattle.unit_readers.specs.Readers.{IsReader, Loses, newest};
-ghost use Rattle.kept_reads.specs.Marking.{Marks, Thins, reads_touched};
-ghost use Rattle.kept_reads.specs.Reads.{IsIndexed, reads_at};
-ghost use Rattle.kept_reads.specs.inner.Dropping.{DropsTouched, IsAbove, IsAround, IsLeft, KnowsReaders};
+ghost use Rattle.kept_reads.specs.Marking.{Marks};
+ghost use Rattle.kept_reads.specs.Reads.{has_cell, kept_count, reads_at};
+ghost use Rattle.kept_reads.specs.inner.Dropping.{DropsTouched, Flags, IsAbove, IsAround, IsFreeOf, IsLeft};
 
 use crate::kept_reads::{KeptReads, ROWS};
-use crate::unit_reads::UnitReads;
 use doc_tree::{Cell, NodeId, Tree};
 use edit_commands::Touched;
 
@@ -26,30 +23,10 @@ pub struct Marking<'r> {
 impl KeptReads {
     /// Forgets what each unit read that read a touched cell.
     ///
-    /// Takes no memory. Goes to the readers of the touched cells where they are known, and else to each cell that a unit has read.
+    /// Takes no memory. Goes to the units of each touched cell alone, so that it costs the way up from a node, and a look at the cells
+    /// of these units.
     pub fn mark(&mut self, at: &Marking<'_>)
-        ensures { IsIndexed self.old → Marks (holds_cell at.now.tree.now.nodes at.now.touched.now) at.now.width self.old self.new }
-    {
-        self.is_edited = true;
-        if self.is_indexed {
-            self.mark_touched(at);
-        } else {
-            self.mark_all(at);
-        }
-    }
-
-    /// Forgets what each unit read that read a touched cell, by a look at each.
-    fn mark_all(&mut self, at: &Marking<'_>)
-        ensures { IsIndexed self.old → Marks (holds_cell at.now.tree.now.nodes at.now.touched.now) at.now.width self.old self.new }
-    {
-        for place in 0..self.entries.len() {
-            self.drop_if_touched(place, at);
-        }
-    }
-
-    /// Forgets what the readers of the touched cells read.
-    fn mark_touched(&mut self, at: &Marking<'_>)
-        ensures { KnowsReaders self.old → Marks (holds_cell at.now.tree.now.nodes at.now.touched.now) at.now.width self.old self.new }
+        ensures { Marks (holds_cell at.now.tree.now.nodes at.now.touched.now) at.now.width self.old self.new }
     {
         match at.touched {
             Touched::Said { node, is_text } => self.mark_said(*node, *is_text, at),
@@ -69,7 +46,8 @@ impl KeptReads {
 
     /// Forgets what the readers of the texts above a node read, where it is a text.
     fn mark_texts_above(&mut self, node: NodeId, is_text: bool, at: &Marking<'_>)
-        ensures { DropsTouched (holds_cell at.now.tree.now.nodes at.now.touched.now) at.now.width (λ c. (is_text ≡ true) × IsAbove at.now.tree.now.nodes node false c) self.old self.new }
+        ensures { DropsTouched (holds_cell at.now.tree.now.nodes at.now.touched.now) at.now.width
+            (λ c. (is_text ≡ true) × IsAbove at.now.tree.now.nodes node false c) self.old self.new }
     {
         if is_text {
             self.mark_above(node, false, at);
@@ -89,7 +67,8 @@ impl KeptReads {
 
     /// Forgets what the readers of a text read that says more, where there is one.
     fn mark_left(&mut self, left: &Option<NodeId>, at: &Marking<'_>)
-        ensures { DropsTouched (holds_cell at.now.tree.now.nodes at.now.touched.now) at.now.width (IsLeft left.now) self.old self.new }
+        ensures { DropsTouched (holds_cell at.now.tree.now.nodes at.now.touched.now) at.now.width
+            (IsLeft left.now) self.old self.new }
     {
         if let Some(text) = left {
             self.mark_readers(&Cell::Value(*text), at);
@@ -98,7 +77,8 @@ impl KeptReads {
 
     /// Forgets what the readers of the ancestors of a node read: of their texts, and maybe of what stands below them.
     fn mark_above(&mut self, node: NodeId, with_shapes: bool, at: &Marking<'_>)
-        ensures { DropsTouched (holds_cell at.now.tree.now.nodes at.now.touched.now) at.now.width (IsAbove at.now.tree.now.nodes node with_shapes) self.old self.new }
+        ensures { DropsTouched (holds_cell at.now.tree.now.nodes at.now.touched.now) at.now.width
+            (IsAbove at.now.tree.now.nodes node with_shapes) self.old self.new }
     {
         at.tree.laws();
         if let Some(parent) = at.tree.parent(node) {
@@ -109,7 +89,8 @@ impl KeptReads {
 
     /// Forgets what the readers of a node's text read, and maybe of what stands below it.
     fn mark_around(&mut self, node: NodeId, with_shapes: bool, at: &Marking<'_>)
-        ensures { DropsTouched (holds_cell at.now.tree.now.nodes at.now.touched.now) at.now.width (IsAround node with_shapes) self.old self.new }
+        ensures { DropsTouched (holds_cell at.now.tree.now.nodes at.now.touched.now) at.now.width
+            (IsAround node with_shapes) self.old self.new }
     {
         self.mark_readers(&Cell::Text(node), at);
         self.mark_shape(node, with_shapes, at);
@@ -117,7 +98,8 @@ impl KeptReads {
 
     /// Forgets what the readers of what stands below a node read, where that is asked.
     fn mark_shape(&mut self, node: NodeId, with_shapes: bool, at: &Marking<'_>)
-        ensures { DropsTouched (holds_cell at.now.tree.now.nodes at.now.touched.now) at.now.width (λ c. (with_shapes ≡ true) × (c ≡ Cell.Shape node)) self.old self.new }
+        ensures { DropsTouched (holds_cell at.now.tree.now.nodes at.now.touched.now) at.now.width
+            (λ c. (with_shapes ≡ true) × (c ≡ Cell.Shape node)) self.old self.new }
     {
         if with_shapes {
             self.mark_readers(&Cell::Shape(node), at);
@@ -126,42 +108,36 @@ impl KeptReads {
 
     /// Forgets what the readers of a touched cell read.
     fn mark_readers(&mut self, cell: &Cell, at: &Marking<'_>)
-        ensures { DropsTouched (holds_cell at.now.tree.now.nodes at.now.touched.now) at.now.width (λ c. c ≡ cell.now) self.old self.new }
+        ensures { DropsTouched (holds_cell at.now.tree.now.nodes at.now.touched.now) at.now.width
+            (λ c. c ≡ cell.now) self.old self.new }
     {
-        while let Some(unit) = self.take_reader(cell) {
-            self.drop_if_touched(unit as usize, at);
+        while let Some(place) = self.take(cell) {
+            self.flag(place, at.width);
         }
     }
 
-    /// Takes a reader from a cell.
-    fn take_reader(&mut self, cell: &Cell) -> Option<u32>
-        ensures none { IfNone result ((unit : ℕ) → IsReader self.old.readers cell.now unit → ⊥) }
+    /// Forgets what a unit read that read a cell, and gives its place.
+    fn take(&mut self, cell: &Cell) -> Option<usize>
+        ensures took { IfSome result (λ place. has_cell (reads_at self.old.entries place) cell.now ≡ true) }
+        ensures dropped { IfSome result (λ place. self.new.entries ≡ slice_set self.old.entries place None) }
+        ensures falls { OnSome result (kept_count self.new.entries < kept_count self.old.entries) }
+        ensures none { IfNone result (IsFreeOf cell.now self.old) }
         ensures unchanged { IfNone result (self.new ≡ self.old) }
-        ensures loses { IfSome result (Loses self.old.readers self.new.readers cell.now) }
-        ensures falls { OnSome result (newest self.new.readers cell.now < newest self.old.readers cell.now) }
-        ensures entries { self.new.entries ≡ self.old.entries }
         ensures blocks { self.new.stale_blocks ≡ self.old.stale_blocks }
-        ensures known { self.new.is_indexed ≡ self.old.is_indexed }
     {
-        self.readers.take(*cell)
+        self.entries.take(cell)
     }
 
-    /// Forgets what the unit at a place read where the command touched a cell of it.
-    fn drop_if_touched(&mut self, place: usize, at: &Marking<'_>)
-        ensures thins { Thins (holds_cell at.now.tree.now.nodes at.now.touched.now) at.now.width self.old self.new }
-        ensures clean { reads_touched (holds_cell at.now.tree.now.nodes at.now.touched.now) (reads_at self.new.entries.items place) ≡ false }
-        ensures readers { self.new.readers ≡ self.old.readers }
-        ensures known { self.new.is_indexed ≡ self.old.is_indexed }
+    /// Says that the row of a place may have a stale unit.
+    fn flag(&mut self, place: usize, width: u32)
+        ensures { Flags place width self.old self.new }
     {
-        if place < self.entries.len() && is_touched(&self.entries[place], at.tree, at.touched) {
-            self.entries[place] = None;
-            set_flag(&mut self.stale_blocks, row_of(place, at.width));
-        }
+        set_flag(&mut self.stale_blocks, row_of(place, width));
     }
 }
 
 /// The row of a place.
-fn row_of(place: usize, width: u32) -> usize
+pub(crate) fn row_of(place: usize, width: u32) -> usize
     ensures { 0 < width → result ≡ place / width }
 {
     if width == 0 {
@@ -172,28 +148,11 @@ fn row_of(place: usize, width: u32) -> usize
 }
 
 /// Says that a unit of a row may be stale.
-fn set_flag(blocks: &mut Vec<bool>, row: usize)
+pub(crate) fn set_flag(blocks: &mut Vec<bool>, row: usize)
     ensures { blocks.new.items ≡ slice_set blocks.old.items (row / 64) true }
 {
     let block = row / ROWS;
     if block < blocks.len() {
         blocks[block] = true;
     }
-}
-
-/// Whether the command touched a cell that a unit has read; of a stale unit none is known.
-fn is_touched(entry: &Option<UnitReads>, tree: &Tree, touched: &Touched) -> bool
-    ensures { result ≡ reads_touched (holds_cell tree.now.nodes touched.now) entry.now }
-{
-    match entry {
-        Some(reads) => holds_some(touched, tree, reads.cells()),
-        None => false,
-    }
-}
-
-/// Whether the command touched one of the cells.
-fn holds_some(touched: &Touched, tree: &Tree, cells: &[Cell]) -> bool
-    ensures { result ≡ list_any (holds_cell tree.now.nodes touched.now) cells.now }
-{
-    cells.iter().any(|cell| touched.holds(tree, *cell))
 }

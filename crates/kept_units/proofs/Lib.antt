@@ -1,10 +1,11 @@
 pub mod ReadLemmas
 pub mod ListLemmas
+pub mod SeenLemmas
 pub mod RaisedLemmas
+pub mod EvaluatingLemmas
 pub mod LetLemmas
 pub mod PairLemmas
-pub mod KeepLemmas
 pub mod MarkingLemmas
 pub mod CountingLemmas
-pub mod Searches
-pub mod ScanningLemmas
+pub mod EndLemmas
+pub mod KeepLemmas

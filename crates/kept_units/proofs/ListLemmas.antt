@@ -1,11 +1,10 @@
 -- Lists that are filtered, and lists of entries.
-use Rattle.std.proofs.Common.{◌≡◌, ◌∙◌, ℕ, zero, suc, ◌+◌, ◌<◌, ◌≤◌, Bool, true, false, cond, List, [], ◌∷◌, ◌++◌, length, Option, None, Some, refl, sym, ap, arith, add-one, add-zero, append_assoc, append-nil, inl, inr, length-append}
+use Rattle.std.proofs.Common.{◌≡◌, ◌∙◌, ℕ, zero, suc, ◌+◌, ◌<◌, ◌≤◌, Bool, true, false, cond, List, [], ◌∷◌, ◌++◌, length, Option, None, Some, sym, ap, arith, add-one, add-zero, append_assoc, append-nil, inl, inr, length-append}
 use Rattle.std.proofs.lemmas.Bool.{cases_lt}
 use Rattle.std.proofs.lemmas.List.{ext_get_or, get_or_past, length-replicate, length-set}
 use Rattle.std.proofs.lemmas.List.Elements.{filter-append}
 use Rattle.std.specs.List.{filter, flat_map, range_with_len}
 use Rattle.xp_outcome.specs.Slots.{in_slot, with_slot}
-use Rattle.kept_units.specs.inner.Refreshing.{flag_at}
 
 -- Numbers and tests
 
@@ -21,6 +20,17 @@ number_more n =
     let place : 0 + n ≡ n = omega arith in
     ap (range_with_len 0) (add-one n) ∙ number_next 0 n ∙ ap (λ (k : ℕ). range_with_len 0 n ++ k ∷ []) place
 
+-- numbers in a row, and then those behind them
+pub range_split : (a m k : ℕ) → range_with_len a (m + k) ≡ range_with_len a m ++ range_with_len (a + m) k
+range_split a zero k =
+    let same : 0 + k ≡ k = omega arith in
+    let here : a ≡ a + 0 = omega arith in
+    ap (range_with_len a) same ∙ ap (λ (b : ℕ). range_with_len b k) here
+range_split a (suc m) k =
+    let count : suc m + k ≡ suc (m + k) = omega arith in
+    let place : (a + 1) + m ≡ a + suc m = omega arith in
+    ap (range_with_len a) count ∙ ap (λ ks. a ∷ ks) (range_split (a + 1) m k ∙ ap (λ (b : ℕ). range_with_len (a + 1) m ++ range_with_len b k) place)
+
 module _ {X : Type 0} (p : X → Bool) where
   -- a last item passes the test, or doesn't
   pub last_in : (xs : List X) (x : X) → p x ≡ true → filter p (xs ++ x ∷ []) ≡ filter p xs ++ x ∷ []
@@ -29,28 +39,9 @@ module _ {X : Type 0} (p : X → Bool) where
   pub last_out : (xs : List X) (x : X) → p x ≡ false → filter p (xs ++ x ∷ []) ≡ filter p xs
   last_out xs x is = filter-append p xs (x ∷ []) ∙ ap (λ b. filter p xs ++ cond b (x ∷ []) []) is ∙ append-nil (filter p xs)
 
-  -- all items pass the test
-  pub all_in : (xs : List X) → ((x : X) → p x ≡ true) → filter p xs ≡ xs
-  all_in [] each = refl
-  all_in (x ∷ xs) each = ap (λ b. cond b (x ∷ filter p xs) (filter p xs)) (each x) ∙ ap (λ ys. x ∷ ys) (all_in xs each)
-
 pub flat_last : {X A : Type 0} (f : X → List A) (xs : List X) (x : X) → flat_map f (xs ++ x ∷ []) ≡ flat_map f xs ++ f x
 flat_last f [] x = append-nil (f x)
 flat_last f (y ∷ xs) x = ap (λ zs. f y ++ zs) (flat_last f xs x) ∙ sym (append_assoc (f y) (flat_map f xs) (f x))
-
--- Flags
-
--- one flag more
-pub flag_last : (flags : List Bool) (flag : Bool) (l : ℕ) → length flags ≡ l → flag_at (flags ++ flag ∷ []) l ≡ flag
-flag_last [] flag zero is = refl
-flag_last [] flag (suc l) is = absurd (omega (arith, is))
-flag_last (x ∷ flags) flag zero is = absurd (omega (arith, is))
-flag_last (x ∷ flags) flag (suc l) is = flag_last flags flag l (omega (arith, is))
-
-pub flag_before : (flags : List Bool) (flag : Bool) (slot : ℕ) → slot < length flags → flag_at (flags ++ flag ∷ []) slot ≡ flag_at flags slot
-flag_before [] flag slot below = absurd (omega (arith, below))
-flag_before (x ∷ flags) flag zero below = refl
-flag_before (x ∷ flags) flag (suc slot) below = flag_before flags flag slot (omega (arith, below))
 
 -- Slots
 

@@ -1,41 +1,33 @@
 -- The nodes under patterns are refreshed one after another.
-use Rattle.std.proofs.Common.{◌≡◌, ◌≢◌, ◌∙◌, inl, inr, ◌⊎◌, ℕ, zero, suc, ◌+◌, ◌-◌, ◌<◌, ◌≤◌, Bool, true, false, is_none, is_some, List, [], ◌∷◌, ◌++◌, length, map, Option, None, Some, IfSome, refl, sym, ap, subst, arith, add-zero}
-use Rattle.std.proofs.lemmas.Bool.{cases_eq, cases_lt, false≢true, not-false}
-use Rattle.std.proofs.lemmas.List.{get_or-set_other, get_or-set_same, get_or_past, length-set, map-append}
-use Rattle.std.proofs.lemmas.Nat.{mul-add-lt}
-use Rattle.std.proofs.Math.Nat.{mul_comm}
+use Rattle.std.proofs.Common.{◌≡◌, ◌≢◌, ◌∙◌, inl, inr, ◌⊎◌, ⊎_elim, ℕ, zero, suc, ◌+◌, ◌-◌, ◌<◌, ◌≤◌, Bool, true, false, is_none, is_some, List, [], ◌∷◌, ◌++◌, length, map, Option, None, Some, refl, sym, ap, subst, arith, add-zero, append_assoc}
+use Rattle.std.proofs.lemmas.Bool.{cases_eq, cases_lt, false≢true}
+use Rattle.std.proofs.lemmas.List.{get_or-set_other, get_or-set_same, get_or_past, map-append}
 use Rattle.std.proofs.lemmas.List.Elements.{filter-append}
-use Rattle.std.specs.List.{filter, flat_map, range_with_len, AllByRecursion as Each}
-use Rattle.doc_tree.specs.cell.Cell.{Cell}
+use Rattle.std.specs.List.{filter, flat_map, range_with_len}
 use Rattle.doc_tree.specs.Table.{Table, is_live}
-use Rattle.xp_outcome.specs.Evaluation.{Evaluation, Read, cell, variable}
-use Rattle.xp_outcome.specs.Recorded.{Recorded, note_all, nothing_read}
-use Rattle.xp_values.specs.declared.values.EvalFault.{EvalFault}
+use Rattle.xp_outcome.specs.Recorded.{Recorded}
+use Rattle.xp_outcome.specs.Slots.{in_slot}
 use Rattle.xp_meaning.specs.Evaluation.{Lets}
-use Rattle.sch_compiled.specs.declared.findings.Outcome.{Outcome}
 use Rattle.sch_compiled.specs.declared.plan.Plan.{Plan}
 use Rattle.sch_compiled.specs.Findings.{outcome_at}
-use Rattle.sch_compiled.proofs.FindingsLemmas.{same_place}
 use Rattle.sch_locality_laws.specs.Locality.{RulesTyped}
-use Rattle.sch_units.specs.Units.{lets_of, unit_pair}
-use Rattle.sch_units.specs.Validity.{outcome_of}
+use Rattle.sch_units.specs.Units.{unit_pair}
+use Rattle.sch_units.specs.Validity.{outcome_of, pattern_numbers}
 use Rattle.edit_costs.specs.Costs.{Raised}
-use Rattle.edit_costs.specs.Dirty.{Since, is_changed, is_new, is_touched}
-use Rattle.edit_costs.specs.Laws.{CleanUnitsStand}
-use Rattle.edit_costs.specs.Units.{ValidationUnit, under, node_units, reads_of}
+use Rattle.edit_costs.specs.Units.{ValidationUnit, in_force, under, node_units}
+use Rattle.kept_state.specs.Kept.{HeldAlike, Kept, Stands, noted}
+use Rattle.kept_state.specs.Refreshing.{ComesBefore, PairsGoOn, Reached}
+use Rattle.kept_state.specs.Running.{is_run, is_stale}
+use Rattle.kept_state.specs.Steps.{StaysAs}
+use Rattle.kept_state.specs.Steps.{RunsPair as KeepsRun}
+use Rattle.kept_reads.specs.declared.kept_reads.KeptReads.{KeptReads}
+use Rattle.kept_reads.specs.Reads.{may_be_stale, reads_at}
 use Rattle.kept_units.specs.declared.kept_units.KeptUnits.{KeptUnits}
-use Rattle.kept_reads.specs.Reads.{IsIndexed, may_be_stale, reads_at}
-use Rattle.kept_units.specs.Keeping.{kept_reads, place_of}
-use Rattle.kept_units.specs.inner.Refreshing.{GoesOn, goes_one, goes_past, NoneChanged, IsReady, NodesRefreshed, PairAt, PairStays, PairsAlone, PatternKept, PatternKnown, PatternsRefreshed, RefreshesPair, RunsPair, TellsRun, flag_at, is_run, pair_dead, pair_left, pair_ran}
-use Rattle.kept_units.proofs.ListLemmas.{flat_last, last_in, last_out, number_more}
-use Rattle.kept_units.proofs.RaisedLemmas.{raised_in, raised_none, raised_out, raised_pair, raised_then}
-use Rattle.kept_units.proofs.ReadLemmas.{Told, kept_where_clean, run_told}
-
--- the flags of all lets tell of all that is read
-told_all : (f : Read → Bool) (flag : ℕ → Bool) → ((slot : ℕ) → flag slot ≡ f (variable slot)) → ((c : Cell) → f (cell c) ≡ false) → (xs : List Read) → Each (Told f flag) xs
-told_all f flag flags cells [] = tt
-told_all f flag flags cells (cell c ∷ xs) = (cells c, told_all f flag flags cells xs)
-told_all f flag flags cells (variable slot ∷ xs) = (flags slot, told_all f flag flags cells xs)
+use Rattle.kept_units.specs.Keeping.{IsHeld, held_by, place_of, reads_in, seen_in}
+use Rattle.kept_units.specs.inner.Refreshing.{KeepsPair, Leaves, NodesCut, NodesRefreshed, PairStops, PairsAlone, PairsReady, PatternsCut, PatternsRefreshed, RefreshesPair, pair_dead, pair_left, pair_ran, SpentOn, StepsOn, steps_one, steps_past, pair_runs, units_below}
+use Rattle.kept_units.proofs.ListLemmas.{flat_last, last_in, last_out, number_more, range_split}
+use Rattle.kept_units.proofs.RaisedLemmas.{raised_in, raised_none, raised_pair, raised_then, spent_in, spent_more, spent_one, spent_raised, spent_then}
+use Rattle.kept_units.proofs.SeenLemmas.{other_place, seen_pair, seen_past}
 
 -- a live node has been made
 pub live_made : (T : Table) (n : ℕ) → is_live T n ≡ true → n < length T
@@ -44,272 +36,281 @@ live_made T n live = elim (cases_lt n (length T)) [
   | inr past ↦ absurd (false≢true (ap is_some (sym (get_or_past T n None past)) ∙ live))
 ]
 
-pair_stays_at : (plan : Plan) (T : Table) (q m : ℕ) (old new : KeptUnits) → PairStays plan q m old new → PairAt plan T q m old → PairAt plan T q m new
-pair_stays_at plan T q m old new stays at = record { outcome = stays.outcome ∙ at.outcome; reads = stays.reads ∙ at.reads }
+-- Nothing but nodes under patterns changes
 
-pair_stays_on : (plan : Plan) (q m : ℕ) (old mid new : KeptUnits) → PairStays plan q m old mid → PairStays plan q m mid new → PairStays plan q m old new
-pair_stays_on plan q m old mid new first next = record { outcome = next.outcome ∙ first.outcome; reads = next.reads ∙ first.reads }
-
-left_pair_stays : (plan : Plan) (q m : ℕ) (old new : KeptUnits) → new ≡ old → PairStays plan q m old new
-left_pair_stays plan q m old new same = record { outcome = ap (λ (k : KeptUnits). outcome_at k.found q m) same; reads = ap (λ (k : KeptUnits). reads_at k.reads.entries.items (place_of plan q m)) same }
-
--- another node or pattern has another place
-other_place : (plan : Plan) (p n q m : ℕ) → p < length plan.patterns → q < length plan.patterns → (q ≢ p) ⊎ (m ≢ n) → place_of plan q m ≢ place_of plan p n
-other_place plan p n q m low below (inl differ) same = differ (same_place (length plan.patterns) q p m n below low same).1
-other_place plan p n q m low below (inr differ) same = differ (same_place (length plan.patterns) q p m n below low same).0
-
-ran_pair_stays : (plan : Plan) (e : Evaluation EvalFault Outcome) (p n q m : ℕ) (old new : KeptUnits) (before after : ℕ) → p < length plan.patterns → q < length plan.patterns → (q ≢ p) ⊎ (m ≢ n) →
-    RunsPair plan e p n old new before after → PairStays plan q m old new
-ran_pair_stays plan e p n q m old new before after low below differ runs = record {
-  outcome = runs.puts.others q m differ;
-  reads = ap (λ (entries : List (Option Recorded)). reads_at entries (place_of plan q m)) runs.reads
-      ∙ get_or-set_other old.reads.entries.items (place_of plan p n) (place_of plan q m) (Some (note_all nothing_read e.reads)) None (other_place plan p n q m low below differ);
-}
-
-module _ (stand : CleanUnitsStand) (plan : Plan) (T : Table) (p : ℕ) (typed : RulesTyped plan p) (low : p < length plan.patterns) where
-  -- whether a node is run
-  pair_told : (since : Option Since) (n : ℕ) (kept : KeptUnits) (flags : List Bool) (runs : Bool) → PatternKept plan since T p kept flags →
-      TellsRun (kept_reads plan since (under p n)) flags runs → is_run plan since T (under p n) ≡ runs
-  pair_told None n kept flags runs keeps tells = sym tells
-  pair_told (Some since) n kept flags runs keeps tells =
-      let known : PatternKnown plan T p kept flags since = keeps.known in
-      run_told (is_touched since.touched) (is_changed plan since.base T) flags (reads_of plan since.base (under p n)) (is_new since.base (under p n)) runs
-      (told_all (is_changed plan since.base T) (flag_at flags) known.flags_are (λ c. refl) (reads_of plan since.base (under p n))) tells
-
-  -- a node that isn't run stands
-  left_pair_at : (since : Option Since) (n : ℕ) (kept : KeptUnits) (flags : List Bool) → is_live T n ≡ true → PatternKept plan since T p kept flags →
-      is_run plan since T (under p n) ≡ false → PairAt plan T p n kept
-  left_pair_at None n kept flags live keeps clean = absurd (false≢true (sym clean))
-  left_pair_at (Some since) n kept flags live keeps clean =
-      let known : PatternKnown plan T p kept flags since = keeps.known in
-      let held = kept_where_clean (is_touched since.touched) (is_changed plan since.base T) (reads_of plan since.base (under p n)) (is_new since.base (under p n))
-      (note_all nothing_read (reads_of plan since.base (under p n))) clean in
-      let same : unit_pair plan since.base (lets_of plan since.base) p n ≡ unit_pair plan T (lets_of plan T) p n =
-      sym (stand.pairs plan since.base T since.touched p n known.formed known.edits typed live clean) in
-      record {
-        outcome = known.outcomes n (not-false (is_live since.base n) held.0) live ∙ ap (λ (e : Evaluation EvalFault Outcome). Some (outcome_of e.answer)) same;
-        reads = keeps.reads n live ∙ held.1 ∙ ap (λ (e : Evaluation EvalFault Outcome). Some (note_all nothing_read e.reads)) same;
-      }
-
-  -- a node that was run
-  ran_pair_at : (n : ℕ) (old new : KeptUnits) (before after : ℕ) → place_of plan p n < length old.reads.entries.items →
-      RunsPair plan (unit_pair plan T (lets_of plan T) p n) p n old new before after → PairAt plan T p n new
-  ran_pair_at n old new before after place runs = record {
-    outcome = runs.puts.there;
-    reads = ap (λ (entries : List (Option Recorded)). reads_at entries (place_of plan p n)) runs.reads
-        ∙ get_or-set_same old.reads.entries.items (place_of plan p n) (Some (note_all nothing_read (unit_pair plan T (lets_of plan T) p n).reads)) None place;
-  }
-
-  -- the units of the live nodes below a number
-  abbrev units_below : ℕ → List ValidationUnit
-  units_below n = map (under p) (filter (is_live T) (range_with_len 0 n))
-
-  one_live : (n : ℕ) → is_live T n ≡ true → units_below (n + 1) ≡ units_below n ++ under p n ∷ []
-  one_live n live =
-      ap (λ (ns : List ℕ). map (under p) (filter (is_live T) ns)) (number_more n)
-      ∙ ap (map (under p)) (last_in (is_live T) (range_with_len 0 n) n live)
-      ∙ map-append (under p) (filter (is_live T) (range_with_len 0 n)) (n ∷ [])
-
-  one_dead : (n : ℕ) → is_live T n ≡ false → units_below (n + 1) ≡ units_below n
-  one_dead n dead =
-      ap (λ (ns : List ℕ). map (under p) (filter (is_live T) ns)) (number_more n)
-      ∙ ap (map (under p)) (last_out (is_live T) (range_with_len 0 n) n dead)
-
-  -- one node more
-  finish : (since : Option Since) (n : ℕ) (old mid new : KeptUnits) (before middle after : ℕ) → NodesRefreshed plan since T p n old mid before middle →
-      (is_live T n ≡ true → PairAt plan T p n new) → ((q m : ℕ) → q < length plan.patterns → (q ≢ p) ⊎ (m ≢ n) → PairStays plan q m mid new) →
-      Raised plan T (filter (is_run plan since T) (units_below (n + 1))) before after → NodesRefreshed plan since T p (n + 1) old new before after
-  finish since n old mid new before middle after so_far at others raised = record {
-    done = λ m below live. (elim (cases_eq m n) [
-      | inl same ↦ subst (λ (k : ℕ). PairAt plan T p k new) (sym same) (at (subst (λ (k : ℕ). is_live T k ≡ true) same live))
-      | inr differ ↦ pair_stays_at plan T p m mid new (others p m low (inr differ)) (so_far.done m (omega (arith, below, differ)) live)
-    ]);
-    stays = λ q m below apart. pair_stays_on plan q m old mid new (so_far.stays q m below (earlier q m apart)) (others q m below (differs q m apart));
-    raised = raised;
-  }
-    where
-      earlier : (q m : ℕ) → (q ≢ p) ⊎ (n + 1 ≤ m) → (q ≢ p) ⊎ (n ≤ m)
-      earlier q m (inl differ) = inl differ
-      earlier q m (inr past) = inr (omega (arith, past))
-
-      differs : (q m : ℕ) → (q ≢ p) ⊎ (n + 1 ≤ m) → (q ≢ p) ⊎ (m ≢ n)
-      differs q m (inl differ) = inl differ
-      differs q m (inr past) = inr (λ same. omega (arith, past, same))
-
-  pub node_on : (since : Option Since) (n : ℕ) (flags : List Bool) (old mid new : KeptUnits) (before middle after : ℕ) → place_of plan p n < length mid.reads.entries.items → mid.lets ≡ old.lets →
-      PatternKept plan since T p old flags → NodesRefreshed plan since T p n old mid before middle → RefreshesPair plan T p n flags mid new middle after →
-      NodesRefreshed plan since T p (n + 1) old new before after
-  node_on since n flags old mid new before middle after place lets keeps so_far (pair_ran live tells ran) =
-      let runs : RunsPair plan (unit_pair plan T (lets_of plan T) p n) p n mid new middle after =
-      subst (λ (L : Lets). RunsPair plan (unit_pair plan T L p n) p n mid new middle after) (lets ∙ keeps.lets) ran in
-      let stays = so_far.stays p n low (inr (omega arith)) in
-      let told : is_run plan since T (under p n) ≡ true =
-      pair_told since n old flags true keeps (subst (λ (entry : Option Recorded). TellsRun entry flags true) (stays.reads ∙ keeps.reads n live) tells) in
-      finish since n old mid new before middle after so_far (λ _. ran_pair_at n mid new middle after place runs)
-      (λ q m below differ. ran_pair_stays plan (unit_pair plan T (lets_of plan T) p n) p n q m mid new middle after low below differ runs)
-      (subst (λ (units : List ValidationUnit). Raised plan T (filter (is_run plan since T) units) before after) (sym (one_live n live))
-      (raised_in plan T (is_run plan since T) (units_below n) (under p n) before middle after told so_far.raised (raised_pair plan T p n middle after runs.took)))
-  node_on since n flags old mid new before middle after place lets keeps so_far (pair_left live tells leaves) =
-      let stays = so_far.stays p n low (inr (omega arith)) in
-      let told : is_run plan since T (under p n) ≡ false =
-      pair_told since n old flags false keeps (subst (λ (entry : Option Recorded). TellsRun entry flags false) (stays.reads ∙ keeps.reads n live) tells) in
-      finish since n old mid new before middle after so_far
-      (λ _. pair_stays_at plan T p n old new (pair_stays_on plan p n old mid new stays (left_pair_stays plan p n mid new leaves.kept)) (left_pair_at since n old flags live keeps told))
-      (λ q m below differ. left_pair_stays plan q m mid new leaves.kept)
-      (subst (λ (units : List ValidationUnit). Raised plan T (filter (is_run plan since T) units) before after) (sym (one_live n live))
-      (raised_out plan T (is_run plan since T) (units_below n) (under p n) before middle after told so_far.raised leaves.count))
-  node_on since n flags old mid new before middle after place lets keeps so_far (pair_dead dead leaves) =
-      finish since n old mid new before middle after so_far (λ live. absurd (false≢true (sym dead ∙ live)))
-      (λ q m below differ. left_pair_stays plan q m mid new leaves.kept)
-      (subst (λ (units : List ValidationUnit). Raised plan T (filter (is_run plan since T) units) before after) (sym (one_dead n dead))
-      (subst (λ (count : ℕ). Raised plan T (filter (is_run plan since T) (units_below n)) before count) (sym leaves.count) so_far.raised))
-
-  -- a node that isn't stale is passed over where no let has another outcome
-  tells_none : (entry : Option Recorded) (flags : List Bool) → is_none entry ≡ false → NoneChanged flags → TellsRun entry flags false
-  tells_none None flags some none = absurd (false≢true (sym some))
-  tells_none (Some held) flags some none = record { some = λ found. absurd (false≢true found); none = λ _ slot _. none slot }
-
-  node_passed : (since : Option Since) (n : ℕ) (flags : List Bool) (old mid : KeptUnits) (before middle : ℕ) → PatternKept plan since T p old flags → NodesRefreshed plan since T p n old mid before middle →
-      may_be_stale old.reads.stale_blocks.items n ≡ false → NoneChanged flags → NodesRefreshed plan since T p (n + 1) old mid before middle
-  node_passed since n flags old mid before middle keeps so_far clean none = by (is_live T n) refl
-    where
-      stays : PairStays plan p n old mid
-      stays = so_far.stays p n low (inr (omega arith))
-
-      by : (b : Bool) → is_live T n ≡ b → NodesRefreshed plan since T p (n + 1) old mid before middle
-      by true live =
-          let told : is_run plan since T (under p n) ≡ false =
-          pair_told since n old flags false keeps (subst (λ (entry : Option Recorded). TellsRun entry flags false) (keeps.reads n live)
-          (tells_none (reads_at old.reads.entries.items (place_of plan p n)) flags (keeps.passed n live clean) none)) in
-          finish since n old mid mid before middle middle so_far (λ _. pair_stays_at plan T p n old mid stays (left_pair_at since n old flags live keeps told))
-          (λ q m below differ. left_pair_stays plan q m mid mid refl)
-          (subst (λ (units : List ValidationUnit). Raised plan T (filter (is_run plan since T) units) before middle) (sym (one_live n live))
-          (raised_out plan T (is_run plan since T) (units_below n) (under p n) before middle middle told so_far.raised refl))
-      by false dead =
-          finish since n old mid mid before middle middle so_far (λ live. absurd (false≢true (sym dead ∙ live)))
-          (λ q m below differ. left_pair_stays plan q m mid mid refl)
-          (subst (λ (units : List ValidationUnit). Raised plan T (filter (is_run plan since T) units) before middle) (sym (one_dead n dead)) so_far.raised)
-
-  nodes_passed : (count : ℕ) (since : Option Since) (n : ℕ) (flags : List Bool) (old mid : KeptUnits) (before middle : ℕ) → PatternKept plan since T p old flags →
-      NodesRefreshed plan since T p n old mid before middle → ((m : ℕ) → n ≤ m → m < n + count → may_be_stale old.reads.stale_blocks.items m ≡ false) → NoneChanged flags →
-      NodesRefreshed plan since T p (n + count) old mid before middle
-  nodes_passed zero since n flags old mid before middle keeps so_far clean none =
-      subst (λ (k : ℕ). NodesRefreshed plan since T p k old mid before middle) (sym (add-zero n)) so_far
-  nodes_passed (suc count) since n flags old mid before middle keeps so_far clean none =
-      let place : (n + 1) + count ≡ n + suc count = omega arith in
-      subst (λ (k : ℕ). NodesRefreshed plan since T p k old mid before middle) place
-      (nodes_passed count since (n + 1) flags old mid before middle keeps
-      (node_passed since n flags old mid before middle keeps so_far (clean n (omega arith) (omega arith)) none)
-      (λ m above below. clean m (omega (arith, above)) (omega (arith, below))) none)
-
-  pub goes_on : (since : Option Since) (n next : ℕ) (flags : List Bool) (old mid new : KeptUnits) (before middle after : ℕ) → place_of plan p n < length mid.reads.entries.items → mid.lets ≡ old.lets →
-      mid.reads.stale_blocks ≡ old.reads.stale_blocks → PatternKept plan since T p old flags → NodesRefreshed plan since T p n old mid before middle → GoesOn plan T p n next flags mid new middle after →
-      NodesRefreshed plan since T p next old new before after
-  goes_on since n next flags old mid new before middle after place lets blocks keeps so_far (goes_one is refreshes) =
-      subst (λ (k : ℕ). NodesRefreshed plan since T p k old new before after) (sym is)
-      (node_on since n flags old mid new before middle after place lets keeps so_far refreshes)
-  goes_on since n next flags old mid new before middle after place lets blocks keeps so_far (goes_past later clean none leaves) =
-      let end : n + (next - n) ≡ next = omega (arith, later) in
-      subst (λ (k : KeptUnits). NodesRefreshed plan since T p next old k before after) (sym leaves.kept)
-      (subst (λ (count : ℕ). NodesRefreshed plan since T p next old mid before count) (sym leaves.count)
-      (subst (λ (k : ℕ). NodesRefreshed plan since T p k old mid before middle) end
-      (nodes_passed (next - n) since n flags old mid before middle keeps so_far
-      (λ m above below. ap (λ v. may_be_stale v.items m) (sym blocks) ∙ clean m above (omega (arith, below, end))) none)))
-
--- nothing but nodes under patterns changes in one step and in the next
-pub pairs_alone_on : (old mid new : KeptUnits) → PairsAlone old mid → PairsAlone mid new → PairsAlone old new
-pairs_alone_on old mid new first next = record {
+pub alone_on : (old mid new : KeptUnits) → PairsAlone old mid → PairsAlone mid new → PairsAlone old new
+alone_on old mid new first next = record {
   lets = next.lets ∙ first.lets;
   let_reads = next.let_reads ∙ first.let_reads;
   patterns = next.patterns ∙ first.patterns;
   places = next.places ∙ first.places;
   blocks = next.blocks ∙ first.blocks;
-  indexed = λ indexed. next.indexed (first.indexed indexed);
+  stays = λ place had. next.stays place (first.stays place had);
 }
 
-pub pairs_stay : (old new : KeptUnits) → new ≡ old → PairsAlone old new
-pairs_stay old new same = record {
+pub alone_left : (old new : KeptUnits) → new ≡ old → PairsAlone old new
+alone_left old new same = record {
   lets = ap (λ (k : KeptUnits). k.lets) same;
   let_reads = ap (λ (k : KeptUnits). k.let_reads) same;
   patterns = ap (λ (k : KeptUnits). k.found.patterns) same;
-  places = ap (λ (k : KeptUnits). length k.reads.entries.items) same;
+  places = ap (λ (k : KeptUnits). length k.reads.entries) same;
   blocks = ap (λ (k : KeptUnits). k.reads.stale_blocks) same;
-  indexed = subst (λ (k : KeptUnits). IsIndexed k.reads) (sym same);
+  stays = λ place had. ap (λ (k : KeptUnits). is_none (reads_at k.reads.entries place)) same ∙ had;
 }
 
-pub ran_pairs_alone : (plan : Plan) (e : Evaluation EvalFault Outcome) (p n : ℕ) (old new : KeptUnits) (before after : ℕ) → RunsPair plan e p n old new before after → PairsAlone old new
-ran_pairs_alone plan e p n old new before after runs = record {
-  lets = runs.lets;
-  let_reads = runs.let_reads;
-  patterns = runs.puts.patterns;
-  places = ap length runs.reads ∙ length-set old.reads.entries.items (place_of plan p n) (Some (note_all nothing_read e.reads));
-  blocks = runs.blocks;
-  indexed = runs.indexed;
+-- the places stay those of the tree
+pub held_alone : (plan : Plan) (T : Table) (old new : KeptUnits) → PairsAlone old new → IsHeld plan T old → IsHeld plan T new
+held_alone plan T old new alone held = record {
+  patterns = alone.patterns ∙ held.patterns;
+  lets_short = omega (arith, ap (λ (k : KeptReads). length k.entries) alone.let_reads, held.lets_short);
+  short = omega (arith, alone.places, held.short);
+  blocks = omega (arith, ap (λ v. length v.items) alone.blocks, held.blocks);
+  passed = λ p n low live clean. alone.stays (place_of plan p n) (held.passed p n low live (ap (λ v. may_be_stale v.items n) (sym alone.blocks) ∙ clean));
 }
 
--- the nodes under a pattern may still be evaluated
-pub ready_on : (plan : Plan) (T : Table) (p : ℕ) (old new : KeptUnits) → PairsAlone old new → IsReady plan T p old → IsReady plan T p new
-ready_on plan T p old new alone ready = record {
-  counted = ready.counted;
-  active = ready.active;
+pub ready_alone : (plan : Plan) (T : Table) (old new : KeptUnits) → PairsAlone old new → PairsReady plan T old → PairsReady plan T new
+ready_alone plan T old new alone ready = record {
+  lets = alone.lets ∙ ready.lets;
   few = omega (arith, ap length alone.lets, ready.few);
-  patterns = alone.patterns ∙ ready.patterns;
-  places = omega (arith, alone.places, ready.places);
+  held = held_alone plan T old new alone ready.held;
 }
 
--- a node that was made has a place
-pub place_within : (plan : Plan) (T : Table) (p n : ℕ) (kept : KeptUnits) → n < length T → IsReady plan T p kept → place_of plan p n < length kept.reads.entries.items
-place_within plan T p n kept made ready =
-    omega (arith, mul-add-lt n (length plan.patterns) p (length T) made ready.active, mul_comm (length T) (length plan.patterns), ready.places)
+-- what is kept of a node under a pattern, where all other entries stay
+module _ (plan : Plan) (T : Table) (p n : ℕ) (old new : KeptUnits) (low : p < length plan.patterns) (patterns : old.found.patterns ≡ length plan.patterns) (alone : PairsAlone old new)
+    (others : (q m : ℕ) → (q ≢ p) ⊎ (m ≢ n) → outcome_at new.found q m ≡ outcome_at old.found q m)
+    (entries : (place : ℕ) → place ≢ place_of plan p n → reads_at new.reads.entries place ≡ reads_at old.reads.entries place) where
+  differ : (q m : ℕ) → under q m ≢ under p n → (q ≢ p) ⊎ (m ≢ n)
+  differ q m other = elim (cases_eq q p) [
+    | inl same ↦ inr (λ (is : m ≡ n). other (ap (λ (k : ℕ). under k m) same ∙ ap (under p) is))
+    | inr apart ↦ inl apart
+  ]
+
+  seen_stays : (unit : ValidationUnit) → unit ≢ under p n → StaysAs (seen_in old) (seen_in new) unit
+  seen_stays (in_force slot) other = record {
+    given = ap (λ (L : Lets). in_slot L slot) alone.lets;
+    reads = ap (λ (k : KeptReads). reads_at k.entries slot) alone.let_reads;
+  }
+  seen_stays (under q m) other = record {
+    given = others q m (differ q m other);
+    reads = by (cases_lt q (length plan.patterns));
+  }
+    where
+      by : (q < length plan.patterns) ⊎ (length plan.patterns ≤ q) → reads_in (held_by new) (under q m) ≡ reads_in (held_by old) (under q m)
+      by (inl below) =
+          seen_pair plan q m new (alone.patterns ∙ patterns) below ∙ entries (place_of plan q m) (other_place plan p n q m low below (differ q m other))
+          ∙ sym (seen_pair plan q m old patterns below)
+      by (inr past) = seen_past plan q m new (alone.patterns ∙ patterns) past ∙ sym (seen_past plan q m old patterns past)
+
+  pub keeps_run : ((held : Recorded) → reads_at new.reads.entries (place_of plan p n) ≡ Some held → Stands plan T (seen_in new) (under p n) held) → KeepsRun plan T p n (seen_in old) (seen_in new)
+  keeps_run stands = record {
+    lets = alone.lets;
+    stands = λ held is. stands held (sym (seen_pair plan p n new (alone.patterns ∙ patterns) low) ∙ is);
+    others = seen_stays;
+  }
+
+-- Units
+
+one_live : (T : Table) (p n : ℕ) → is_live T n ≡ true → units_below T p (n + 1) ≡ units_below T p n ++ under p n ∷ []
+one_live T p n live =
+    ap (λ (ns : List ℕ). map (under p) (filter (is_live T) ns)) (number_more n)
+    ∙ ap (map (under p)) (last_in (is_live T) (range_with_len 0 n) n live)
+    ∙ map-append (under p) (filter (is_live T) (range_with_len 0 n)) (n ∷ [])
+
+one_dead : (T : Table) (p n : ℕ) → is_live T n ≡ false → units_below T p (n + 1) ≡ units_below T p n
+one_dead T p n dead =
+    ap (λ (ns : List ℕ). map (under p) (filter (is_live T) ns)) (number_more n)
+    ∙ ap (map (under p)) (last_out (is_live T) (range_with_len 0 n) n dead)
+
+-- nodes that don't pass a test add no unit
+one_passed : (T : Table) (p n : ℕ) (run : ValidationUnit → Bool) → (is_live T n ≡ true → run (under p n) ≡ false) → filter run (units_below T p (n + 1)) ≡ filter run (units_below T p n)
+one_passed T p n run none = by (is_live T n) refl
+  where
+    by : (b : Bool) → is_live T n ≡ b → filter run (units_below T p (n + 1)) ≡ filter run (units_below T p n)
+    by true live = ap (filter run) (one_live T p n live) ∙ last_out run (units_below T p n) (under p n) (none live)
+    by false dead = ap (filter run) (one_dead T p n dead)
+
+units_passed : (T : Table) (p n count : ℕ) (run : ValidationUnit → Bool) → ((m : ℕ) → n ≤ m → m < n + count → is_live T m ≡ true → run (under p m) ≡ false) →
+    filter run (units_below T p (n + count)) ≡ filter run (units_below T p n)
+units_passed T p n zero run none = ap (λ (k : ℕ). filter run (units_below T p k)) (add-zero n)
+units_passed T p n (suc count) run none =
+    let place : n + suc count ≡ (n + count) + 1 = omega arith in
+    ap (λ (k : ℕ). filter run (units_below T p k)) place
+    ∙ one_passed T p (n + count) run (none (n + count) (omega arith) (omega arith))
+    ∙ units_passed T p n count run (λ m above below. none m above (omega (arith, below)))
+
+-- the nodes behind one more
+rest_of : (T : Table) (p n : ℕ) → n < length T → is_live T n ≡ true → (rest : List ValidationUnit) × (node_units T p ≡ (units_below T p n ++ under p n ∷ []) ++ rest)
+rest_of T p n within live =
+    let count : length T ≡ (n + 1) + (length T - (n + 1)) = omega (arith, within) in
+    let last = range_with_len (0 + (n + 1)) (length T - (n + 1)) in (
+      map (under p) (filter (is_live T) last),
+      ap (λ (ns : List ℕ). map (under p) (filter (is_live T) ns)) (ap (range_with_len 0) count ∙ range_split 0 (n + 1) (length T - (n + 1)))
+          ∙ ap (map (under p)) (filter-append (is_live T) (range_with_len 0 (n + 1)) last)
+          ∙ map-append (under p) (filter (is_live T) (range_with_len 0 (n + 1))) (filter (is_live T) last)
+          ∙ ap (λ units. units ++ map (under p) (filter (is_live T) last)) (one_live T p n live),
+    )
+
+-- Steps
+
+not_behind : (p n m : ℕ) → n ≤ m → ComesBefore (under p m) (under p n) → ⊥
+not_behind p n m past before = ⊎_elim (λ (less : p < p). omega (arith, less)) (λ (both : (p ≡ p) × (m < n)). omega (arith, both.1, past)) before
+
+module _ (plan : Plan) (T : Table) (go : PairsGoOn plan T) (p : ℕ) (low : p < length plan.patterns) (typed : RulesTyped plan p) (n : ℕ) (mid new : KeptUnits) (ready : PairsReady plan T mid) where
+  -- a node is stale where nothing is kept at its place
+  stale_seen : (m : ℕ) → is_stale (seen_in mid) (under p m) ≡ pair_runs plan p m mid
+  stale_seen m = ap is_none (seen_pair plan p m mid ready.held.patterns low)
+
+  told : (was : Kept) (m : ℕ) → n ≤ m → Reached plan T (under p n) was (seen_in mid) → is_run plan T was (under p m) ≡ pair_runs plan p m mid
+  told was m past reached = go.tells p n p m was (seen_in mid) reached (not_behind p n m past) ∙ stale_seen m
+
+  -- a node that was run
+  module _ (alone : PairsAlone mid new) (place : place_of plan p n < length mid.reads.entries) (runs : KeepsPair plan T (outcome_of (unit_pair plan T mid.lets p n).answer) (noted (unit_pair plan T mid.lets p n).reads) p n mid new) where
+    entry : reads_at new.reads.entries (place_of plan p n) ≡ Some runs.held
+    entry = ap (λ (entries : List (Option Recorded)). reads_at entries (place_of plan p n)) runs.puts.entries ∙ get_or-set_same mid.reads.entries (place_of plan p n) (Some runs.held) None place
+
+    stands : (held : Recorded) → reads_at new.reads.entries (place_of plan p n) ≡ Some held → Stands plan T (seen_in new) (under p n) held
+    stands held is =
+        let same : runs.held ≡ held = (let e = sym entry ∙ is in cc) in
+        record {
+          gave = runs.puts.found.there ∙ ap (λ (L : Lets). Some (outcome_of (unit_pair plan T L p n).answer)) (sym alone.lets);
+          read = subst (λ (L : Lets). HeldAlike T held (noted (unit_pair plan T L p n).reads)) (sym alone.lets)
+              (subst (λ (h : Recorded). HeldAlike T h (noted (unit_pair plan T mid.lets p n).reads)) same runs.alike);
+        }
+
+    run_kept : KeepsRun plan T p n (seen_in mid) (seen_in new)
+    run_kept = keeps_run plan T p n mid new low ready.held.patterns alone runs.puts.found.others
+        (λ at apart. ap (λ (entries : List (Option Recorded)). reads_at entries at) runs.puts.entries ∙ get_or-set_other mid.reads.entries (place_of plan p n) at (Some runs.held) None apart) stands
+
+    reached_run : (was : Kept) → n < length T → pair_runs plan p n mid ≡ true → Reached plan T (under p n) was (seen_in mid) → Reached plan T (under p (n + 1)) was (seen_in new)
+    reached_run was made stale reached = go.ran p n was (seen_in mid) (seen_in new) reached made (stale_seen n ∙ stale) run_kept
+        (ap is_none (seen_pair plan p n new (alone.patterns ∙ ready.held.patterns) low ∙ entry))
+
+module _ (plan : Plan) (T : Table) (go : PairsGoOn plan T) (p : ℕ) (low : p < length plan.patterns) (typed : RulesTyped plan p) where
+  -- nodes that aren't stale are passed over
+  pub passed_over : (n next : ℕ) (old mid : KeptUnits) (before middle : ℕ) → PairsReady plan T mid → NodesRefreshed plan T p n old mid before middle → n ≤ next →
+      ((m : ℕ) → n ≤ m → m < next → is_live T m ≡ true → pair_runs plan p m mid ≡ false) → NodesRefreshed plan T p next old mid before middle
+  passed_over n next old mid before middle ready so_far later clean = record {
+    alone = so_far.alone;
+    reached = λ was start. go.left p n next was (seen_in mid) (so_far.reached was start) typed later
+        (λ m above below live. stale_seen plan T go p low typed n mid mid ready m ∙ clean m above below live);
+    raised = λ was start. subst (λ (units : List ValidationUnit). Raised plan T units before middle)
+        (sym (passed (is_run plan T was) (λ m above below live. told plan T go p low typed n mid mid ready was m above (so_far.reached was start) ∙ clean m above below live)))
+        (so_far.raised was start);
+  }
+    where
+      end : n + (next - n) ≡ next
+      end = omega (arith, later)
+
+      passed : (run : ValidationUnit → Bool) → ((m : ℕ) → n ≤ m → m < next → is_live T m ≡ true → run (under p m) ≡ false) → filter run (units_below T p next) ≡ filter run (units_below T p n)
+      passed run none = ap (λ (k : ℕ). filter run (units_below T p k)) (sym end) ∙ units_passed T p n (next - n) run (λ m above below. none m above (omega (arith, below, end)))
+
+  -- where all stays as it was
+  left_over : (k : ℕ) (old mid new : KeptUnits) (before middle after : ℕ) → Leaves mid new middle after → NodesRefreshed plan T p k old mid before middle → NodesRefreshed plan T p k old new before after
+  left_over k old mid new before middle after leaves refreshed =
+      subst (λ (kept : KeptUnits). NodesRefreshed plan T p k old kept before after) (sym leaves.kept)
+      (subst (λ (count : ℕ). NodesRefreshed plan T p k old mid before count) (sym leaves.count) refreshed)
+
+  node_on : (n : ℕ) (old mid new : KeptUnits) (before middle after : ℕ) → place_of plan p n < length mid.reads.entries → PairsReady plan T mid → PairsAlone mid new →
+      NodesRefreshed plan T p n old mid before middle → RefreshesPair plan T p n mid new middle after → NodesRefreshed plan T p (n + 1) old new before after
+  node_on n old mid new before middle after place ready alone so_far (pair_ran live stale ran) = record {
+    alone = alone_on old mid new so_far.alone alone;
+    reached = λ was start. reached_run plan T go p low typed n mid new ready alone place ran.keeps was (live_made T n live) stale (so_far.reached was start);
+    raised = λ was start. subst (λ (units : List ValidationUnit). Raised plan T (filter (is_run plan T was) units) before after) (sym (one_live T p n live))
+        (raised_in plan T (is_run plan T was) (units_below T p n) (under p n) before middle after
+        (told plan T go p low typed n mid new ready was n (omega arith) (so_far.reached was start) ∙ stale) (so_far.raised was start)
+        (raised_pair plan T mid.lets p n middle after ready.lets ran.took));
+  }
+  node_on n old mid new before middle after place ready alone so_far (pair_left live had leaves) =
+      left_over (n + 1) old mid new before middle after leaves (passed_over n (n + 1) old mid before middle ready so_far (omega arith)
+      (λ m above below lives. let same : n ≡ m = omega (arith, above, below) in subst (λ (k : ℕ). pair_runs plan p k mid ≡ false) same had))
+  node_on n old mid new before middle after place ready alone so_far (pair_dead dead leaves) =
+      left_over (n + 1) old mid new before middle after leaves (passed_over n (n + 1) old mid before middle ready so_far (omega arith)
+      (λ m above below lives. let same : n ≡ m = omega (arith, above, below) in
+      absurd (false≢true (sym dead ∙ subst (λ (k : ℕ). is_live T k ≡ true) (sym same) lives))))
+
+  pub goes_on : (n next : ℕ) (old mid new : KeptUnits) (before middle after : ℕ) → place_of plan p n < length mid.reads.entries → PairsReady plan T mid → PairsAlone mid new →
+      NodesRefreshed plan T p n old mid before middle → StepsOn plan T p n next mid new middle after → NodesRefreshed plan T p next old new before after
+  goes_on n next old mid new before middle after place ready alone so_far (steps_one is refreshes) =
+      subst (λ (k : ℕ). NodesRefreshed plan T p k old new before after) (sym is) (node_on n old mid new before middle after place ready alone so_far refreshes)
+  goes_on n next old mid new before middle after place ready alone so_far (steps_past later clean leaves) =
+      left_over next old mid new before middle after leaves (passed_over n next old mid before middle ready so_far (omega (arith, later))
+      (λ m above below live. ready.held.passed p m low live (clean m above below)))
+
+  pub node_cut : (n : ℕ) (old mid new : KeptUnits) (before middle after : ℕ) → PairsReady plan T mid → PairsAlone mid new → NodesRefreshed plan T p n old mid before middle →
+      PairStops plan T p n mid new middle after → NodesCut plan T p old new before after
+  node_cut n old mid new before middle after ready alone so_far stops =
+      let rest = rest_of T p n (live_made T n stops.live) stops.live in
+      record {
+        alone = alone_on old mid new so_far.alone alone;
+        goes_on = λ was start. go.stops p n was (seen_in mid) (seen_in new) (so_far.reached was start) (live_made T n stops.live)
+            (stale_seen plan T go p low typed n mid new ready n ∙ stops.runs)
+            (keeps_run plan T p n mid new low ready.held.patterns alone stops.cuts.cut.others (λ place apart. stops.cuts.cut.entries place) unread);
+        spent = λ was start.
+            subst (λ (units : List ValidationUnit). SpentOn plan T (filter (is_run plan T was) units) before after) (sym rest.1)
+            (spent_in plan T (is_run plan T was) (units_below T p n) rest.0 (under p n) before middle after
+            (told plan T go p low typed n mid new ready was n (omega arith) (so_far.reached was start) ∙ stops.runs)
+            (spent_raised plan T (filter (is_run plan T was) (units_below T p n)) before middle (so_far.raised was start))
+            (spent_one plan T (under p n) middle after stops.cuts.spent.later
+            (subst (λ (L : Lets). after ≤ middle + (unit_pair plan T L p n).work) ready.lets stops.cuts.spent.at_most)));
+      }
+    where
+      unread : (held : Recorded) → reads_at new.reads.entries (place_of plan p n) ≡ Some held → Stands plan T (seen_in new) (under p n) held
+      unread held is = absurd (false≢true (ap is_none (sym is ∙ stops.cuts.cut.entries (place_of plan p n)) ∙ stops.runs))
 
 -- no node so far
-pub nodes_begin : (plan : Plan) (T : Table) (p : ℕ) (since : Option Since) (kept : KeptUnits) (count : ℕ) → NodesRefreshed plan since T p 0 kept kept count count
-nodes_begin plan T p since kept count = record {
-  done = λ m below live. absurd (omega (arith, below));
-  stays = λ q m below apart. record { outcome = refl; reads = refl };
-  raised = raised_none plan T count;
-}
+pub nodes_begin : (plan : Plan) (T : Table) (p : ℕ) (kept : KeptUnits) (count : ℕ) → NodesRefreshed plan T p 0 kept kept count count
+nodes_begin plan T p kept count = record { alone = alone_left kept kept refl; reached = λ was start. start; raised = λ was start. raised_none plan T count }
 
 -- Patterns
 
--- a pattern whose nodes stay is kept
-pub pattern_stays : (plan : Plan) (since : Option Since) (T : Table) (p : ℕ) (old mid : KeptUnits) (flags : List Bool) → mid.lets ≡ old.lets → mid.reads.stale_blocks ≡ old.reads.stale_blocks →
-    ((n : ℕ) → PairStays plan p n old mid) → PatternKept plan since T p old flags → PatternKept plan since T p mid flags
-pattern_stays plan since T p old mid flags lets blocks stays keeps = record {
-  lets = lets ∙ keeps.lets;
-  reads = λ n live. (stays n).reads ∙ keeps.reads n live;
-  known = by_since since keeps.known;
-  passed = λ n live clean. ap is_none (stays n).reads ∙ keeps.passed n live (ap (λ v. may_be_stale v.items n) (sym blocks) ∙ clean);
-}
-  where
-    by_since : (o : Option Since) → IfSome o (PatternKnown plan T p old flags) → IfSome o (PatternKnown plan T p mid flags)
-    by_since None known = tt
-    by_since (Some s) known = record { formed = known.formed; edits = known.edits; outcomes = λ n was live. (stays n).outcome ∙ known.outcomes n was live; flags_are = known.flags_are }
+-- the units under one pattern more
+units_more : (T : Table) (p : ℕ) (run : ValidationUnit → Bool) → filter run (flat_map (node_units T) (range_with_len 0 (p + 1))) ≡
+    filter run (flat_map (node_units T) (range_with_len 0 p)) ++ filter run (node_units T p)
+units_more T p run =
+    ap (λ (ns : List ℕ). filter run (flat_map (node_units T) ns)) (number_more p)
+    ∙ ap (filter run) (flat_last (node_units T) (range_with_len 0 p) p)
+    ∙ filter-append run (flat_map (node_units T) (range_with_len 0 p)) (node_units T p)
 
 -- one pattern more
-pub pattern_on : (plan : Plan) (since : Option Since) (T : Table) (p : ℕ) (old mid new : KeptUnits) (before middle after : ℕ) → p < length plan.patterns →
-    PatternsRefreshed plan since T p old mid before middle → NodesRefreshed plan since T p (length T) mid new middle after → PatternsRefreshed plan since T (p + 1) old new before after
-pattern_on plan since T p old mid new before middle after low so_far nodes = record {
-  done = λ q m below earlier live. (elim (cases_eq q p) [
-    | inl same ↦ subst (λ (k : ℕ). PairAt plan T k m new) (sym same) (nodes.done m (live_made T m live) live)
-    | inr differ ↦ pair_stays_at plan T q m mid new (nodes.stays q m below (inl differ)) (so_far.done q m below (omega (arith, earlier, differ)) live)
-  ]);
-  stays = λ q m below past. pair_stays_on plan q m old mid new (so_far.stays q m below (omega (arith, past))) (nodes.stays q m below (inl (λ same. omega (arith, past, same))));
-  raised = subst (λ (units : List ValidationUnit). Raised plan T units before after) (sym more)
-      (raised_then plan T (filter (is_run plan since T) (flat_map (node_units T) (range_with_len 0 p))) (filter (is_run plan since T) (node_units T p)) before middle after so_far.raised nodes.raised);
+pub pattern_on : (plan : Plan) (T : Table) → PairsGoOn plan T → (p : ℕ) (old mid new : KeptUnits) (before middle after : ℕ) →
+    PatternsRefreshed plan T p old mid before middle → NodesRefreshed plan T p (length T) mid new middle after → PatternsRefreshed plan T (p + 1) old new before after
+pattern_on plan T go p old mid new before middle after so_far nodes = record {
+  alone = alone_on old mid new so_far.alone nodes.alone;
+  reached = λ was start. go.next p (length T) was (seen_in new) (nodes.reached was (so_far.reached was start)) (omega arith);
+  raised = λ was start. subst (λ (units : List ValidationUnit). Raised plan T units before after) (sym (units_more T p (is_run plan T was)))
+      (raised_then plan T (filter (is_run plan T was) (flat_map (node_units T) (range_with_len 0 p))) (filter (is_run plan T was) (node_units T p)) before middle after
+      (so_far.raised was start) (nodes.raised was (so_far.reached was start)));
 }
-  where
-    more : filter (is_run plan since T) (flat_map (node_units T) (range_with_len 0 (p + 1))) ≡
-        filter (is_run plan since T) (flat_map (node_units T) (range_with_len 0 p)) ++ filter (is_run plan since T) (node_units T p)
-    more =
-        ap (λ (ns : List ℕ). filter (is_run plan since T) (flat_map (node_units T) ns)) (number_more p)
-        ∙ ap (filter (is_run plan since T)) (flat_last (node_units T) (range_with_len 0 p) p)
-        ∙ filter-append (is_run plan since T) (flat_map (node_units T) (range_with_len 0 p)) (node_units T p)
+
+flat_append : (T : Table) (xs ys : List ℕ) → flat_map (node_units T) (xs ++ ys) ≡ flat_map (node_units T) xs ++ flat_map (node_units T) ys
+flat_append T [] ys = refl
+flat_append T (x ∷ xs) ys = ap (λ zs. node_units T x ++ zs) (flat_append T xs ys) ∙ sym (append_assoc (node_units T x) (flat_map (node_units T) xs) (flat_map (node_units T) ys))
+
+-- the units under some patterns, and then those under the others
+units_split : (plan : Plan) (T : Table) (p : ℕ) (run : ValidationUnit → Bool) → p < length plan.patterns → filter run (flat_map (node_units T) (pattern_numbers plan)) ≡
+    filter run (flat_map (node_units T) (range_with_len 0 (p + 1))) ++ filter run (flat_map (node_units T) (range_with_len (0 + (p + 1)) (length plan.patterns - (p + 1))))
+units_split plan T p run low =
+    let count : length plan.patterns ≡ (p + 1) + (length plan.patterns - (p + 1)) = omega (arith, low) in
+    let last = range_with_len (0 + (p + 1)) (length plan.patterns - (p + 1)) in
+    ap (λ (ns : List ℕ). filter run (flat_map (node_units T) ns)) (ap (range_with_len 0) count ∙ range_split 0 (p + 1) (length plan.patterns - (p + 1)))
+    ∙ ap (filter run) (flat_append T (range_with_len 0 (p + 1)) last)
+    ∙ filter-append run (flat_map (node_units T) (range_with_len 0 (p + 1))) (flat_map (node_units T) last)
+
+pub pattern_cut : (plan : Plan) (T : Table) (p : ℕ) (old mid new : KeptUnits) (before middle after : ℕ) → p < length plan.patterns →
+    PatternsRefreshed plan T p old mid before middle → NodesCut plan T p mid new middle after → PatternsCut plan T old new before after
+pattern_cut plan T p old mid new before middle after low so_far nodes = record {
+  alone = alone_on old mid new so_far.alone nodes.alone;
+  goes_on = λ was start. nodes.goes_on was (so_far.reached was start);
+  spent = λ was start.
+      subst (λ (units : List ValidationUnit). SpentOn plan T units before after) (sym (units_split plan T p (is_run plan T was) low))
+      (spent_more plan T (filter (is_run plan T was) (flat_map (node_units T) (range_with_len 0 (p + 1))))
+      (filter (is_run plan T was) (flat_map (node_units T) (range_with_len (0 + (p + 1)) (length plan.patterns - (p + 1))))) before after
+      (subst (λ (units : List ValidationUnit). SpentOn plan T units before after) (sym (units_more T p (is_run plan T was)))
+      (spent_then plan T (filter (is_run plan T was) (flat_map (node_units T) (range_with_len 0 p))) (filter (is_run plan T was) (node_units T p)) before middle after
+      (spent_raised plan T (filter (is_run plan T was) (flat_map (node_units T) (range_with_len 0 p))) before middle (so_far.raised was start))
+      (nodes.spent was (so_far.reached was start)))));
+}
 
 -- no pattern so far
-pub patterns_begin : (plan : Plan) (since : Option Since) (T : Table) (kept : KeptUnits) (count : ℕ) → PatternsRefreshed plan since T 0 kept kept count count
-patterns_begin plan since T kept count = record {
-  done = λ q m below earlier live. absurd (omega (arith, earlier));
-  stays = λ q m below past. record { outcome = refl; reads = refl };
-  raised = raised_none plan T count;
-}
+pub patterns_begin : (plan : Plan) (T : Table) (kept : KeptUnits) (count : ℕ) → PatternsRefreshed plan T 0 kept kept count count
+patterns_begin plan T kept count = record { alone = alone_left kept kept refl; reached = λ was start. start; raised = λ was start. raised_none plan T count }

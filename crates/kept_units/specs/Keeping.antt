@@ -1,58 +1,50 @@
--- What is kept of the units of a plan over a tree: what each gave when all were last evaluated, and what it read, where no edit has
--- touched that since.
-use Rattle.std.specs.Prelude.{◌≡◌, ℕ, ◌+◌, ◌*◌, ◌<◌, ◌≤◌, Bool, true, false, ◌||◌, length, Option, None, Some, IfSome, is_none, if◌then◌else◌}
-use Rattle.doc_tree.specs.cell.Cell.{Cell}
-use Rattle.doc_tree.specs.Laws.{WellFormed}
+-- What is kept of the units of a plan over a tree, by slots and places, and what it is seen as without these.
+use Rattle.std.specs.Prelude.{◌≡◌, ℕ, ◌+◌, ◌*◌, ◌<◌, ◌≤◌, nat_lt, true, false, List, length, Option, None, is_none, if◌then◌else◌}
 use Rattle.doc_tree.specs.Table.{Table, is_live}
-use Rattle.doc_edit_laws.specs.Along.{Edits}
-use Rattle.xp_outcome.specs.Recorded.{Recorded, note_all, nothing_read}
+use Rattle.xp_outcome.specs.Recorded.{Recorded}
+use Rattle.xp_meaning.specs.Evaluation.{Lets}
 use Rattle.sch_compiled.specs.declared.plan.Plan.{Plan}
-use Rattle.sch_compiled.specs.Findings.{outcome_at}
-use Rattle.sch_units.specs.Units.{lets_of}
-use Rattle.sch_units.specs.Validity.{pair_outcome}
-use Rattle.edit_costs.specs.Dirty.{Since, is_stale}
-use Rattle.edit_costs.specs.Units.{ValidationUnit, in_force, under, reads_of}
-use Rattle.kept_reads.specs.Reads.{IsIndexed, may_be_stale, reads_at}
+use Rattle.sch_compiled.specs.Findings.{OutcomeTable, outcome_at}
+use Rattle.edit_costs.specs.Units.{ValidationUnit, in_force, under}
+use Rattle.kept_state.specs.Kept.{Kept}
+use Rattle.kept_reads.specs.Reads.{may_be_stale, reads_at}
 use Rattle.kept_units.specs.declared.kept_units.KeptUnits.{KeptUnits}
 
--- all units were evaluated over this tree, and no edit has come since
-abbrev pub fresh : Table → Since
-fresh T = record { base = T; touched = λ _. false }
+-- the outcomes of the lets in force and what each read, by slot; the outcomes of nodes under patterns, and what each read, by place
+pub record Held : Type 0 where
+  pub lets : Lets
+  pub let_reads : List (Option Recorded)
+  pub found : OutcomeTable
+  pub reads : List (Option Recorded)
 
--- the same with an edit more, which touched some cells
-abbrev pub touched_too : Option Since → (Cell → Bool) → Option Since
-touched_too None last = None
-touched_too (Some since) last = Some (record { base = since.base; touched = λ c. since.touched c || last c })
+abbrev pub held_by : KeptUnits → Held
+held_by kept = record { lets = kept.lets; let_reads = kept.let_reads.entries; found = kept.found; reads = kept.reads.entries }
 
--- what is kept of what a unit read: nothing where it is stale
-abbrev pub kept_reads : Plan → Option Since → ValidationUnit → Option Recorded
-kept_reads plan None unit = None
-kept_reads plan (Some since) unit =
-    if is_stale plan (Some since) unit then None else Some (note_all nothing_read (reads_of plan since.base unit))
+-- where what a node read under a pattern stands: each node has a row, with a place for each of so many patterns
+abbrev pub place_in : ℕ → ℕ → ℕ → ℕ
+place_in patterns p n = n * patterns + p
 
--- where what a node read under a pattern stands
 abbrev pub place_of : Plan → ℕ → ℕ → ℕ
-place_of plan p n = n * length plan.patterns + p
+place_of plan p n = place_in (length plan.patterns) p n
 
--- what is kept is of the tree over which all units were last evaluated; the edits since made T of it
-pub record KeepsSince (plan : Plan) (T : Table) (kept : KeptUnits) (since : Since) : Type 0 where
-  pub formed : WellFormed since.base
-  pub edits : Edits since.base T since.touched
-  pub lets : kept.lets ≡ lets_of plan since.base
-  pub outcomes : (p n : ℕ) → p < length plan.patterns → is_live since.base n ≡ true → is_live T n ≡ true →
-      outcome_at kept.found p n ≡ Some (pair_outcome plan since.base p n)
+-- what is kept of what a unit read
+abbrev pub reads_in : Held → ValidationUnit → Option Recorded
+reads_in held (in_force slot) = reads_at held.let_reads slot
+reads_in held (under p n) = if nat_lt p held.found.patterns then reads_at held.reads (place_in held.found.patterns p n) else None
 
--- the units of a plan are kept over T
-pub record Keeps (plan : Plan) (T : Table) (since : Option Since) (kept : KeptUnits) : Type 0 where
+-- what is kept, seen without slots of reads and places
+abbrev pub seen : Held → Kept
+seen held = record { lets = held.lets; outcomes = outcome_at held.found; reads = reads_in held }
+
+abbrev pub seen_in : KeptUnits → Kept
+seen_in kept = seen (held_by kept)
+
+-- the places are those of the plan's lets and patterns and of nodes that were made, and a block of nodes that is said to have no
+-- stale unit has none
+pub record IsHeld (plan : Plan) (T : Table) (kept : KeptUnits) : Type 0 where
   pub patterns : kept.found.patterns ≡ length plan.patterns
-  pub few : length kept.lets ≤ length plan.lets
-  pub short : length kept.reads.entries.items ≤ length T * length plan.patterns
-  pub let_reads : (slot : ℕ) → slot < length plan.lets → reads_at kept.let_reads.entries.items slot ≡ kept_reads plan since (in_force slot)
-  pub reads : (p n : ℕ) → p < length plan.patterns → is_live T n ≡ true →
-      reads_at kept.reads.entries.items (place_of plan p n) ≡ kept_reads plan since (under p n)
-  pub known : IfSome since (KeepsSince plan T kept)
-  pub let_indexed : IsIndexed kept.let_reads
-  pub indexed : IsIndexed kept.reads
+  pub lets_short : length kept.let_reads.entries ≤ length plan.lets
+  pub short : length kept.reads.entries ≤ length T * length plan.patterns
   pub blocks : 64 * length kept.reads.stale_blocks.items ≤ length T
   pub passed : (p n : ℕ) → p < length plan.patterns → is_live T n ≡ true → may_be_stale kept.reads.stale_blocks.items n ≡ false →
-      is_none (reads_at kept.reads.entries.items (place_of plan p n)) ≡ false
+      is_none (reads_at kept.reads.entries (place_of plan p n)) ≡ false

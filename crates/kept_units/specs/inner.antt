@@ -1,3 +1,2 @@
-pub mod Marking
+pub mod Forgetting
 pub mod Refreshing
-pub mod Scanning

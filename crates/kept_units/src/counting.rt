@@ -1,9 +1,10 @@
 //! How many units are stale.
 
-ghost use Rattle.std.specs.Prelude.{◌≡◌, length, Option};
+ghost use Rattle.std.specs.Prelude.{◌≡◌, filter, length};
 ghost use Rattle.sch_compiled.specs.Soundness.{IsCounted};
-ghost use Rattle.edit_costs.specs.Dirty.{Since, stale_units};
-ghost use Rattle.kept_units.specs.Keeping.{Keeps};
+ghost use Rattle.edit_costs.specs.Units.{units_of};
+ghost use Rattle.kept_state.specs.Running.{is_stale};
+ghost use Rattle.kept_units.specs.Keeping.{seen_in};
 
 use crate::kept_units::KeptUnits;
 use doc_tree::Tree;
@@ -14,9 +15,9 @@ impl KeptUnits {
     ///
     /// Looks at each of them; takes no memory.
     pub fn stale_count(&self, plan: &Plan, tree: &Tree) -> u64
-        requires { IsCounted plan.now }
-        ensures { (since : Option Since) → Keeps plan.now tree.now.nodes since self.now →
-            result ≡ length (stale_units plan.now since tree.now.nodes) }
+        requires counted { IsCounted plan.now }
+        requires patterns { self.now.found.patterns ≡ length plan.now.patterns }
+        ensures { result ≡ length (filter (is_stale (seen_in self.now)) (units_of plan.now tree.now.nodes)) }
     {
         let patterns = plan.pattern_count();
         let mut count = u64::from(self.let_reads.stale_places(plan.let_count()));

@@ -7,7 +7,5 @@ mod kept_units;
 mod marking;
 mod refreshing_lets;
 mod refreshing_pairs;
-mod scanning;
 
 pub use kept_units::KeptUnits;
-pub use scanning::Evaluated;

@@ -24,7 +24,7 @@ use Rattle.edit_commands.specs.declared.refusal.ApplyError.TheVariants as apply
 use Rattle.edit_commands.specs.Commands.{IsEdited, RefusesCommand, command_refusal}
 use Rattle.sch_compiled.specs.declared.plan.Plan.{Plan}
 use Rattle.edit_session.specs.Pairs.{has_too_many_pairs, pair_cap_for}
-use Rattle.edit_session.specs.Standing.{Standing, evaluated_over}
+use Rattle.edit_session.specs.Standing.{Standing}
 use Rattle.edit_session.specs.State.{shows, state_text}
 use Rattle.edit_session.specs.declared.state.Shown.{Shown}
 use Rattle.sch_stops.specs.declared.refusal.ScriptRefusal.TheVariants as refusal
@@ -42,6 +42,7 @@ use Rattle.sch_loading.specs.Stages.{Is, goes, halt_if}
 use Rattle.sch_cli.specs.inner.Followers.{Beginning, Ending, Goes, IsLed, IsReady, IsUndone, Place, in_front_of, treed_by}
 use Rattle.sch_loading.specs.Reads.{EndsAs}
 use Rattle.sch_cli.specs.inner.Carried.{Concludes, Shows}
+use Rattle.sch_cli.specs.inner.Sessions.{IsEvaluated}
 use Rattle.sch_cli.specs.inner.Writing.{IsOfWriting, WroteText}
 use Rattle.sch_cli.proofs.EndLemmas.{concludes_behind, memory_writing}
 use Rattle.sch_loading.proofs.PartLemmas.{by_cause}
@@ -231,7 +232,7 @@ command_undone at later command apply.Memory old new result cap some undone plan
 
 -- the next place is ready too
 pub ready_after : (at later : Place) (command : Command) → IsReady (in_front_of command at) → later.session.tree.pair_cap ≡ at.session.tree.pair_cap → later.session.plan ≡ at.session.plan →
-    later.number ≡ at.number + 1 → later.script ≡ at.script → later.session.past ≡ evaluated_over later.session.tree.nodes → IsReady later
+    later.number ≡ at.number + 1 → later.script ≡ at.script → IsEvaluated later.session → IsReady later
 ready_after at later command ready caps plans numbers scripts fresh = record {
   cap = caps ∙ ready.cap ∙ ap pair_cap_for (sym plans);
   few =
@@ -241,12 +242,10 @@ ready_after at later command ready caps plans numbers scripts fresh = record {
 }
 
 -- where the state behind it is written
-pub ready_written : (at later : Place) (command : Command) (session : Standing) (result : Result (Unit {0}) Stop) → IsReady (in_front_of command at) → later.session.tree.pair_cap ≡ at.session.tree.pair_cap →
-    later.session.plan ≡ at.session.plan → later.number ≡ at.number + 1 → later.script ≡ at.script → later.session.tree ≡ session.tree →
-    OnOk result (later.session.past ≡ evaluated_over session.tree.nodes) → OnOk result (IsReady later)
-ready_written at later command session (Ok done) ready caps plans numbers scripts trees fresh =
-    ready_after at later command ready caps plans numbers scripts (fresh ∙ ap (λ (tree : Contents). evaluated_over tree.nodes) (sym trees))
-ready_written at later command session (Err stop) ready caps plans numbers scripts trees fresh = tt
+pub ready_written : (at later : Place) (command : Command) (result : Result (Unit {0}) Stop) → IsReady (in_front_of command at) → later.session.tree.pair_cap ≡ at.session.tree.pair_cap →
+    later.session.plan ≡ at.session.plan → later.number ≡ at.number + 1 → later.script ≡ at.script → OnOk result (IsEvaluated later.session) → OnOk result (IsReady later)
+ready_written at later command (Ok done) ready caps plans numbers scripts fresh = ready_after at later command ready caps plans numbers scripts fresh
+ready_written at later command (Err stop) ready caps plans numbers scripts fresh = tt
 
 -- The commands one after another
 
@@ -410,7 +409,7 @@ first_then plan T bytes old mid new first place seen out = concludes_behind (End
     ([], nothing_yet T 1 (script_of bytes), refl)
 
 -- a document that was opened under a plan
-pub opened_under : (plan : Plan) (tree : Contents) (session : Standing) → session ≡ record { plan = plan; tree = record tree { pair_cap = pair_cap_for plan }; past = None } →
+pub opened_under : (plan : Plan) (tree : Contents) (session : Standing) → session.plan ≡ plan → session.tree.nodes ≡ tree.nodes →
     has_too_many_pairs plan tree.nodes ≡ false → EndsAs (Is (halt_if (has_too_many_pairs plan tree.nodes) too_many_pairs (tree_under plan tree.nodes)) []) treed_by (Ok session)
-opened_under plan tree session is within =
-    (refl, ap (λ (s : Standing). goes (treed_by s)) is ∙ passed (has_too_many_pairs plan tree.nodes) too_many_pairs (tree_under plan tree.nodes) within)
+opened_under plan tree session plans nodes within =
+    (refl, ap (λ (p : Plan). goes (tree_under p session.tree.nodes)) plans ∙ ap (λ (T : Table). goes (tree_under plan T)) nodes ∙ passed (has_too_many_pairs plan tree.nodes) too_many_pairs (tree_under plan tree.nodes) within)

@@ -4,5 +4,6 @@ pub mod EventLemmas
 pub mod FollowLemmas
 pub mod RunLemmas
 pub mod OneOutput
+pub mod SessionLemmas
 pub mod StepLemmas
 pub mod MeasureLemmas

@@ -20,7 +20,7 @@ use Rattle.sch_compiled.specs.declared.state_fault.StateFault.{StateFault}
 use Rattle.sch_units.specs.Validity.{finds, first_fault}
 use Rattle.edit_session.specs.Counts.{counts_of}
 use Rattle.edit_session.specs.Pairs.{pair_cap_for}
-use Rattle.edit_session.specs.Standing.{Standing, done_more, evaluated_over}
+use Rattle.edit_session.specs.Standing.{Standing}
 use Rattle.edit_session.specs.State.{shown_by, shows, state_text}
 use Rattle.edit_session.specs.declared.counting.Counts.{Counts}
 use Rattle.edit_session.specs.declared.state.Shown.{Shown}
@@ -42,9 +42,10 @@ use Rattle.sch_cli.specs.Following.{Follows, comes_to_end, stops_at, then_shown}
 use Rattle.sch_cli.specs.Measuring.{LeadsTo, measure_text, measured_as, past_edited, past_refused, to_a_fault, to_the_end}
 use Rattle.sch_cli.specs.Output.{ended, in_front, status_shown}
 use Rattle.sch_cli.specs.inner.Carried.{Concludes}
-use Rattle.sch_cli.specs.inner.Counts.{CountsAlong, CountsOn, RoseFor, next_cost}
+use Rattle.sch_cli.specs.inner.Counts.{CountsAlong, CountsOn, RoseFor}
 use Rattle.sch_cli.specs.inner.Followers.{Ending, Place, in_front_of, scripted_by}
 use Rattle.sch_cli.specs.inner.Measurers.{ConcludesMeasure, IsUnderWay, Moved, MovesTo, RestMeasured, StopsAt, is_fault, measured_of, place_at, text_of_both}
+use Rattle.sch_cli.specs.inner.Sessions.{IsEvaluated, next_cost}
 use Rattle.sch_cli.specs.inner.Writing.{IsOfWriting, WroteText}
 use Rattle.sch_cli.specs.declared.following.Scripted.{Scripted}
 use Rattle.sch_cli.specs.declared.measuring.Measured.{Measured}
@@ -52,6 +53,7 @@ use Rattle.sch_cli.specs.declared.measuring.Measurer.{Measurer}
 use Rattle.sch_cli.proofs.EndLemmas.{text_ends}
 use Rattle.sch_cli.proofs.FollowLemmas.{IsPlace, follows_same, led_edited, led_on, led_refused, led_same, next_command, refusal_under}
 use Rattle.sch_cli.proofs.StepLemmas.{costed_edited, costed_on, costed_refused, costed_to_next, not_costed, rest_stops_counting, unsaid}
+use Rattle.sch_cli.proofs.SessionLemmas.{RunsDirty}
 
 -- Faults among what is shown
 
@@ -112,11 +114,11 @@ moved-to-next earlier later rest next command before after is says moved = recor
 
 -- an accepted command leads on
 pub moved-edited : (at later : Place) (command : Edit) (session : Standing) (before after : ℕ) → at.session.tree.pair_cap ≡ pair_cap_for at.session.plan →
-    at.session.past ≡ evaluated_over at.session.tree.nodes → command_refusal at.session.tree command ≡ None → IsEdited at.session.tree.nodes command session.tree.nodes →
-    session.plan ≡ at.session.plan → session.past ≡ done_more at.session.past at.session.tree.nodes command →
+    command_refusal at.session.tree command ≡ None → IsEdited at.session.tree.nodes command session.tree.nodes →
+    session.plan ≡ at.session.plan → RunsDirty at.session.plan at.session.tree.nodes command session →
     later.session.plan ≡ session.plan → later.session.tree ≡ session.tree → later.number ≡ at.number + 1 → later.script ≡ at.script → later.seen ≡ then_shown at.seen (shows session.plan session.tree.nodes) →
     RoseFor (next_cost session) before after (shows session.plan session.tree.nodes) → Moved (in_front_of command at) later before after
-moved-edited at later command session before after cap fresh none makes plan past plans trees numbers scripts seen rose =
+moved-edited at later command session before after cap none makes plan dirty plans trees numbers scripts seen rose =
     let tables = ap (λ (tree : Contents). tree.nodes) trees in
     record {
       text = _;
@@ -125,7 +127,7 @@ moved-edited at later command session before after cap fresh none makes plan pas
           (seen ∙ ap (λ (p : Plan). then_shown at.seen (shows p session.tree.nodes)) plan);
       leads = λ U leads. past_edited at.session.tree.nodes session.tree.nodes U command at.script (refusal_under at.session.plan at.session.tree command cap ∙ none) makes
           (leads-same later.session.plan at.session.plan later.session.tree.nodes session.tree.nodes U later.script at.script (plans ∙ plan) tables scripts leads);
-      costed = costed_edited at later command session before after cap fresh none makes plan past plans trees scripts seen rose;
+      costed = costed_edited at later command session before after cap none makes plan dirty plans trees scripts seen rose;
     }
 
 -- and so does a refused one
@@ -147,17 +149,17 @@ moved-refused at later command reason count cap some sessions numbers scripts se
 
 -- an accepted command, behind which the document was measured
 pub moves-edited : (at : Measurer) (later : Measurer) (command : Edit) (session : Standing) (before after : ℕ) → at.session.tree.pair_cap ≡ pair_cap_for at.session.plan →
-    at.session.past ≡ evaluated_over at.session.tree.nodes → command_refusal at.session.tree command ≡ None → IsEdited at.session.tree.nodes command session.tree.nodes →
-    session.plan ≡ at.session.plan → session.past ≡ done_more at.session.past at.session.tree.nodes command →
+    command_refusal at.session.tree command ≡ None → IsEdited at.session.tree.nodes command session.tree.nodes →
+    session.plan ≡ at.session.plan → RunsDirty at.session.plan at.session.tree.nodes command session →
     later.session.plan ≡ session.plan → later.session.tree ≡ session.tree → later.script ≡ at.script →
     later.faulted ≡ (at.faulted || is_some (first_fault session.plan session.tree.nodes)) →
     RoseFor (next_cost session) before after (shows session.plan session.tree.nodes) →
     (number : ℕ) (seen : Shown) → at.faulted ≡ is_fault seen → MovesTo (in_front_of command (place_at at number seen)) later before after
-moves-edited at later command session before after cap fresh none makes plan past plans trees scripts faulted rose number seen is = record {
+moves-edited at later command session before after cap none makes plan dirty plans trees scripts faulted rose number seen is = record {
   number = number + 1;
   seen = then_shown seen (shows session.plan session.tree.nodes);
   moved = moved-edited (place_at at number seen) (place_at later (number + 1) (then_shown seen (shows session.plan session.tree.nodes))) command session before after
-      cap fresh none makes plan past plans trees refl (ap script_left scripts) refl rose;
+      cap none makes plan dirty plans trees refl (ap script_left scripts) refl rose;
   faulted = faulted ∙ ap (λ (b : Bool). b || is_some (first_fault session.plan session.tree.nodes)) is
       ∙ ap (λ (b : Bool). is_fault seen || b) (sym (shows-fault session.plan session.tree.nodes))
       ∙ sym (then-fault seen (shows session.plan session.tree.nodes));
@@ -165,15 +167,15 @@ moves-edited at later command session before after cap fresh none makes plan pas
 
 -- where it was
 pub moves-measured : (at later : Measurer) (command : Edit) (session : Standing) (before after : ℕ) (result : Result (Unit {0}) Stop) → at.session.tree.pair_cap ≡ pair_cap_for at.session.plan →
-    at.session.past ≡ evaluated_over at.session.tree.nodes → command_refusal at.session.tree command ≡ None → IsEdited at.session.tree.nodes command session.tree.nodes →
-    session.plan ≡ at.session.plan → session.past ≡ done_more at.session.past at.session.tree.nodes command →
+    command_refusal at.session.tree command ≡ None → IsEdited at.session.tree.nodes command session.tree.nodes →
+    session.plan ≡ at.session.plan → RunsDirty at.session.plan at.session.tree.nodes command session →
     later.session.plan ≡ session.plan → later.session.tree ≡ session.tree → later.script ≡ at.script →
     OnOk result (later.faulted ≡ (at.faulted || is_some (first_fault session.plan session.tree.nodes))) →
     OnOk result (RoseFor (next_cost session) before after (shows session.plan session.tree.nodes)) →
     OnOk result ((number : ℕ) (seen : Shown) → at.faulted ≡ is_fault seen → MovesTo (in_front_of command (place_at at number seen)) later before after)
-moves-measured at later command session before after (Ok done) cap fresh none makes plan past plans trees scripts faulted rose =
-    moves-edited at later command session before after cap fresh none makes plan past plans trees scripts faulted rose
-moves-measured at later command session before after (Err stop) cap fresh none makes plan past plans trees scripts faulted rose = tt
+moves-measured at later command session before after (Ok done) cap none makes plan dirty plans trees scripts faulted rose =
+    moves-edited at later command session before after cap none makes plan dirty plans trees scripts faulted rose
+moves-measured at later command session before after (Err stop) cap none makes plan dirty plans trees scripts faulted rose = tt
 
 pub moves-refused : (at later : Measurer) (command : Edit) (reason : EditRefusal) (count : ℕ) → at.session.tree.pair_cap ≡ pair_cap_for at.session.plan →
     command_refusal at.session.tree command ≡ Some reason → later.session ≡ at.session → later.script ≡ at.script → later.faulted ≡ at.faulted →
@@ -377,11 +379,11 @@ rose-counting session before after counts is at_most exactly = record {
 
 -- a measurer behind a command that was done is under way, and so is one behind one that changed nothing
 pub under-way : (at later : Measurer) (session : Standing) (result : Result (Unit {0}) Stop) → IsUnderWay at → session.tree.pair_cap ≡ at.session.tree.pair_cap → session.plan ≡ at.session.plan →
-    later.session.plan ≡ session.plan → later.session.tree ≡ session.tree → OnOk result (later.session.past ≡ evaluated_over session.tree.nodes) →
+    later.session.plan ≡ session.plan → later.session.tree ≡ session.tree → OnOk result (IsEvaluated later.session) →
     OnOk result (later.last ≡ measured_of session.plan session.tree.nodes) → OnOk result (IsUnderWay later)
 under-way at later session (Ok done) ready caps plan plans trees fresh last = record {
   cap = ap (λ (tree : Contents). tree.pair_cap) trees ∙ caps ∙ ready.cap ∙ ap pair_cap_for (sym (plans ∙ plan));
-  fresh = fresh ∙ ap (λ (tree : Contents). evaluated_over tree.nodes) (sym trees);
+  fresh = fresh;
   last = last ∙ ap (λ (p : Plan). measured_of p session.tree.nodes) (sym plans) ∙ ap (λ (tree : Contents). measured_of later.session.plan tree.nodes) (sym trees);
 }
 under-way at later session (Err stop) ready caps plan plans trees fresh last = tt
@@ -389,7 +391,7 @@ under-way at later session (Err stop) ready caps plan plans trees fresh last = t
 pub under-way-same : (at later : Measurer) → IsUnderWay at → later.session ≡ at.session → later.last ≡ at.last → IsUnderWay later
 under-way-same at later ready sessions lasts = record {
   cap = ap (λ (s : Standing). s.tree.pair_cap) sessions ∙ ready.cap ∙ ap (λ (s : Standing). pair_cap_for s.plan) (sym sessions);
-  fresh = ap (λ (s : Standing). s.past) sessions ∙ ready.fresh ∙ ap (λ (s : Standing). evaluated_over s.tree.nodes) (sym sessions);
+  fresh = subst IsEvaluated (sym sessions) ready.fresh;
   last = lasts ∙ ready.last ∙ ap (λ (s : Standing). measured_of s.plan s.tree.nodes) (sym sessions);
 }
 

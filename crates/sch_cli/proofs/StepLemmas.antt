@@ -14,10 +14,8 @@ use Rattle.edit_commands.specs.Commands.{IsEdited, RefusesCommand, command_refus
 use Rattle.edit_commands.specs.declared.refusal.ApplyError.{ApplyError}
 use Rattle.edit_commands.specs.declared.refusal.ApplyError.TheVariants as apply
 use Rattle.sch_compiled.specs.declared.plan.Plan.{Plan}
-use Rattle.edit_costs.specs.Costs.{cost_of}
-use Rattle.edit_costs.specs.Dirty.{units_to_run}
 use Rattle.edit_session.specs.Pairs.{pair_cap_for}
-use Rattle.edit_session.specs.Standing.{Past, Standing, done_more, evaluated_over, since_of}
+use Rattle.edit_session.specs.Standing.{Standing}
 use Rattle.edit_session.specs.State.{shows}
 use Rattle.edit_session.specs.declared.state.Shown.{Shown}
 use Rattle.edit_session.specs.declared.state.Shown.TheVariants.{Clean, Findings, Fault}
@@ -29,13 +27,15 @@ use Rattle.sch_cli.specs.Following.{then_shown}
 use Rattle.sch_cli.specs.Runs.{AppendsFront, Costs, CountsOver, Fronted}
 use Rattle.sch_cli.specs.Steps.{CountsBy, EditsCost, at_a_fault, at_the_end, edit_cost, first_cost, of_edited, of_refused}
 use Rattle.sch_cli.specs.inner.Carried.{Visits, status_of_end}
-use Rattle.sch_cli.specs.inner.Counts.{CostOn, CountsAlong, CountsOn, IsCosted, RoseFor, next_cost}
+use Rattle.sch_cli.specs.inner.Counts.{CostOn, CountsAlong, CountsOn, IsCosted, RoseFor}
 use Rattle.sch_cli.specs.inner.Followers.{Beginning, Goes, IsUndone, Place, in_front_of}
 use Rattle.sch_stops.specs.Stops.{ByCause, of_script}
+use Rattle.sch_cli.specs.inner.Sessions.{IsUnevaluated, next_cost}
 use Rattle.sch_cli.specs.inner.Writing.{WroteText}
 use Rattle.sch_cli.proofs.CarryLemmas.{counts_in}
 use Rattle.sch_cli.proofs.EndLemmas.{on_ok}
 use Rattle.sch_cli.proofs.FollowLemmas.{next_command, refusal_under}
+use Rattle.sch_cli.proofs.SessionLemmas.{RunsDirty, first-is, next-is-edit}
 
 -- Faults among what is shown
 
@@ -88,37 +88,30 @@ costs_same plan other T U script rest cost plans trees scripts costs =
 
 -- Commands
 
--- the report behind an accepted command costs the visits of what is new or touched
-next_is_edit : (plan : Plan) (T : Table) (command : Edit) (session : Standing) (before : Option Past) → before ≡ evaluated_over T → session.past ≡ done_more before T command → session.plan ≡ plan →
-    next_cost session ≡ edit_cost plan T command session.tree.nodes
-next_is_edit plan T command session before fresh past plans =
-    let is : session.past ≡ done_more (evaluated_over T) T command = past ∙ ap (λ (p : Option Past). done_more p T command) fresh in
-    ap (λ (p : Option Past). cost_of session.plan session.tree.nodes (units_to_run session.plan (since_of p) session.tree.nodes)) is
-    ∙ ap (λ (p : Plan). edit_cost p T command session.tree.nodes) plans
-
+-- an accepted command costs the visits of what it left dirty
 pub costed_edited : (at later : Place) (command : Edit) (session : Standing) (before after : ℕ) → at.session.tree.pair_cap ≡ pair_cap_for at.session.plan →
-    at.session.past ≡ evaluated_over at.session.tree.nodes → command_refusal at.session.tree command ≡ None → IsEdited at.session.tree.nodes command session.tree.nodes →
-    session.plan ≡ at.session.plan → session.past ≡ done_more at.session.past at.session.tree.nodes command →
+    command_refusal at.session.tree command ≡ None → IsEdited at.session.tree.nodes command session.tree.nodes →
+    session.plan ≡ at.session.plan → RunsDirty at.session.plan at.session.tree.nodes command session →
     later.session.plan ≡ session.plan → later.session.tree ≡ session.tree → later.script ≡ at.script → later.seen ≡ then_shown at.seen (shows session.plan session.tree.nodes) →
     RoseFor (next_cost session) before after (shows session.plan session.tree.nodes) → IsCosted (in_front_of command at) later before after
-costed_edited at later command session before after cap fresh none makes plan past plans trees scripts seen rose = record {
+costed_edited at later command session before after cap none makes plan dirty plans trees scripts seen rose = record {
   cost = edit_cost at.session.plan at.session.tree.nodes command session.tree.nodes;
   led = λ rest costs. of_edited at.session.tree.nodes session.tree.nodes command at.script rest (refusal_under at.session.plan at.session.tree command cap ∙ none) makes
       (costs_same later.session.plan at.session.plan later.session.tree.nodes session.tree.nodes later.script at.script rest (plans ∙ plan) (ap (λ (tree : Contents). tree.nodes) trees) scripts costs);
   rose = λ first start was. rose_then first (edit_cost at.session.plan at.session.tree.nodes command session.tree.nodes) start before after at.seen (shows session.plan session.tree.nodes) later.seen seen
       (rose_is (next_cost session) (edit_cost at.session.plan at.session.tree.nodes command session.tree.nodes) before after (shows session.plan session.tree.nodes)
-      (next_is_edit at.session.plan at.session.tree.nodes command session at.session.past fresh past plan) rose) was;
+      (next-is-edit at.session.plan at.session.tree.nodes command session plan dirty) rose) was;
 }
 
 -- where it is written whole
 pub costed_whole : (at later : Place) (command : Edit) (session : Standing) (before after : ℕ) (result : Result (Unit {0}) Stop) → at.session.tree.pair_cap ≡ pair_cap_for at.session.plan →
-    at.session.past ≡ evaluated_over at.session.tree.nodes → command_refusal at.session.tree command ≡ None → IsEdited at.session.tree.nodes command session.tree.nodes →
-    session.plan ≡ at.session.plan → session.past ≡ done_more at.session.past at.session.tree.nodes command →
+    command_refusal at.session.tree command ≡ None → IsEdited at.session.tree.nodes command session.tree.nodes →
+    session.plan ≡ at.session.plan → RunsDirty at.session.plan at.session.tree.nodes command session →
     later.session.plan ≡ session.plan → later.session.tree ≡ session.tree → later.script ≡ at.script → OnOk result (later.seen ≡ then_shown at.seen (shows session.plan session.tree.nodes)) →
     OnOk result (RoseFor (next_cost session) before after (shows session.plan session.tree.nodes)) → OnOk result (IsCosted (in_front_of command at) later before after)
-costed_whole at later command session before after (Ok done) cap fresh none makes plan past plans trees scripts seen rose =
-    costed_edited at later command session before after cap fresh none makes plan past plans trees scripts seen rose
-costed_whole at later command session before after (Err stop) cap fresh none makes plan past plans trees scripts seen rose = tt
+costed_whole at later command session before after (Ok done) cap none makes plan dirty plans trees scripts seen rose =
+    costed_edited at later command session before after cap none makes plan dirty plans trees scripts seen rose
+costed_whole at later command session before after (Err stop) cap none makes plan dirty plans trees scripts seen rose = tt
 
 -- a refused command costs none
 pub costed_refused : (at later : Place) (command : Edit) (reason : EditRefusal) (count : ℕ) → at.session.tree.pair_cap ≡ pair_cap_for at.session.plan →
@@ -258,19 +251,15 @@ still costs count (ReadFault name) = tt
 still costs count WriteFault = tt
 still costs count Memory = tt
 
--- nothing was evaluated before the first report
-first_is : (session : Standing) → session.past ≡ None → next_cost session ≡ first_cost session.plan session.tree.nodes
-first_is session none = ap (λ (p : Option Past). cost_of session.plan session.tree.nodes (units_to_run session.plan (since_of p) session.tree.nodes)) none
-
 -- the first state costs the visits of all units
-pub state_counts : (session : Standing) (text : List ℕ) (old new : SinkLog) (before after : ℕ) (result : Result Shown Stop) → session.past ≡ None →
-    IfOk result (RoseFor (next_cost session) before after) → WroteText old new text result → CountsBy (λ cost. cost ≡ first_cost session.plan session.tree.nodes) (status_of_end result) before after
-state_counts session text old new before after result none rose wrote = along_by (λ cost. cost ≡ first_cost session.plan session.tree.nodes) before after result (by result rose wrote)
+pub state_counts : (plan : Plan) (T : Table) (text : List ℕ) (old new : SinkLog) (before after : ℕ) (result : Result Shown Stop) →
+    IfOk result (RoseFor (first_cost plan T) before after) → WroteText old new text result → CountsBy (λ cost. cost ≡ first_cost plan T) (status_of_end result) before after
+state_counts plan T text old new before after result rose wrote = along_by (λ cost. cost ≡ first_cost plan T) before after result (by result rose wrote)
   where
-    by : (result : Result Shown Stop) → IfOk result (RoseFor (next_cost session) before after) → WroteText old new text result → CountsAlong (λ cost. cost ≡ first_cost session.plan session.tree.nodes) before after result
-    by (Ok seen) rose wrote = (next_cost session, first_is session none, rose)
+    by : (result : Result Shown Stop) → IfOk result (RoseFor (first_cost plan T) before after) → WroteText old new text result → CountsAlong (λ cost. cost ≡ first_cost plan T) before after result
+    by (Ok seen) rose wrote = (first_cost plan T, refl, rose)
     by (Err stop) rose wrote =
-        unsaid (λ _. ⊥) (AppendsFront old.written new.written text) (AppendsFront old.written new.written text) (λ cost. cost ≡ first_cost session.plan session.tree.nodes) before after stop wrote.told
+        unsaid (λ _. ⊥) (AppendsFront old.written new.written text) (AppendsFront old.written new.written text) (λ cost. cost ≡ first_cost plan T) before after stop wrote.told
 
 -- the first state of a script that is not written whole
 pub first_unsaid : (plan : Plan) (T : Table) (bytes text : List ℕ) (old new : SinkLog) (before after : ℕ) (stop : Stop) (result : Result Shown Stop) → result ≡ Err stop →
@@ -278,7 +267,7 @@ pub first_unsaid : (plan : Plan) (T : Table) (bytes text : List ℕ) (old new : 
 first_unsaid plan T bytes text old new before after stop result is wrote = subst (CountsAlong (StatesCost plan T bytes) before after) (sym is) (unsaid (λ _. ⊥) (AppendsFront old.written new.written text) (AppendsFront old.written new.written text) (StatesCost plan T bytes) before after stop wrote.told)
 
 -- the states, the first of which was written
-pub states_count : (session : Standing) (bytes : List ℕ) (first : Place) (before mid after : ℕ) (result : Result Shown Stop) → session.past ≡ None →
+pub states_count : (session : Standing) (bytes : List ℕ) (first : Place) (before mid after : ℕ) (result : Result Shown Stop) → IsUnevaluated session →
     first.session.plan ≡ session.plan → first.session.tree ≡ session.tree → first.script ≡ script_of bytes →
     RoseFor (next_cost session) before mid first.seen → CountsOn first mid after result → CountsAlong (StatesCost session.plan session.tree.nodes bytes) before after result
 states_count session bytes first before mid after result none plans trees scripts rose counts =
@@ -286,7 +275,7 @@ states_count session bytes first before mid after result none plans trees script
     (λ cost costs. (
       costs.0,
       costs_same first.session.plan session.plan first.session.tree.nodes session.tree.nodes first.script (script_of bytes) costs.0 plans (ap (λ (tree : Contents). tree.nodes) trees) scripts costs.1,
-      costs.2 ∙ ap (λ (n : ℕ). n + costs.0) (first_is session none),
+      costs.2 ∙ ap (λ (n : ℕ). n + costs.0) (first-is session none),
     ))
     (counts (next_cost session) before rose)
 

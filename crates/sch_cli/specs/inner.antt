@@ -1,4 +1,5 @@
 pub mod Writing
+pub mod Sessions
 pub mod Carried
 pub mod Followers
 pub mod Counts

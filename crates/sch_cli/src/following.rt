@@ -1,11 +1,10 @@
 //! A script that is followed: the schema, the document and the script read, then the first state, and what comes of each command.
 
-ghost use Rattle.std.specs.Prelude.{◌≡◌, ◌≤◌, ◌+◌, ◌<◌, ◌^◌, ◌++◌, false, [], ◌∷◌, None, Some, IfErr, IfOk, OnOk, length};
+ghost use Rattle.std.specs.Prelude.{◌≡◌, ◌≤◌, ◌+◌, ◌<◌, ◌^◌, ◌++◌, false, [], ◌∷◌, Some, IfErr, IfOk, OnOk, length};
 ghost use Rattle.sch_io.specs.Wrote.{Appends};
 ghost use Rattle.edit_script.specs.WellFormed.{WellFormedCommand};
 ghost use Rattle.edit_script.specs.declared.limits.TheConstants.{MAX_SCRIPT_BYTES};
 ghost use Rattle.edit_session.specs.Pairs.{pair_cap_for};
-ghost use Rattle.edit_session.specs.Standing.{evaluated_over};
 ghost use Rattle.edit_session.specs.State.{shows, state_text};
 ghost use Rattle.sch_words.specs.declared.status.Status.TheVariants as statuses;
 ghost use Rattle.sch_cli.specs.Behaviours.{BeginsStates, OpeningAll, States, StatesCost, behaviour};
@@ -15,8 +14,9 @@ ghost use Rattle.sch_stops.specs.EditLines.{edit_line, refused_line};
 ghost use Rattle.sch_cli.specs.Following.{then_shown};
 ghost use Rattle.sch_stops.specs.Stops.{counted_if, ends_with};
 ghost use Rattle.sch_cli.specs.inner.Carried.{Carried, Concludes};
-ghost use Rattle.sch_cli.specs.inner.Counts.{CountsAlong, CountsOn, IsCosted, RoseFor, next_cost};
+ghost use Rattle.sch_cli.specs.inner.Counts.{CountsAlong, CountsOn, IsCosted, RoseFor};
 ghost use Rattle.sch_cli.specs.inner.Followers.{Beginning, Ending, Goes, IsReady, IsUndone, in_front_of, place_of, scripted_by};
+ghost use Rattle.sch_cli.specs.inner.Sessions.{IsEvaluated, IsUnevaluated, next_cost};
 ghost use Rattle.sch_cli.specs.inner.Writing.{IsOfWriting, WroteText};
 
 use crate::validation::{load_asked, write_state};
@@ -68,7 +68,7 @@ pub(crate) fn load_scripted<S: Shelf>(
         (λ files. OpeningAll files asked.entry.validation.phase.now asked.entry.validation.schema.now asked.entry.validation.document.now asked.entry.script.now)
         scripted_by result }
     ensures cap { IfOk result (λ scripted. scripted.session.tree.pair_cap ≡ pair_cap_for scripted.session.plan) }
-    ensures unevaluated { IfOk result (λ scripted. scripted.session.past ≡ None) }
+    ensures unevaluated { IfOk result (λ scripted. IsUnevaluated scripted.session) }
     ensures short { IfOk result (λ scripted. length scripted.script ≤ MAX_SCRIPT_BYTES) }
 {
     let name = Text::copy(alloc, asked.script.as_str())?;
@@ -92,7 +92,7 @@ fn write_states<O: Sink, L: Ledger>(
 ) -> Result<Shown, Stop>
     requires cap { session.tree.pair_cap ≡ pair_cap_for session.plan }
     requires short { length script.now ≤ MAX_SCRIPT_BYTES }
-    requires unevaluated { session.past ≡ None }
+    requires unevaluated { IsUnevaluated session }
     ensures told { Concludes (States session.plan session.tree.nodes script.now) (λ _. ⊥) (BeginsStates session.plan session.tree.nodes script.now)
         (Appends (O.log out.old).written (O.log out.new).written) result }
     ensures writing { IfErr result IsOfWriting }
@@ -182,7 +182,7 @@ impl Follower<'_> {
         ensures plan { self.new.session.plan ≡ self.old.session.plan }
         ensures script { self.new.script ≡ self.old.script }
         ensures number { self.new.number ≡ self.old.number }
-        ensures fresh { OnOk result (self.new.session.past ≡ evaluated_over self.old.session.tree.nodes) }
+        ensures fresh { OnOk result (IsEvaluated self.new.session) }
         ensures rose { OnOk result (RoseFor (next_cost self.old.session) steps.old steps.new
             (shows self.old.session.plan self.old.session.tree.nodes)) }
         ensures steps { steps.old ≤ steps.new }

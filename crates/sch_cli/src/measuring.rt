@@ -1,13 +1,12 @@
 //! A measure: a document and a script that are made for a number of items, and what is counted of the first state and of the last one.
 
-ghost use Rattle.std.specs.Prelude.{◌≡◌, ◌≤◌, ◌||◌, ℕ, List, false, [], None, Some, is_some, IfErr, IfOk, OnOk, length, string_bytes};
+ghost use Rattle.std.specs.Prelude.{◌≡◌, ◌≤◌, ◌||◌, ℕ, List, false, [], Some, is_some, IfErr, IfOk, OnOk, length, string_bytes};
 ghost use Rattle.sch_io.specs.ShelfState.{ShelfState};
 ghost use Rattle.sch_io.specs.Wrote.{Appends};
 ghost use Rattle.edit_script.specs.WellFormed.{WellFormedCommand};
 ghost use Rattle.edit_script.specs.declared.limits.TheConstants.{MAX_SCRIPT_BYTES};
 ghost use Rattle.sch_units.specs.Validity.{first_fault};
 ghost use Rattle.edit_session.specs.Pairs.{pair_cap_for};
-ghost use Rattle.edit_session.specs.Standing.{evaluated_over};
 ghost use Rattle.edit_session.specs.State.{shows};
 ghost use Rattle.edit_session.specs.declared.state.Shown.{Shown};
 ghost use Rattle.edit_session.specs.declared.state.Shown.TheVariants as states;
@@ -19,9 +18,10 @@ ghost use Rattle.sch_loading.specs.Reads.{Reads};
 ghost use Rattle.sch_loading.specs.Stages.{goes};
 ghost use Rattle.sch_cli.specs.Behaviours.{OpeningAll, Making, Measures, MeasuresText, StatesCost, behaviour};
 ghost use Rattle.sch_cli.specs.inner.Carried.{Carried, Concludes};
-ghost use Rattle.sch_cli.specs.inner.Counts.{CountsAlong, RoseFor, next_cost};
+ghost use Rattle.sch_cli.specs.inner.Counts.{CountsAlong, RoseFor};
 ghost use Rattle.sch_cli.specs.inner.Followers.{in_front_of, scripted_by};
 ghost use Rattle.sch_cli.specs.inner.Measurers.{ConcludesMeasure, IsUnderWay, MovesTo, RestMeasured, is_fault, measured_of, place_at, text_of_both};
+ghost use Rattle.sch_cli.specs.inner.Sessions.{IsEvaluated, IsUnevaluated, next_cost};
 ghost use Rattle.sch_cli.specs.inner.Writing.{IsOfWriting, WroteText};
 
 use crate::following::{Scripted, load_scripted};
@@ -59,7 +59,7 @@ pub(crate) fn measure<O: Sink, L: Ledger>(
 fn load_made(alloc: Global, items: u32) -> Result<Scripted, Stop>
     ensures reads { (state : ShelfState) → Reads state state [] (λ files. Making items) scripted_by result }
     ensures cap { IfOk result (λ scripted. scripted.session.tree.pair_cap ≡ pair_cap_for scripted.session.plan) }
-    ensures unevaluated { IfOk result (λ scripted. scripted.session.past ≡ None) }
+    ensures unevaluated { IfOk result (λ scripted. IsUnevaluated scripted.session) }
     ensures short { IfOk result (λ scripted. length scripted.script ≤ MAX_SCRIPT_BYTES) }
 {
     let shelf = measure_shelf(alloc, items)?;
@@ -84,7 +84,7 @@ fn load_from(
     ensures loaded { IfOk result (λ scripted. (opened : List (List ℕ)) × OpeningAll shelf.files asked.entry.validation.phase.now
         asked.entry.validation.schema.now asked.entry.validation.document.now asked.entry.script.now opened (goes (scripted_by scripted))) }
     ensures cap { IfOk result (λ scripted. scripted.session.tree.pair_cap ≡ pair_cap_for scripted.session.plan) }
-    ensures unevaluated { IfOk result (λ scripted. scripted.session.past ≡ None) }
+    ensures unevaluated { IfOk result (λ scripted. IsUnevaluated scripted.session) }
     ensures short { IfOk result (λ scripted. length scripted.script ≤ MAX_SCRIPT_BYTES) }
     ensures memory { IfErr result (λ stop. stop ≡ stops.Memory) }
 {
@@ -109,7 +109,7 @@ fn measure_states<O: Sink, L: Ledger>(
 ) -> Result<Shown, Stop>
     requires cap { session.tree.pair_cap ≡ pair_cap_for session.plan }
     requires short { length script.now ≤ MAX_SCRIPT_BYTES }
-    requires unevaluated { session.past ≡ None }
+    requires unevaluated { IsUnevaluated session }
     ensures told { Concludes (Measures session.plan session.tree.nodes script.now) (λ _. ⊥) (MeasuresText session.plan session.tree.nodes script.now)
         (Appends (O.log out.old).written (O.log out.new).written) result }
     ensures writing { IfErr result IsOfWriting }
@@ -143,7 +143,7 @@ fn measure_state<L: Ledger>(session: &mut Session, steps: &mut Steps<L>) -> Resu
     ensures measured { IfOk result (λ measured. measured ≡ measured_of session.old.plan session.old.tree.nodes) }
     ensures tree { session.new.tree ≡ session.old.tree }
     ensures plan { session.new.plan ≡ session.old.plan }
-    ensures fresh { OnOk result (session.new.past ≡ evaluated_over session.old.tree.nodes) }
+    ensures fresh { OnOk result (IsEvaluated session.new) }
     ensures rose { OnOk result (RoseFor (next_cost session.old) steps.old steps.new (shows session.old.plan session.old.tree.nodes)) }
     ensures memory { IfErr result (λ stop. stop ≡ stops.Memory) }
     ensures steps { steps.old ≤ steps.new }
@@ -213,7 +213,7 @@ impl Measurer<'_> {
         ensures tree { self.new.session.tree ≡ self.old.session.tree }
         ensures plan { self.new.session.plan ≡ self.old.session.plan }
         ensures script { self.new.script ≡ self.old.script }
-        ensures fresh { OnOk result (self.new.session.past ≡ evaluated_over self.old.session.tree.nodes) }
+        ensures fresh { OnOk result (IsEvaluated self.new.session) }
         ensures rose { OnOk result (RoseFor (next_cost self.old.session) steps.old steps.new
             (shows self.old.session.plan self.old.session.tree.nodes)) }
         ensures memory { IfErr result (λ stop. stop ≡ stops.Memory) }

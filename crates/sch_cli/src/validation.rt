@@ -1,18 +1,19 @@
 //! A validation: the schema and the document read, then the state of the document by the schema.
 
-ghost use Rattle.std.specs.Prelude.{◌≡◌, ◌≤◌, false, [], ◌∷◌, None, Some, IfOk, OnOk};
+ghost use Rattle.std.specs.Prelude.{◌≡◌, ◌≤◌, false, [], ◌∷◌, Some, IfOk, OnOk};
 ghost use Rattle.sch_compiled.specs.Soundness.{IsSound};
 ghost use Rattle.edit_session.specs.Pairs.{pair_cap_for};
-ghost use Rattle.edit_session.specs.Standing.{evaluated_over};
 ghost use Rattle.edit_session.specs.State.{shows, state_text};
 ghost use Rattle.sch_words.specs.declared.status.Status.TheVariants as statuses;
 ghost use Rattle.sch_cli.specs.Behaviours.{Opening, Treeing, behaviour};
+ghost use Rattle.sch_cli.specs.Steps.{first_cost};
 ghost use Rattle.sch_loading.specs.Reads.{Reads, file, schema_file};
 ghost use Rattle.sch_words.specs.Commands.{validate};
 ghost use Rattle.sch_loading.specs.Loading.{Planning};
 ghost use Rattle.sch_cli.specs.inner.Carried.{Carried};
-ghost use Rattle.sch_cli.specs.inner.Counts.{RoseFor, next_cost};
+ghost use Rattle.sch_cli.specs.inner.Counts.{RoseFor};
 ghost use Rattle.sch_cli.specs.inner.Followers.{treed_by};
+ghost use Rattle.sch_cli.specs.inner.Sessions.{IsEvaluated, IsUnevaluated, next_cost};
 ghost use Rattle.sch_cli.specs.inner.Writing.{WroteText, of_report};
 ghost use Rattle.sch_stops.specs.Stops.{ends_with};
 
@@ -37,7 +38,7 @@ fn load_under<S: Shelf>(
     requires { IsSound plan }
     ensures reads { Reads (S.state shelf.old) (S.state shelf.new) (file name ∷ []) (λ files. Treeing files plan name) treed_by result }
     ensures cap { IfOk result (λ session. session.tree.pair_cap ≡ pair_cap_for session.plan) }
-    ensures unevaluated { IfOk result (λ session. session.past ≡ None) }
+    ensures unevaluated { IfOk result (λ session. IsUnevaluated session) }
 {
     let tree = load_document(alloc, name, shelf)?;
     match Session::open(alloc, plan, tree) {
@@ -58,14 +59,14 @@ pub(crate) fn load_asked<S: Shelf>(
     ensures reads { Reads (S.state shelf.old) (S.state shelf.new) (schema_file asked.entry.schema.now ∷ file asked.entry.document.now ∷ [])
         (λ files. Opening files asked.entry.phase.now asked.entry.schema.now asked.entry.document.now) treed_by result }
     ensures cap { IfOk result (λ session. session.tree.pair_cap ≡ pair_cap_for session.plan) }
-    ensures unevaluated { IfOk result (λ session. session.past ≡ None) }
+    ensures unevaluated { IfOk result (λ session. IsUnevaluated session) }
 {
     let document = Text::copy(alloc, asked.document.as_str())?;
     let plan = load_plan(alloc, asked.schema, asked.phase, shelf)?;
     load_under(alloc, plan, document, shelf)
 }
 
-/// Writes the state of a document; answers what it shows.
+/// Writes the state of a document as it stands, and keeps what its units gave; answers what it shows.
 pub(crate) fn write_state<O: Sink, L: Ledger>(
     session: &mut Session,
     out: &mut O,
@@ -75,11 +76,28 @@ pub(crate) fn write_state<O: Sink, L: Ledger>(
     ensures shown { IfOk result (λ last. last ≡ shows session.old.plan session.old.tree.nodes) }
     ensures tree { session.new.tree ≡ session.old.tree }
     ensures plan { session.new.plan ≡ session.old.plan }
-    ensures fresh { OnOk result (session.new.past ≡ evaluated_over session.old.tree.nodes) }
+    ensures fresh { OnOk result (IsEvaluated session.new) }
     ensures rose { IfOk result (RoseFor (next_cost session.old) steps.old steps.new) }
     ensures steps { steps.old ≤ steps.new }
 {
     match session.report(out, steps) {
+        Ok(last) => Ok(last),
+        Err(error) => Err(stop_of(error)),
+    }
+}
+
+/// Writes the state of a document that is not edited, and keeps nothing; answers what it shows.
+fn write_once<O: Sink, L: Ledger>(
+    session: &Session,
+    out: &mut O,
+    steps: &mut Steps<L>,
+) -> Result<Shown, Stop>
+    ensures wrote { WroteText (O.log out.old) (O.log out.new) (state_text session.now.plan session.now.tree.nodes) result }
+    ensures shown { IfOk result (λ last. last ≡ shows session.now.plan session.now.tree.nodes) }
+    ensures rose { IfOk result (RoseFor (first_cost session.now.plan session.now.tree.nodes) steps.old steps.new) }
+    ensures steps { steps.old ≤ steps.new }
+{
+    match session.report_once(out, steps) {
         Ok(last) => Ok(last),
         Err(error) => Err(stop_of(error)),
     }
@@ -107,6 +125,8 @@ pub(crate) fn validate<S: Shelf, O: Sink, L: Ledger>(
         (S.state shelf.old) (S.state shelf.new) (O.log out.old) (O.log out.new) steps.old steps.new result }
     ensures accepted { ends_with statuses.Usage result ≡ false }
 {
-    let mut session = load_asked(alloc, asked, shelf)?;
-    write_state(&mut session, out, steps)
+    let session = load_asked(alloc, asked, shelf)?;
+    let written = write_once(&session, out, steps);
+    drop(session);
+    written
 }

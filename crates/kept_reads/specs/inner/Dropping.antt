@@ -1,34 +1,33 @@
--- Cells whose readers are dropped.
-use Rattle.std.specs.Prelude.{◌≡◌, ℕ, ◌⊎◌, Bool, true, false, Option, None, Some}
-use Rattle.std.specs.FinSet.{contains}
+-- Cells that no unit reads any more.
+use Rattle.std.specs.Prelude.{◌≡◌, ℕ, ◌⊎◌, ◌/◌, ◌<◌, Bool, true, false, Option, None, Some, slice_set}
 use Rattle.doc_tree.specs.cell.Cell.{Cell}
 use Rattle.doc_tree.specs.cell.Cell.TheVariants.{Shape, Value, Text}
 use Rattle.doc_tree.specs.Lists.{mem}
 use Rattle.doc_tree.specs.Table.{Table}
 use Rattle.doc_tree.specs.Walks.{ancestors}
-use Rattle.xp_outcome.specs.Recorded.{Recorded}
 use Rattle.kept_reads.specs.declared.kept_reads.KeptReads.{KeptReads}
 use Rattle.kept_reads.specs.Marking.{Thins}
-use Rattle.kept_reads.specs.Reads.{IsIndexed, reads_at}
-
--- the readers of all cells are known
-pub record KnowsReaders (reads : KeptReads) : Type 0 where
-  pub known : reads.is_indexed ≡ true
-  pub indexed : IsIndexed reads
+use Rattle.kept_reads.specs.Reads.{has_cell, reads_at}
 
 -- no unit has read a cell, as far as is kept
 abbrev pub IsFreeOf : Cell → KeptReads → Type 0
-IsFreeOf c reads = (place : ℕ) (held : Recorded) → reads_at reads.entries.items place ≡ Some held → contains held.cells c ≡ false
+IsFreeOf c reads = (place : ℕ) → has_cell (reads_at reads.entries place) c ≡ false
 
--- the readers of some cells are dropped
-pub record DropsReaders (touched : Cell → Bool) (width : ℕ) (cells : Cell → Type 0) (old new : KeptReads) : Type 0 where
+-- the row of a place may have a stale unit
+pub record Flags (place width : ℕ) (old new : KeptReads) : Type 0 where
+  pub entries : new.entries ≡ old.entries
+  pub row : ℕ
+  pub row_is : 0 < width → row ≡ place / width
+  pub blocks : new.stale_blocks.items ≡ slice_set old.stale_blocks.items (row / 64) true
+
+-- what units read that read some cells is dropped
+pub record DropsReads (touched : Cell → Bool) (width : ℕ) (cells : Cell → Type 0) (old new : KeptReads) : Type 0 where
   pub thins : Thins touched width old new
-  pub knows : KnowsReaders new
   pub free : (c : Cell) → cells c → IsFreeOf c new
 
--- the readers of some cells are dropped where these were touched
+-- where these were touched
 abbrev pub DropsTouched : (Cell → Bool) → ℕ → (Cell → Type 0) → KeptReads → KeptReads → Type 0
-DropsTouched touched width cells old new = ((c : Cell) → cells c → touched c ≡ true) → KnowsReaders old → DropsReaders touched width cells old new
+DropsTouched touched width cells old new = ((c : Cell) → cells c → touched c ≡ true) → DropsReads touched width cells old new
 
 -- the text of a node, and maybe what stands below it
 abbrev pub IsAround : ℕ → Bool → Cell → Type 0

@@ -1,12 +1,9 @@
 -- What a refresh does, unit by unit.
-use Rattle.std.specs.Prelude.{◌≡◌, ◌≢◌, ℕ, ◌+◌, ◌*◌, ◌<◌, ◌≤◌, ◌⊎◌, Bool, true, false, not, List, length, map, filter, flat_map, Option, None, Some, IfSome, Ok, is_none, slice_get, slice_set, slice_index_or}
+use Rattle.std.specs.Prelude.{◌≡◌, ◌≢◌, ℕ, ◌+◌, ◌*◌, ◌<◌, ◌≤◌, ◌⊎◌, nat_lt, Bool, true, false, not, List, length, map, filter, Option, None, Some, IfSome, Result, Ok, is_none, if◌then◌else◌, slice_get, slice_set, flat_map}
 use Rattle.std.specs.List.{range_with_len}
-use Rattle.std.specs.FinSet.{contains}
-use Rattle.doc_tree.specs.Laws.{WellFormed}
 use Rattle.doc_tree.specs.Table.{Table, is_live}
-use Rattle.doc_edit_laws.specs.Along.{Edits}
-use Rattle.xp_outcome.specs.Evaluation.{Evaluation, variable}
-use Rattle.xp_outcome.specs.Recorded.{Recorded, note_all, nothing_read}
+use Rattle.xp_outcome.specs.Evaluation.{Evaluation}
+use Rattle.xp_outcome.specs.Recorded.{Recorded}
 use Rattle.xp_outcome.specs.Slots.{in_slot, with_slot}
 use Rattle.xp_values.specs.declared.values.Value.{Value}
 use Rattle.xp_values.specs.declared.values.EvalFault.{EvalFault}
@@ -15,36 +12,21 @@ use Rattle.sch_compiled.specs.declared.plan.Plan.{Plan}
 use Rattle.sch_compiled.specs.Findings.{Puts, outcome_at}
 use Rattle.sch_compiled.specs.Soundness.{IsCounted}
 use Rattle.sch_units.specs.Units.{lets_of, unit_let, unit_pair}
-use Rattle.sch_units.specs.Validity.{outcome_of, pair_outcome}
+use Rattle.sch_units.specs.Validity.{outcome_of, pattern_numbers}
 use Rattle.edit_costs.specs.SameOutcome.{same_outcome}
-use Rattle.edit_costs.specs.Units.{ValidationUnit, in_force, under, node_units, reads_of}
-use Rattle.edit_costs.specs.Dirty.{Since, is_changed, is_dirty}
-use Rattle.edit_costs.specs.Costs.{Raised}
-use Rattle.kept_units.specs.declared.kept_units.KeptUnits.{KeptUnits}
-use Rattle.kept_reads.specs.Reads.{IsIndexed, may_be_stale, reads_at}
-use Rattle.kept_units.specs.Keeping.{kept_reads, place_of}
+use Rattle.edit_costs.specs.Units.{ValidationUnit, in_force, under, let_units, node_units}
+use Rattle.edit_costs.specs.Costs.{Raised, cost_of}
+use Rattle.kept_state.specs.Kept.{HeldAlike, Kept, noted}
+use Rattle.kept_state.specs.Refreshing.{Reached}
+use Rattle.kept_state.specs.Running.{GoesOn, IsFresh, is_run, to_run}
+use Rattle.kept_state.specs.Steps.{differs, unless_changed}
+use Rattle.kept_reads.specs.Forgetting.{flag_at, unless_flagged}
 use Rattle.kept_reads.specs.KeptReads.{Passes}
+use Rattle.kept_reads.specs.Reads.{may_be_stale, reads_at}
+use Rattle.kept_units.specs.declared.kept_units.KeptUnits.{KeptUnits}
+use Rattle.kept_units.specs.Keeping.{IsHeld, place_of, reads_in, held_by, seen_in}
 
--- Which units are evaluated
-
--- whether a unit is to be evaluated over the tree as it stands
-abbrev pub is_run : Plan → Option Since → Table → ValidationUnit → Bool
-is_run plan None T unit = true
-is_run plan (Some since) T unit = is_dirty plan since.base T since.touched unit
-
--- whether the let in a slot has another outcome than before; past the end none has
-abbrev pub flag_at : List Bool → ℕ → Bool
-flag_at flags slot = slice_index_or flags slot false
-
--- it is known whether a let was read that has another outcome
-pub record TellsChange (held : Recorded) (flags : List Bool) (found : Bool) : Type 0 where
-  pub some : found ≡ true → (slot : ℕ) × (contains held.lets slot ≡ true) × (flag_at flags slot ≡ true)
-  pub none : found ≡ false → (slot : ℕ) → contains held.lets slot ≡ true → flag_at flags slot ≡ false
-
--- it is known whether a unit is to be evaluated: nothing is kept of what it read, or it read a let that has another outcome
-abbrev pub TellsRun : Option Recorded → List Bool → Bool → Type 0
-TellsRun None flags runs = runs ≡ true
-TellsRun (Some held) flags runs = TellsChange held flags runs
+-- Counts
 
 -- a count rose for one evaluation: by its visits at most, and by exactly these where it meets no fault
 pub record Took {F A : Type 0} (m : Evaluation F A) (before after : ℕ) : Type 0 where
@@ -52,70 +34,129 @@ pub record Took {F A : Type 0} (m : Evaluation F A) (before after : ℕ) : Type 
   pub at_most : after ≤ before + m.work
   pub exactly : (v : A) → m.answer ≡ Ok v → after ≡ before + m.work
 
+-- a count rose for an evaluation that may have been cut short
+pub record Spent {F A : Type 0} (m : Evaluation F A) (before after : ℕ) : Type 0 where
+  pub later : before ≤ after
+  pub at_most : after ≤ before + m.work
+
+-- a count rose for the evaluation of units at most
+pub record SpentOn (plan : Plan) (T : Table) (units : List ValidationUnit) (before after : ℕ) : Type 0 where
+  pub later : before ≤ after
+  pub at_most : after ≤ before + cost_of plan T units
+
+-- Places
+
 -- all stays as it was
 pub record Leaves (old new : KeptUnits) (before after : ℕ) : Type 0 where
   pub kept : new ≡ old
   pub count : after ≡ before
 
--- there are places for all units
+-- places are made, and nothing else changes
 pub record Reaches (plan : Plan) (T : Table) (old new : KeptUnits) : Type 0 where
   pub lets : new.lets ≡ old.lets
   pub found : new.found ≡ old.found
-  pub let_places : length plan.lets ≤ length new.let_reads.entries.items
-  pub places : length T * length plan.patterns ≤ length new.reads.entries.items
-  pub short : length old.reads.entries.items ≤ length T * length plan.patterns → length new.reads.entries.items ≤ length T * length plan.patterns
-  pub let_reads : (slot : ℕ) → reads_at new.let_reads.entries.items slot ≡ reads_at old.let_reads.entries.items slot
-  pub reads : (place : ℕ) → reads_at new.reads.entries.items place ≡ reads_at old.reads.entries.items place
-  pub let_indexed : IsIndexed old.let_reads → IsIndexed new.let_reads
-  pub indexed : IsIndexed old.reads → IsIndexed new.reads
+  pub lets_short : length old.let_reads.entries ≤ length plan.lets → length new.let_reads.entries ≤ length plan.lets
+  pub short : length old.reads.entries ≤ length T * length plan.patterns → length new.reads.entries ≤ length T * length plan.patterns
+  pub let_reads : (slot : ℕ) → reads_at new.let_reads.entries slot ≡ reads_at old.let_reads.entries slot
+  pub reads : (place : ℕ) → reads_at new.reads.entries place ≡ reads_at old.reads.entries place
   pub blocks : new.reads.stale_blocks ≡ old.reads.stale_blocks
+
+-- there are places for all units
+pub record HasPlaces (plan : Plan) (T : Table) (kept : KeptUnits) : Type 0 where
+  pub lets : length plan.lets ≤ length kept.let_reads.entries
+  pub pairs : length T * length plan.patterns ≤ length kept.reads.entries
 
 -- Lets in force
 
--- a let in force was evaluated
-pub record RunsLet (m : Evaluation EvalFault Value) (l : ℕ) (old new : KeptUnits) (flag : Bool) (before after : ℕ) : Type 0 where
+-- what is kept of what units read, where lets have another outcome: the lets below a slot have been evaluated since
+abbrev pub masked_reads : ℕ → List Bool → KeptUnits → ValidationUnit → Option Recorded
+masked_reads l flags kept (in_force slot) =
+    if nat_lt slot l then reads_at kept.let_reads.entries slot else unless_changed (flag_at flags) (reads_at kept.let_reads.entries slot)
+masked_reads l flags kept (under p n) = unless_changed (flag_at flags) (reads_in (held_by kept) (under p n))
+
+abbrev pub masked : ℕ → List Bool → KeptUnits → Kept
+masked l flags kept = record { lets = kept.lets; outcomes = outcome_at kept.found; reads = masked_reads l flags kept }
+
+-- a let in force has an outcome, and it is known whether that is another one; of what it read this is kept
+pub record SetsLet (outcome : Result Value EvalFault) (l : ℕ) (entry : Option Recorded) (old new : KeptUnits) (flags new_flags : List Bool) : Type 0 where
   pub found : new.found ≡ old.found
   pub reads : new.reads ≡ old.reads
-  pub lets : new.lets ≡ with_slot old.lets l m.answer
-  pub let_reads : new.let_reads.entries.items ≡ slice_set old.let_reads.entries.items l (Some (note_all nothing_read m.reads))
-  pub indexed : IsIndexed old.let_reads → IsIndexed new.let_reads
-  pub flag_is : flag ≡ not (same_outcome (in_slot old.lets l) (Some m.answer))
+  pub lets : new.lets ≡ with_slot old.lets l outcome
+  pub let_reads : new.let_reads.entries ≡ slice_set old.let_reads.entries l entry
+  pub flagged : new_flags ≡ slice_set flags l (not (same_outcome (in_slot old.lets l) (Some outcome)))
+
+-- what it read is kept but for covered cells
+pub record KeepsLet (T : Table) (outcome : Result Value EvalFault) (reads : Recorded) (l : ℕ) (old new : KeptUnits) (flags new_flags : List Bool) : Type 0 where
+  pub held : Recorded
+  pub alike : HeldAlike T held reads
+  pub sets : SetsLet outcome l (Some held) old new flags new_flags
+
+-- what is left where no memory was found: all stays, or the let has its outcome and is stale
+pub data LetCut (outcome : Result Value EvalFault) (l : ℕ) (old new : KeptUnits) (flags new_flags : List Bool) : Type 0 where
+  let_unset : new ≡ old → new_flags ≡ flags → LetCut outcome l old new flags new_flags
+  let_unread : SetsLet outcome l None old new flags new_flags → LetCut outcome l old new flags new_flags
+
+-- a let in force was evaluated
+pub record RunsLet (T : Table) (m : Evaluation EvalFault Value) (l : ℕ) (old new : KeptUnits) (flags new_flags : List Bool) (before after : ℕ) : Type 0 where
+  pub keeps : KeepsLet T m.answer (noted m.reads) l old new flags new_flags
   pub took : Took m before after
 
--- a let in force was evaluated where it is to be; it is told whether its outcome has changed
-pub data RefreshesLet (plan : Plan) (T : Table) (l : ℕ) (flags : List Bool) (old new : KeptUnits) (flag : Bool) (before after : ℕ) : Type 0 where
-  let_ran : TellsRun (reads_at old.let_reads.entries.items l) flags true →
-      IfSome (slice_get plan.lets l) (λ t. RunsLet (unit_let T old.lets t.expr) l old new flag before after) → RefreshesLet plan T l flags old new flag before after
-  let_left : TellsRun (reads_at old.let_reads.entries.items l) flags false → Leaves old new before after → flag ≡ false → RefreshesLet plan T l flags old new flag before after
+-- its evaluation was cut short
+pub record CutsLet (m : Evaluation EvalFault Value) (l : ℕ) (old new : KeptUnits) (flags new_flags : List Bool) (before after : ℕ) : Type 0 where
+  pub cut : LetCut m.answer l old new flags new_flags
+  pub spent : Spent m before after
 
--- nothing but lets in force changed, and none past the last
-pub record LetsAlone (plan : Plan) (old new : KeptUnits) : Type 0 where
+-- whether a let is evaluated, by what is kept of it
+abbrev pub let_runs : ℕ → List Bool → KeptUnits → Bool
+let_runs l flags kept = is_none (unless_flagged flags (reads_at kept.let_reads.entries l))
+
+-- a let in force was evaluated where it is to be
+pub data RefreshesLet (plan : Plan) (T : Table) (l : ℕ) (old new : KeptUnits) (flags new_flags : List Bool) (before after : ℕ) : Type 0 where
+  let_ran : let_runs l flags old ≡ true → IfSome (slice_get plan.lets l) (λ t. RunsLet T (unit_let T old.lets t.expr) l old new flags new_flags before after) →
+      RefreshesLet plan T l old new flags new_flags before after
+  let_left : let_runs l flags old ≡ false → Leaves old new before after → new_flags ≡ flags → RefreshesLet plan T l old new flags new_flags before after
+
+-- a let in force that is to be evaluated was cut short
+pub record LetStops (plan : Plan) (T : Table) (l : ℕ) (old new : KeptUnits) (flags new_flags : List Bool) (before after : ℕ) : Type 0 where
+  pub runs : let_runs l flags old ≡ true
+  pub cuts : IfSome (slice_get plan.lets l) (λ t. CutsLet (unit_let T old.lets t.expr) l old new flags new_flags before after)
+
+-- nothing but lets in force changed, and the flags tell which of them have another outcome
+pub record LetsSo (plan : Plan) (old new : KeptUnits) (flags : List Bool) : Type 0 where
   pub found : new.found ≡ old.found
   pub reads : new.reads ≡ old.reads
-  pub few : length new.lets ≤ length plan.lets
-  pub let_places : length new.let_reads.entries.items ≡ length old.let_reads.entries.items
-  pub indexed : IsIndexed old.let_reads → IsIndexed new.let_reads
+  pub places : length new.let_reads.entries ≡ length old.let_reads.entries
+  pub flag_count : length flags ≡ length plan.lets
+  pub flagged : (slot : ℕ) → flag_at flags slot ≡ differs old.lets new.lets slot
 
--- what is kept of a let in force is that of the tree
-pub record LetAt (plan : Plan) (T : Table) (slot : ℕ) (kept : KeptUnits) : Type 0 where
-  pub outcome : in_slot kept.lets slot ≡ in_slot (lets_of plan T) slot
-  pub reads : reads_at kept.let_reads.entries.items slot ≡ Some (note_all nothing_read (reads_of plan T (in_force slot)))
+-- the refresh has come to the let in a slot, where those count as stale that read a let with another outcome
+pub record LetsRefreshed (plan : Plan) (T : Table) (l : ℕ) (old new : KeptUnits) (flags : List Bool) (before after : ℕ) : Type 0 where
+  pub so : LetsSo plan old new flags
+  pub reached : Reached plan T (in_force l) (seen_in old) (masked l flags new)
+  pub raised : Raised plan T (filter (is_run plan T (seen_in old)) (map in_force (range_with_len 0 l))) before after
 
-pub record LetStays (slot : ℕ) (old new : KeptUnits) : Type 0 where
-  pub outcome : in_slot new.lets slot ≡ in_slot old.lets slot
-  pub reads : reads_at new.let_reads.entries.items slot ≡ reads_at old.let_reads.entries.items slot
+-- the lets were refreshed up to one of them
+pub record LetsCut (plan : Plan) (T : Table) (old new : KeptUnits) (flags : List Bool) (before after : ℕ) : Type 0 where
+  pub so : LetsSo plan old new flags
+  pub l : ℕ
+  pub goes_on : GoesOn plan T (seen_in old) (masked l flags new)
+  pub within : l ≤ length plan.lets
+  -- those before the let in an earlier slot have the outcomes of the tree
+  pub gives : (slot other : ℕ) → other < slot → slot < l → in_slot new.lets other ≡ in_slot (lets_of plan T) other
+  pub spent : SpentOn plan T (filter (is_run plan T (seen_in old)) (let_units plan)) before after
 
--- the flags tell of the lets in the slots below l whether they have another outcome than in an earlier tree
-abbrev pub FlagsBelow : Plan → Table → ℕ → List Bool → Since → Type 0
-FlagsBelow plan T l flags since = (slot : ℕ) → slot < l → flag_at flags slot ≡ is_changed plan since.base T (variable slot)
+-- once those that read a let with another outcome are forgotten, whatever stopped the refresh of lets
+pub record LetsGo (plan : Plan) (T : Table) (old new : KeptUnits) (before after : ℕ) : Type 0 where
+  pub held : IsHeld plan T new
+  pub goes_on : GoesOn plan T (seen_in old) (seen_in new)
+  pub spent : SpentOn plan T (filter (is_run plan T (seen_in old)) (let_units plan)) before after
 
--- the lets in the slots below l are those of the tree; the others stay
-pub record LetsRefreshed (plan : Plan) (since : Option Since) (T : Table) (l : ℕ) (old new : KeptUnits) (flags : List Bool) (before after : ℕ) : Type 0 where
-  pub done : (slot : ℕ) → slot < l → LetAt plan T slot new
-  pub stays : (slot : ℕ) → l ≤ slot → LetStays slot old new
-  pub count : length flags ≡ l
-  pub flags_are : IfSome since (FlagsBelow plan T l flags)
-  pub raised : Raised plan T (filter (is_run plan since T) (map in_force (range_with_len 0 l))) before after
+-- and where nothing stopped it
+pub record LetsDone (plan : Plan) (T : Table) (old new : KeptUnits) (before after : ℕ) : Type 0 where
+  pub lets : new.lets ≡ lets_of plan T
+  pub reached : Reached plan T (under 0 0) (seen_in old) (seen_in new)
+  pub places : length new.reads.entries ≡ length old.reads.entries
+  pub raised : Raised plan T (filter (is_run plan T (seen_in old)) (let_units plan)) before after
 
 -- Nodes under patterns
 
@@ -125,69 +166,87 @@ pub record IsReady (plan : Plan) (T : Table) (p : ℕ) (kept : KeptUnits) : Type
   pub active : p < length plan.patterns
   pub few : length kept.lets ≤ length plan.lets
   pub patterns : kept.found.patterns ≡ length plan.patterns
-  pub places : length T * length plan.patterns ≤ length kept.reads.entries.items
+  pub places : length T * length plan.patterns ≤ length kept.reads.entries
 
--- a node under a pattern was evaluated
-pub record RunsPair (plan : Plan) (m : Evaluation EvalFault Outcome) (p n : ℕ) (old new : KeptUnits) (before after : ℕ) : Type 0 where
-  pub lets : new.lets ≡ old.lets
-  pub let_reads : new.let_reads ≡ old.let_reads
-  pub puts : Puts old.found new.found p n (Some (outcome_of m.answer))
-  pub reads : new.reads.entries.items ≡ slice_set old.reads.entries.items (place_of plan p n) (Some (note_all nothing_read m.reads))
-  pub blocks : new.reads.stale_blocks ≡ old.reads.stale_blocks
-  pub indexed : IsIndexed old.reads → IsIndexed new.reads
-  pub took : Took m before after
+-- whether nothing is kept of what a node read under a pattern
+abbrev pub pair_runs : Plan → ℕ → ℕ → KeptUnits → Bool
+pair_runs plan p n kept = is_none (reads_at kept.reads.entries (place_of plan p n))
 
--- a node under a pattern was evaluated where it lives and is to be
-pub data RefreshesPair (plan : Plan) (T : Table) (p n : ℕ) (flags : List Bool) (old new : KeptUnits) (before after : ℕ) : Type 0 where
-  pair_ran : is_live T n ≡ true → TellsRun (reads_at old.reads.entries.items (place_of plan p n)) flags true →
-      RunsPair plan (unit_pair plan T old.lets p n) p n old new before after → RefreshesPair plan T p n flags old new before after
-  pair_left : is_live T n ≡ true → TellsRun (reads_at old.reads.entries.items (place_of plan p n)) flags false → Leaves old new before after →
-      RefreshesPair plan T p n flags old new before after
-  pair_dead : is_live T n ≡ false → Leaves old new before after → RefreshesPair plan T p n flags old new before after
-
--- what is known of the nodes under a pattern since an earlier tree
-pub record PatternKnown (plan : Plan) (T : Table) (p : ℕ) (kept : KeptUnits) (flags : List Bool) (since : Since) : Type 0 where
-  pub formed : WellFormed since.base
-  pub edits : Edits since.base T since.touched
-  pub outcomes : (n : ℕ) → is_live since.base n ≡ true → is_live T n ≡ true → outcome_at kept.found p n ≡ Some (pair_outcome plan since.base p n)
-  pub flags_are : (slot : ℕ) → flag_at flags slot ≡ is_changed plan since.base T (variable slot)
-
--- the nodes under a pattern are as they were kept, and the lets in force are those of the tree
-pub record PatternKept (plan : Plan) (since : Option Since) (T : Table) (p : ℕ) (kept : KeptUnits) (flags : List Bool) : Type 0 where
-  pub lets : kept.lets ≡ lets_of plan T
-  pub reads : (n : ℕ) → is_live T n ≡ true → reads_at kept.reads.entries.items (place_of plan p n) ≡ kept_reads plan since (under p n)
-  pub known : IfSome since (PatternKnown plan T p kept flags)
-  pub passed : (n : ℕ) → is_live T n ≡ true → may_be_stale kept.reads.stale_blocks.items n ≡ false →
-      is_none (reads_at kept.reads.entries.items (place_of plan p n)) ≡ false
-
--- what is kept of a node under a pattern is that of the tree
-pub record PairAt (plan : Plan) (T : Table) (p n : ℕ) (kept : KeptUnits) : Type 0 where
-  pub outcome : outcome_at kept.found p n ≡ Some (pair_outcome plan T p n)
-  pub reads : reads_at kept.reads.entries.items (place_of plan p n) ≡ Some (note_all nothing_read (reads_of plan T (under p n)))
-
-pub record PairStays (plan : Plan) (p n : ℕ) (old new : KeptUnits) : Type 0 where
-  pub outcome : outcome_at new.found p n ≡ outcome_at old.found p n
-  pub reads : reads_at new.reads.entries.items (place_of plan p n) ≡ reads_at old.reads.entries.items (place_of plan p n)
-
--- nothing but nodes under patterns changed
+-- nothing but nodes under patterns changed, and none of them became stale
 pub record PairsAlone (old new : KeptUnits) : Type 0 where
   pub lets : new.lets ≡ old.lets
   pub let_reads : new.let_reads ≡ old.let_reads
   pub patterns : new.found.patterns ≡ old.found.patterns
-  pub places : length new.reads.entries.items ≡ length old.reads.entries.items
+  pub places : length new.reads.entries ≡ length old.reads.entries
   pub blocks : new.reads.stale_blocks ≡ old.reads.stale_blocks
-  pub indexed : IsIndexed old.reads → IsIndexed new.reads
+  pub stays : (place : ℕ) → is_none (reads_at old.reads.entries place) ≡ false → is_none (reads_at new.reads.entries place) ≡ false
 
--- no let has another outcome
-abbrev pub NoneChanged : List Bool → Type 0
-NoneChanged flags = (slot : ℕ) → flag_at flags slot ≡ false
+-- a node has an outcome under a pattern, and of what it read this is kept
+pub record PutsPair (plan : Plan) (outcome : Outcome) (held : Recorded) (p n : ℕ) (old new : KeptUnits) : Type 0 where
+  pub found : Puts old.found new.found p n (Some outcome)
+  pub entries : new.reads.entries ≡ slice_set old.reads.entries (place_of plan p n) (Some held)
+
+-- what it read is kept but for covered cells
+pub record KeepsPair (plan : Plan) (T : Table) (outcome : Outcome) (reads : Recorded) (p n : ℕ) (old new : KeptUnits) : Type 0 where
+  pub held : Recorded
+  pub alike : HeldAlike T held reads
+  pub puts : PutsPair plan outcome held p n old new
+
+-- what is left where no memory was found: its outcome may be there, and it is stale still
+pub record PairCut (p n : ℕ) (old new : KeptUnits) : Type 0 where
+  pub others : (q k : ℕ) → (q ≢ p) ⊎ (k ≢ n) → outcome_at new.found q k ≡ outcome_at old.found q k
+  pub entries : (place : ℕ) → reads_at new.reads.entries place ≡ reads_at old.reads.entries place
+
+-- a node under a pattern was evaluated
+pub record RunsPair (plan : Plan) (T : Table) (p n : ℕ) (old new : KeptUnits) (before after : ℕ) : Type 0 where
+  pub keeps : KeepsPair plan T (outcome_of (unit_pair plan T old.lets p n).answer) (noted (unit_pair plan T old.lets p n).reads) p n old new
+  pub took : Took (unit_pair plan T old.lets p n) before after
+
+-- its evaluation was cut short
+pub record CutsPair (plan : Plan) (T : Table) (p n : ℕ) (old new : KeptUnits) (before after : ℕ) : Type 0 where
+  pub cut : PairCut p n old new
+  pub spent : Spent (unit_pair plan T old.lets p n) before after
+
+-- a node under a pattern was evaluated where it lives and is stale
+pub data RefreshesPair (plan : Plan) (T : Table) (p n : ℕ) (old new : KeptUnits) (before after : ℕ) : Type 0 where
+  pair_ran : is_live T n ≡ true → pair_runs plan p n old ≡ true → RunsPair plan T p n old new before after → RefreshesPair plan T p n old new before after
+  pair_left : is_live T n ≡ true → pair_runs plan p n old ≡ false → Leaves old new before after → RefreshesPair plan T p n old new before after
+  pair_dead : is_live T n ≡ false → Leaves old new before after → RefreshesPair plan T p n old new before after
+
+-- a node that is to be evaluated was cut short
+pub record PairStops (plan : Plan) (T : Table) (p n : ℕ) (old new : KeptUnits) (before after : ℕ) : Type 0 where
+  pub live : is_live T n ≡ true
+  pub runs : pair_runs plan p n old ≡ true
+  pub cuts : CutsPair plan T p n old new before after
 
 -- from a node under a pattern it is gone on to the next: the node was evaluated where it is to be, or it and those up to the next are
--- passed over, since no let has another outcome and none of the nodes is stale
-pub data GoesOn (plan : Plan) (T : Table) (p n next : ℕ) (flags : List Bool) (old new : KeptUnits) (before after : ℕ) : Type 0 where
-  goes_one : next ≡ n + 1 → RefreshesPair plan T p n flags old new before after → GoesOn plan T p n next flags old new before after
-  goes_past : n < next → ((m : ℕ) → n ≤ m → m < next → may_be_stale old.reads.stale_blocks.items m ≡ false) → NoneChanged flags →
-      Leaves old new before after → GoesOn plan T p n next flags old new before after
+-- passed over, since none of them is stale
+pub data StepsOn (plan : Plan) (T : Table) (p n next : ℕ) (old new : KeptUnits) (before after : ℕ) : Type 0 where
+  steps_one : next ≡ n + 1 → RefreshesPair plan T p n old new before after → StepsOn plan T p n next old new before after
+  steps_past : n < next → ((m : ℕ) → n ≤ m → m < next → may_be_stale old.reads.stale_blocks.items m ≡ false) → Leaves old new before after →
+      StepsOn plan T p n next old new before after
+
+-- the lets are those of the tree
+pub record PairsReady (plan : Plan) (T : Table) (kept : KeptUnits) : Type 0 where
+  pub lets : kept.lets ≡ lets_of plan T
+  pub few : length kept.lets ≤ length plan.lets
+  pub held : IsHeld plan T kept
+
+-- the units of the live nodes below a number
+abbrev pub units_below : Table → ℕ → ℕ → List ValidationUnit
+units_below T p n = map (under p) (filter (is_live T) (range_with_len 0 n))
+
+-- a refresh that has come to a pattern has come to its node n
+pub record NodesRefreshed (plan : Plan) (T : Table) (p n : ℕ) (old new : KeptUnits) (before after : ℕ) : Type 0 where
+  pub alone : PairsAlone old new
+  pub reached : (was : Kept) → Reached plan T (under p 0) was (seen_in old) → Reached plan T (under p n) was (seen_in new)
+  pub raised : (was : Kept) → Reached plan T (under p 0) was (seen_in old) → Raised plan T (filter (is_run plan T was) (units_below T p n)) before after
+
+-- it was cut short at one of the pattern's nodes
+pub record NodesCut (plan : Plan) (T : Table) (p : ℕ) (old new : KeptUnits) (before after : ℕ) : Type 0 where
+  pub alone : PairsAlone old new
+  pub goes_on : (was : Kept) → Reached plan T (under p 0) was (seen_in old) → GoesOn plan T was (seen_in new)
+  pub spent : (was : Kept) → Reached plan T (under p 0) was (seen_in old) → SpentOn plan T (filter (is_run plan T was) (node_units T p)) before after
 
 -- no node that was made is stale under a pattern
 pub record PassesNodes (T : Table) (old new : KeptUnits) : Type 0 where
@@ -196,14 +255,29 @@ pub record PassesNodes (T : Table) (old new : KeptUnits) : Type 0 where
   pub found : new.found ≡ old.found
   pub reads : Passes (length T) old.reads new.reads
 
--- the live nodes below n are those of the tree under a pattern; the other nodes and patterns stay
-pub record NodesRefreshed (plan : Plan) (since : Option Since) (T : Table) (p n : ℕ) (old new : KeptUnits) (before after : ℕ) : Type 0 where
-  pub done : (m : ℕ) → m < n → is_live T m ≡ true → PairAt plan T p m new
-  pub stays : (q m : ℕ) → q < length plan.patterns → (q ≢ p) ⊎ (n ≤ m) → PairStays plan q m old new
-  pub raised : Raised plan T (filter (is_run plan since T) (map (under p) (filter (is_live T) (range_with_len 0 n)))) before after
+-- a refresh that has come to the first pattern has come to pattern p
+pub record PatternsRefreshed (plan : Plan) (T : Table) (p : ℕ) (old new : KeptUnits) (before after : ℕ) : Type 0 where
+  pub alone : PairsAlone old new
+  pub reached : (was : Kept) → Reached plan T (under 0 0) was (seen_in old) → Reached plan T (under p 0) was (seen_in new)
+  pub raised : (was : Kept) → Reached plan T (under 0 0) was (seen_in old) →
+      Raised plan T (filter (is_run plan T was) (flat_map (node_units T) (range_with_len 0 p))) before after
 
--- the live nodes are those of the tree under the patterns below p; the other patterns stay
-pub record PatternsRefreshed (plan : Plan) (since : Option Since) (T : Table) (p : ℕ) (old new : KeptUnits) (before after : ℕ) : Type 0 where
-  pub done : (q m : ℕ) → q < length plan.patterns → q < p → is_live T m ≡ true → PairAt plan T q m new
-  pub stays : (q m : ℕ) → q < length plan.patterns → p ≤ q → PairStays plan q m old new
-  pub raised : Raised plan T (filter (is_run plan since T) (flat_map (node_units T) (range_with_len 0 p))) before after
+-- it was cut short under one of the patterns
+pub record PatternsCut (plan : Plan) (T : Table) (old new : KeptUnits) (before after : ℕ) : Type 0 where
+  pub alone : PairsAlone old new
+  pub goes_on : (was : Kept) → Reached plan T (under 0 0) was (seen_in old) → GoesOn plan T was (seen_in new)
+  pub spent : (was : Kept) → Reached plan T (under 0 0) was (seen_in old) →
+      SpentOn plan T (filter (is_run plan T was) (flat_map (node_units T) (pattern_numbers plan))) before after
+
+-- All units
+
+-- wherever the refresh stops
+pub record UnitsGo (plan : Plan) (T : Table) (old new : KeptUnits) (before after : ℕ) : Type 0 where
+  pub held : IsHeld plan T new
+  pub goes_on : GoesOn plan T (seen_in old) (seen_in new)
+  pub spent : SpentOn plan T (to_run plan T (seen_in old)) before after
+
+-- and where nothing stopped it
+pub record UnitsDone (plan : Plan) (T : Table) (old new : KeptUnits) (before after : ℕ) : Type 0 where
+  pub fresh : IsFresh plan T (seen_in new)
+  pub raised : Raised plan T (to_run plan T (seen_in old)) before after

@@ -1,18 +1,11 @@
 -- What parts of a run count.
 use Rattle.std.specs.Prelude.{◌≡◌, ℕ, ◌+◌, ◌≤◌, Result, Ok, Err}
-use Rattle.edit_costs.specs.Costs.{cost_of}
-use Rattle.edit_costs.specs.Dirty.{units_to_run}
-use Rattle.edit_session.specs.Standing.{Standing, since_of}
 use Rattle.edit_session.specs.declared.state.Shown.{Shown}
 use Rattle.edit_session.specs.declared.state.Shown.TheVariants.{Fault}
 use Rattle.sch_cli.specs.inner.Followers.{Place}
 use Rattle.sch_stops.specs.declared.stop.Stop.{Stop}
 use Rattle.sch_stops.specs.declared.stop.Stop.TheVariants.{ScriptRefused}
 use Rattle.sch_cli.specs.Steps.{CountsAtMost, EditsCost}
-
--- the visits of a session's next report
-abbrev pub next_cost : Standing → ℕ
-next_cost session = cost_of session.plan session.tree.nodes (units_to_run session.plan (since_of session.past) session.tree.nodes)
 
 -- a count rose by an amount at most, and by exactly this where no fault is shown
 pub record RoseFor (amount before after : ℕ) (shown : Shown) : Type 0 where

@@ -10,7 +10,6 @@ use Rattle.edit_script.specs.declared.fault.ScriptFault.{ScriptFault}
 use Rattle.sch_compiled.specs.declared.plan.Plan.{Plan}
 use Rattle.edit_session.specs.Counts.{counts_of}
 use Rattle.edit_session.specs.Pairs.{pair_cap_for}
-use Rattle.edit_session.specs.Standing.{evaluated_over}
 use Rattle.edit_session.specs.declared.state.Shown.{Shown}
 use Rattle.edit_session.specs.declared.state.Shown.TheVariants.{Clean, Findings, Fault}
 use Rattle.sch_stops.specs.declared.stop.Stop.{Stop}
@@ -20,6 +19,7 @@ use Rattle.sch_cli.specs.declared.measuring.Measured.{Measured}
 use Rattle.sch_cli.specs.declared.measuring.Measurer.{Measurer}
 use Rattle.sch_cli.specs.inner.Counts.{IsCosted}
 use Rattle.sch_cli.specs.inner.Followers.{IsLed, Place}
+use Rattle.sch_cli.specs.inner.Sessions.{IsEvaluated}
 use Rattle.sch_cli.specs.inner.Writing.{WroteText}
 
 -- whether a fault is shown
@@ -60,7 +60,7 @@ pub record MovesTo (earlier : Place) (at : Measurer) (before after : ℕ) : Type
 -- the document has its plan's pair cap, was evaluated and was measured
 pub record IsUnderWay (at : Measurer) : Type 0 where
   pub cap : at.session.tree.pair_cap ≡ pair_cap_for at.session.plan
-  pub fresh : at.session.past ≡ evaluated_over at.session.tree.nodes
+  pub fresh : IsEvaluated at.session
   pub last : at.last ≡ measured_of at.session.plan at.session.tree.nodes
 
 -- behind a place the script has a fault

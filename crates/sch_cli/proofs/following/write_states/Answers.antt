@@ -4,7 +4,6 @@ use Rattle.std.proofs.lemmas.Result.{err_from_is_err_and}
 use Rattle.doc_tree.specs.Table.{Contents}
 use Rattle.edit_script.specs.Script.{LinesLeft, script_left, script_of}
 use Rattle.edit_session.specs.Pairs.{pair_cap_for}
-use Rattle.edit_session.specs.Standing.{evaluated_over}
 use Rattle.edit_session.specs.State.{state_text}
 use Rattle.sch_cli.specs.inner.Followers.{Place}
 use Rattle.sch_cli.proofs.EndLemmas.{text_err}
@@ -33,7 +32,7 @@ follow_rest-requires g c = record {
   few =
       let same : length (script_left c.new-script.result).commands ≡ length (script_of c.args.script.now).commands = ap (λ (left : LinesLeft). length (script_left left).commands) c.new-script.ensures in
       omega (arith, few_commands c.args.script.now c.requires.short, same);
-  fresh = c.in_ok-seen.ensures.fresh ∙ ap (λ (tree : Contents). evaluated_over tree.nodes) (sym c.in_ok-seen.ensures.tree);
+  fresh = c.in_ok-seen.ensures.fresh;
 }
 
 pub returns-in_err-seen-clause-counted : goal.returns-in_err-seen-clause-counted

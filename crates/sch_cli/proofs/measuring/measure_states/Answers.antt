@@ -5,7 +5,6 @@ use Rattle.doc_tree.specs.Table.{Contents}
 use Rattle.edit_script.specs.Script.{script_left}
 use Rattle.sch_compiled.specs.declared.plan.Plan.{Plan}
 use Rattle.edit_session.specs.Pairs.{pair_cap_for}
-use Rattle.edit_session.specs.Standing.{evaluated_over}
 use Rattle.edit_session.specs.State.{shows}
 use Rattle.edit_session.specs.declared.state.Shown.{Shown}
 use Rattle.sch_stops.specs.declared.stop.Stop.{Stop}
@@ -46,7 +45,7 @@ measure_rest-requires g c =
     let trees = c.in_ok-first.ensures.tree in
     record {
       cap = ap (λ (tree : Contents). tree.pair_cap) trees ∙ c.requires.cap ∙ ap pair_cap_for (sym plans);
-      fresh = c.in_ok-first.ensures.fresh ∙ ap (λ (tree : Contents). evaluated_over tree.nodes) (sym trees);
+      fresh = c.in_ok-first.ensures.fresh;
       last = c.in_ok-first.ensures.measured ∙ ap (λ (p : Plan). measured_of p c.args.session.tree.nodes) (sym plans)
           ∙ ap (λ (tree : Contents). measured_of c.measure_state.new.session.plan tree.nodes) (sym trees);
     }

@@ -1,8 +1,8 @@
 -- The file is a tree that is not too large for the plan, or the document is refused.
-use Rattle.std.proofs.Common.{◌∙◌, [], ◌∷◌, Err, Ok, ap, refl}
+use Rattle.std.proofs.Common.{◌∙◌, [], ◌∷◌, Err, Ok, ap, refl, sym}
 use Rattle.std.proofs.lemmas.Result.{err_from_is_err_and}
 use Rattle.doc_tree.specs.Table.{Contents}
-use Rattle.edit_session.specs.Pairs.{has_too_many_pairs}
+use Rattle.edit_session.specs.Pairs.{has_too_many_pairs, pair_cap_for}
 use Rattle.sch_stops.specs.declared.refusal.DocumentRefusal.TheVariants.{TooManyPairs}
 use Rattle.sch_stops.specs.declared.stop.Stop.TheVariants.{DocumentRefused, Memory}
 use Rattle.sch_loading.specs.Reads.{file}
@@ -12,6 +12,7 @@ use Rattle.sch_loading.specs.Stages.{Is, halt_if}
 use Rattle.sch_cli.specs.inner.Followers.{treed_by}
 use Rattle.sch_loading.proofs.FileLemmas.{document_inner, memory_inner}
 use Rattle.sch_cli.proofs.FollowLemmas.{opened_under}
+use Rattle.sch_cli.proofs.SessionLemmas.{unevaluated-opened}
 use Rattle.sch_loading.proofs.PartLemmas.{reads_on, reads_stopped}
 use Rattle.sch_loading.proofs.SchemaLemmas.{halted_there}
 use Rattle.sch_cli.proofs.validation.load_under.Goals as goal
@@ -25,7 +26,14 @@ returns-in_err-tree-clause-reads g c =
 pub returns-in-Ok-clause-reads : goal.returns-in-Ok-clause-reads
 returns-in-Ok-clause-reads g c =
     reads_on _ _ (file c.args.name ∷ []) (λ files. Loading files c.args.name) (λ T. Is (halt_if (has_too_many_pairs c.args.plan T) too_many_pairs (tree_under c.args.plan T))) (λ (tree : Contents). tree.nodes) treed_by c.in_ok-tree.tree (Ok c.in-Ok.session) c.in_ok-tree.ensures.reads
-    (opened_under c.args.plan c.in_ok-tree.tree c.in-Ok.session c.in-Ok.ensures.opened c.in-Ok.ensures.within) tt
+    (opened_under c.args.plan c.in_ok-tree.tree c.in-Ok.session c.in-Ok.ensures.plan (ap (λ (tree : Contents). tree.nodes) c.in-Ok.ensures.tree) c.in-Ok.ensures.within) tt
+
+pub returns-in-Ok-clause-cap : goal.returns-in-Ok-clause-cap
+returns-in-Ok-clause-cap g c = ap (λ (tree : Contents). tree.pair_cap) c.in-Ok.ensures.tree ∙ ap pair_cap_for (sym c.in-Ok.ensures.plan)
+
+pub returns-in-Ok-clause-unevaluated : goal.returns-in-Ok-clause-unevaluated
+returns-in-Ok-clause-unevaluated g c =
+    unevaluated-opened c.args.plan c.in_ok-tree.tree c.in-Ok.session c.in-Ok.ensures.plan (ap (λ (tree : Contents). tree.nodes) c.in-Ok.ensures.tree) c.in-Ok.ensures.unrun
 
 pub returns-in-Err-TooManyPairs-clause-reads : goal.returns-in-Err-TooManyPairs-clause-reads
 returns-in-Err-TooManyPairs-clause-reads g c =

@@ -31,11 +31,11 @@ returns-clause-carried g c =
     let session = c.in_ok-session.session in
     carried (schema_file asked.schema.now ∷ file asked.document.now ∷ []) (λ files. Opening files asked.phase.now asked.schema.now asked.document.now) treed_by
     (λ at output. output ≡ state at.plan at.tree) (λ at text. text ≡ state_text at.plan at.tree) (λ at cost. cost ≡ first_cost at.plan at.tree) true _ _ _ _ _ _
-    session c.write_state.result c.in_ok-session.ensures.reads
+    session c.write_once-written.result c.in_ok-session.ensures.reads
     (text_behind (λ at output. output ≡ state at.plan at.tree) (λ at text. text ≡ state_text at.plan at.tree) (treed_by session) _ _ (state_text session.plan session.tree.nodes) (shows session.plan session.tree.nodes)
-    refl refl c.write_state.result c.write_state.ensures.wrote c.write_state.ensures.shown (λ at cost. cost ≡ first_cost at.plan at.tree) true _ _
-    (state_counts session (state_text session.plan session.tree.nodes) _ _ _ _ c.write_state.result c.in_ok-session.ensures.unevaluated c.write_state.ensures.rose c.write_state.ensures.wrote)
-    (λ idle. absurd (true≢false idle)) c.write_state.ensures.steps)
+    refl refl c.write_once-written.result c.write_once-written.ensures.wrote c.write_once-written.ensures.shown (λ at cost. cost ≡ first_cost at.plan at.tree) true _ _
+    (state_counts session.plan session.tree.nodes (state_text session.plan session.tree.nodes) _ _ _ _ c.write_once-written.result c.write_once-written.ensures.rose c.write_once-written.ensures.wrote)
+    (λ idle. absurd (true≢false idle)) c.write_once-written.ensures.steps)
 
 pub returns-clause-accepted : goal.returns-clause-accepted
-returns-clause-accepted g c = accepted c.write_state.result c.write_state.ensures.wrote.writing
+returns-clause-accepted g c = accepted c.write_once-written.result c.write_once-written.ensures.wrote.writing

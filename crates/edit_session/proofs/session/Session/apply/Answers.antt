@@ -1,21 +1,55 @@
--- The tree under way is that of the session, and the command is one more since the units were evaluated.
-use Rattle.std.proofs.Common.{◌∙◌, Option, ap, subst, sym}
+-- The tree under way is that of the session, and the units that read what the command touched are stale.
+use Rattle.std.proofs.Common.{◌≡◌, ◌∙◌, true, ap, subst, sym}
+use Rattle.doc_tree.specs.Kinds.{is_document}
+use Rattle.doc_tree.specs.Table.{Contents}
+use Rattle.doc_edit_laws.specs.Along.{Edit}
+use Rattle.edit_commands.specs.Touched.{holds_cell, touched_by}
 use Rattle.name_scopes.specs.Scoping.{InScope}
-use Rattle.edit_session.specs.Standing.{Past, Standing}
-use Rattle.edit_session.specs.inner.Kept.{AreKept}
+use Rattle.edit_costs.specs.Dirty.{dirty_units}
+use Rattle.kept_state.specs.Kept.{Keeps}
+use Rattle.kept_state.specs.Running.{IsFresh, to_run}
+use Rattle.kept_state.specs.Steps.{Marks}
+use Rattle.kept_units.specs.Keeping.{IsHeld, seen_in}
+use Rattle.edit_session.specs.Pairs.{pair_cap_for}
+use Rattle.edit_session.specs.Standing.{Standing, seen_by}
+use Rattle.edit_session.proofs.KeptLemmas.{dirty-edited, kept-edited, marks-same}
 use Rattle.edit_session.proofs.session.Session.apply.Goals as goal
 
 pub invariant_of-self : goal.invariant_of-self
 invariant_of-self c =
     let before = c.self.inside in
-    let kept = c.mark.ensures before.plan before.tree.nodes before.remembered.past c.args.command.now c.laws.ensures.well_formed c.in-Ok.ensures.edit
-    c.in-Ok.ensures.touched c.self.invariant.kept in
+    let touched = touched_by before.tree.nodes c.args.command.now in
+    let marks = marks-same touched (holds_cell c.apply_to.new.tree.nodes c.in-Ok.touched) (seen_in before.kept) (seen_in c.mark.new.self) c.in-Ok.ensures.touched c.mark.ensures.marks in
     record {
       sound = c.self.invariant.sound;
+      typed = c.self.invariant.typed;
       document = c.in-Ok.ensures.document;
       cap = c.in-Ok.ensures.cap ∙ c.self.invariant.cap;
-      kept = subst (λ (past : Option Past). AreKept before.plan c.apply_to.new.tree.nodes past c.mark.new.kept) (sym c.with-after.ensures) kept;
+      held = c.mark.ensures.held before.plan before.tree.nodes touched c.laws.ensures.well_formed c.in-Ok.ensures.edit c.self.invariant.held;
+      keeps = kept-edited c.edits_keep.ensures before.plan before.tree.nodes c.apply_to.new.tree.nodes touched
+          (seen_in before.kept) (seen_in c.mark.new.self) c.laws.ensures.well_formed c.in-Ok.ensures.edit c.self.invariant.keeps marks;
     }
+
+pub returns-in-Ok-clause-marked : goal.returns-in-Ok-clause-marked
+returns-in-Ok-clause-marked c =
+    let before = c.self.inside in
+    subst (λ (s : Standing). Marks (touched_by s.tree.nodes c.args.command.now) (seen_by s) (seen_in c.mark.new.self)) c.self.view_is
+    (marks-same (touched_by before.tree.nodes c.args.command.now) (holds_cell c.apply_to.new.tree.nodes c.in-Ok.touched) (seen_in before.kept) (seen_in c.mark.new.self) c.in-Ok.ensures.touched
+    c.mark.ensures.marks)
+
+pub returns-in-Ok-clause-dirty : goal.returns-in-Ok-clause-dirty
+returns-in-Ok-clause-dirty c =
+    let before = c.self.inside in
+    let touched = touched_by before.tree.nodes c.args.command.now in
+    let marks = marks-same touched (holds_cell c.apply_to.new.tree.nodes c.in-Ok.touched) (seen_in before.kept) (seen_in c.mark.new.self) c.in-Ok.ensures.touched c.mark.ensures.marks in
+    subst (λ (s : Standing). IsFresh s.plan s.tree.nodes (seen_by s) →
+    to_run s.plan c.apply_to.new.tree.nodes (seen_in c.mark.new.self) ≡ dirty_units s.plan s.tree.nodes c.apply_to.new.tree.nodes (touched_by s.tree.nodes c.args.command.now)) c.self.view_is
+    (dirty-edited c.dirty_are_run.ensures.all before.plan before.tree.nodes c.apply_to.new.tree.nodes touched (seen_in before.kept) (seen_in c.mark.new.self)
+    c.self.invariant.sound c.laws.ensures.well_formed c.in-Ok.ensures.edit marks c.self.invariant.typed)
+
+pub returns-in-Ok-clause-edit : goal.returns-in-Ok-clause-edit
+returns-in-Ok-clause-edit c =
+    subst (λ (s : Standing). Edit s.tree.nodes c.apply_to.new.tree.nodes (touched_by s.tree.nodes c.args.command.now)) c.self.view_is c.in-Ok.ensures.edit
 
 pub returns-in-Err-clause-scope : goal.returns-in-Err-clause-scope
 returns-in-Err-clause-scope c = λ scope.
@@ -24,3 +58,17 @@ returns-in-Err-clause-scope c = λ scope.
 pub returns-in-Ok-clause-scope : goal.returns-in-Ok-clause-scope
 returns-in-Ok-clause-scope c = λ scope.
     c.in-Ok.ensures.scope (subst InScope (sym (ap (λ (session : Standing). session.tree.nodes) c.self.view_is)) scope)
+
+-- a command that is not done leaves all as it was
+pub invariant_of-self-in-Err : goal.invariant_of-self-in-Err
+invariant_of-self-in-Err c =
+    let before = c.self.inside in
+    let same = sym c.in-Err.ensures.unchanged in
+    record {
+      sound = c.self.invariant.sound;
+      typed = c.self.invariant.typed;
+      document = subst (λ (tree : Contents). is_document tree.nodes ≡ true) same c.self.invariant.document;
+      cap = subst (λ (tree : Contents). tree.pair_cap ≡ pair_cap_for before.plan) same c.self.invariant.cap;
+      held = subst (λ (tree : Contents). IsHeld before.plan tree.nodes before.kept) same c.self.invariant.held;
+      keeps = subst (λ (tree : Contents). Keeps before.plan tree.nodes (seen_in before.kept)) same c.self.invariant.keeps;
+    }

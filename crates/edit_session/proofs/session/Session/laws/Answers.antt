@@ -1,12 +1,8 @@
--- What is kept knows the commands since.
-use Rattle.std.proofs.Common.{IfSome, subst}
-use Rattle.edit_session.specs.Laws.{LedTo}
-use Rattle.edit_session.specs.Standing.{Standing}
-use Rattle.edit_session.proofs.KeptLemmas.{kept-led}
+-- What is kept is the state.
+use Rattle.std.proofs.Common.{subst}
+use Rattle.kept_state.specs.Kept.{Keeps}
+use Rattle.edit_session.specs.Standing.{Standing, seen_by}
 use Rattle.edit_session.proofs.session.Session.laws.Goals as goal
 
-pub returns-clause-led : goal.returns-clause-led
-returns-clause-led c =
-    let before = c.self.inside in
-    subst (λ (s : Standing). IfSome s.past (λ past. LedTo past s.tree.nodes)) c.self.view_is
-    (kept-led before.plan before.tree.nodes before.remembered.past before.kept c.self.invariant.kept)
+pub returns-clause-keeps : goal.returns-clause-keeps
+returns-clause-keeps c = subst (λ (s : Standing). Keeps s.plan s.tree.nodes (seen_by s)) c.self.view_is c.self.invariant.keeps

@@ -11,7 +11,8 @@ returns-in-Some t c =
     let T = c.args.at.now.tree.now.nodes in
     let touched = holds_cell c.args.at.now.tree.now.nodes c.args.at.now.touched.now in
     let width = c.args.at.now.width in
-    drops_where touched width (λ k. IsAround c.in-Some.parent c.args.with_shapes k ⊎ IsAbove T c.in-Some.parent c.args.with_shapes k) (IsAbove T c.args.node c.args.with_shapes)
+    drops_where touched width (λ k. IsAround c.in-Some.parent c.args.with_shapes k ⊎ IsAbove T c.in-Some.parent c.args.with_shapes k)
+    (IsAbove T c.args.node c.args.with_shapes)
     c.args.self.now c.mark_above.new.self
     (above_more T c.args.node c.in-Some.parent c.args.with_shapes c.laws.ensures.ways_up (sym c.in-Some.ensures))
     (above_less T c.args.node c.in-Some.parent c.args.with_shapes c.laws.ensures.ways_up (sym c.in-Some.ensures))

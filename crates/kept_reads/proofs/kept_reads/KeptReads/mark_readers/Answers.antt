@@ -1,21 +1,24 @@
--- At last no unit reads the cell.
+-- At last no unit has read the cell.
 use Rattle.std.proofs.Common.{refl}
 use Rattle.edit_commands.specs.Touched.{holds_cell}
-use Rattle.kept_reads.proofs.DroppingLemmas.{none_gives, readers_begin, readers_end, readers_on}
+use Rattle.kept_reads.proofs.DroppingLemmas.{none_gives, taken_all, taken_on, thins_alike}
 use Rattle.kept_reads.proofs.kept_reads.KeptReads.mark_readers.Goals as goal
 
-pub loop-unit-init : goal.loop-unit-init
-loop-unit-init c = λ hit knows. readers_begin _ _ c.args.cell.now _ knows
+pub loop-place-init : goal.loop-place-init
+loop-place-init c = λ hit. thins_alike _ _ c.args.self.now c.args.self.now refl refl
 
-pub loop-unit-preserved : goal.loop-unit-preserved
-loop-unit-preserved c = λ hit knows.
-    readers_on (holds_cell c.args.at.now.tree.now.nodes c.args.at.now.touched.now) c.args.at.now.width c.args.cell.now c.args.self.now c.loop-unit.self c.take_reader.new.self c.drop_if_touched.new.self
-    c.in-Some.unit c.take_reader.ensures.entries c.take_reader.ensures.blocks c.take_reader.ensures.known c.in-Some.ensures.loses
-    c.drop_if_touched.ensures.thins c.drop_if_touched.ensures.clean c.drop_if_touched.ensures.readers c.drop_if_touched.ensures.known hit
-    (c.loop-unit.invariant hit knows)
+pub loop-place-preserved : goal.loop-place-preserved
+loop-place-preserved c = λ hit.
+    taken_on (holds_cell c.args.at.now.tree.now.nodes c.args.at.now.touched.now) c.args.at.now.width c.args.cell.now hit c.args.self.now
+    c.loop-place.self c.take.new.self c.flag.new.self
+    c.in-Some.place c.flag.ensures.row c.in-Some.ensures.took c.in-Some.ensures.dropped c.take.ensures.blocks c.flag.ensures.entries
+    c.flag.ensures.row_is c.flag.ensures.blocks
+    (c.loop-place.invariant hit)
 
 pub returns : goal.returns
-returns c = λ all knows.
+returns c = λ all.
     let hit = all c.args.cell.now refl in
-    readers_end (holds_cell c.args.at.now.tree.now.nodes c.args.at.now.touched.now) c.args.at.now.width c.args.cell.now c.args.self.now c.loop-unit.self c.take_reader.new.self
-    (none_gives c.take_reader.result _ c.in_default.is c.take_reader.ensures.unchanged) (none_gives c.take_reader.result _ c.in_default.is c.take_reader.ensures.none) (c.loop-unit.invariant hit knows)
+    taken_all (holds_cell c.args.at.now.tree.now.nodes c.args.at.now.touched.now) c.args.at.now.width c.args.cell.now hit c.args.self.now
+    c.loop-place.self c.take.new.self
+    (none_gives c.take.result _ c.in_default.is c.take.ensures.unchanged) (none_gives c.take.result _ c.in_default.is c.take.ensures.none)
+    (c.loop-place.invariant hit)

@@ -1,14 +1,13 @@
--- The readers so far are dropped, and the others are known.
+-- Nothing but touched reads is dropped.
 use Rattle.std.proofs.Common.{◌≡◌, true}
 use Rattle.edit_commands.specs.Touched.{holds_cell}
-use Rattle.unit_readers.specs.Readers.{newest}
-use Rattle.kept_reads.specs.inner.Dropping.{DropsReaders, KnowsReaders}
+use Rattle.kept_reads.specs.Marking.{Thins}
+use Rattle.kept_reads.specs.Reads.{kept_count}
 use Rattle.kept_reads.proofs.kept_reads.KeptReads.mark_readers.Given as goal
 
-abbrev pub invariant-loop-unit : goal.invariant-loop-unit
-invariant-loop-unit l =
-    holds_cell l.at.tree.now.nodes l.at.touched.now l.cell ≡ true → KnowsReaders l.fn.self →
-    DropsReaders (holds_cell l.at.tree.now.nodes l.at.touched.now) l.at.width (λ _. ⊥) l.fn.self l.self
+abbrev pub invariant-loop-place : goal.invariant-loop-place
+invariant-loop-place l =
+    holds_cell l.at.tree.now.nodes l.at.touched.now l.cell ≡ true → Thins (holds_cell l.at.tree.now.nodes l.at.touched.now) l.at.width l.fn.self l.self
 
-abbrev pub decreases-loop-unit : goal.decreases-loop-unit
-decreases-loop-unit l = newest l.self.readers l.cell
+abbrev pub decreases-loop-place : goal.decreases-loop-place
+decreases-loop-place l = kept_count l.self.entries

@@ -8,5 +8,6 @@ use Rattle.kept_reads.proofs.kept_reads.KeptReads.mark_texts_above.Goals as goal
 pub returns-then-is_text : goal.returns-then-is_text
 returns-then-is_text c =
     let T = c.args.at.now.tree.now.nodes in
-    drops_where (holds_cell c.args.at.now.tree.now.nodes c.args.at.now.touched.now) c.args.at.now.width (IsAbove T c.args.node false) (λ k. (c.args.is_text ≡ true) × IsAbove T c.args.node false k)
+    drops_where (holds_cell c.args.at.now.tree.now.nodes c.args.at.now.touched.now) c.args.at.now.width (IsAbove T c.args.node false)
+    (λ k. (c.args.is_text ≡ true) × IsAbove T c.args.node false k)
     c.args.self.now c.mark_above.new.self (λ k up. (c.if-is_text.true, up)) (λ k both. both.1) c.mark_above.ensures

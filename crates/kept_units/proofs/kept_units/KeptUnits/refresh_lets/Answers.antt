@@ -1,22 +1,29 @@
--- One let more is that of the tree.
-use Rattle.std.proofs.Common.{◌+◌, ◌<◌, Bool, List, length, subst, sym, arith}
-use Rattle.kept_units.specs.inner.Refreshing.{LetsRefreshed}
-use Rattle.kept_units.proofs.LetLemmas.{alone_on, let_on}
+-- What read a let with another outcome is forgotten, whatever stopped the lets.
+use Rattle.kept_units.proofs.EndLemmas.{lets_done, lets_go_all, lets_go_cut, lets_go_nowhere}
+use Rattle.kept_units.proofs.EvaluatingLemmas.{both_ok, each_way}
 use Rattle.kept_units.proofs.kept_units.KeptUnits.refresh_lets.Goals as goal
 
-pub loop-l-preserved : goal.loop-l-preserved
-loop-l-preserved g c =
+pub returns-in_err-changed-clause-go : goal.returns-in_err-changed-clause-go
+returns-in_err-changed-clause-go g c =
     let plan = c.args.run.now.plan.now in
     let T = c.args.run.now.caller.tree.now.nodes in
-    let within : c.loop-l.l < length c.args.run.now.plan.now.lets = omega arith in
-    let place : c.loop-l.l < length c.loop-l.self.let_reads.entries.items = omega (arith, within, c.loop-l.invariant.alone.let_places, c.requires.places) in
-    record {
-      alone = alone_on plan c.args.self.now c.loop-l.self c.refresh_let.new.self c.loop-l.invariant.alone c.in_ok-has_changed.ensures.alone;
-      so_far = λ since keeps.
-          subst (λ (flags : List Bool). LetsRefreshed plan since T (c.loop-l.l + 1) c.args.self.now c.refresh_let.new.self flags c.args.steps.now c.refresh_let.new.steps)
-          (sym c.in_ok-push.ensures.items)
-          (let_on c.clean_units_stand.ensures c.lets_need_those_before.ensures c.same_outcomes_are_equal.ensures c.lets_stand_in_order.ensures plan T c.requires.sound
-          since c.loop-l.l c.loop-l.changed.items c.args.self.now c.loop-l.self c.refresh_let.new.self c.in_ok-has_changed.has_changed
-          c.args.steps.now c.loop-l.steps c.refresh_let.new.steps within place keeps (c.loop-l.invariant.so_far since keeps) c.in_ok-has_changed.ensures.refreshes);
-      steps = omega (arith, c.loop-l.invariant.steps, c.in_ok-has_changed.ensures.steps);
-    }
+    lets_go_nowhere plan T (c.refreshes_keep.ensures plan T c.requires.sound c.laws.ensures.well_formed) c.args.self.now c.args.steps.now c.requires.held c.requires.keeps
+
+pub returns-clause-go : goal.returns-clause-go
+returns-clause-go g c =
+    let plan = c.args.run.now.plan.now in
+    let T = c.args.run.now.caller.tree.now.nodes in
+    each_way c.run_lets-ended.result
+    (lets_go_all c.lets_stand_in_order.ensures plan T (c.refreshes_keep.ensures plan T c.requires.sound c.laws.ensures.well_formed) c.args.self.now c.run_lets-ended.new.self c.forget_changed.new.self
+    c.run_lets-ended.new.changed.items c.args.steps.now c.run_lets-ended.new.steps c.requires.held)
+    (lets_go_cut plan T c.args.self.now c.run_lets-ended.new.self c.forget_changed.new.self c.run_lets-ended.new.changed.items c.args.steps.now c.run_lets-ended.new.steps c.requires.held)
+    c.run_lets-ended.ensures.refreshed c.run_lets-ended.ensures.cut c.forget_changed.ensures.pairs c.forget_changed.ensures.all
+
+pub returns-clause-done : goal.returns-clause-done
+returns-clause-done g c =
+    let plan = c.args.run.now.plan.now in
+    let T = c.args.run.now.caller.tree.now.nodes in
+    both_ok c.run_lets-ended.result
+    (lets_done c.lets_stand_in_order.ensures plan T (c.refreshes_keep.ensures plan T c.requires.sound c.laws.ensures.well_formed) c.args.self.now c.run_lets-ended.new.self c.forget_changed.new.self
+    c.run_lets-ended.new.changed.items c.args.steps.now c.run_lets-ended.new.steps c.requires.held)
+    c.run_lets-ended.ensures.refreshed c.forget_changed.ensures.pairs

@@ -1,8 +1,9 @@
 -- The command is refused, or makes another document of it.
-use Rattle.std.proofs.Common.{◌∙◌, ap, refl, sym}
+use Rattle.std.proofs.Common.{◌∙◌, ap, refl, subst, sym}
 use Rattle.doc_tree.specs.Table.{Contents}
-use Rattle.edit_session.specs.Standing.{Standing, evaluated_over}
+use Rattle.edit_session.specs.Standing.{Standing}
 use Rattle.sch_cli.specs.inner.Followers.{place_of}
+use Rattle.sch_cli.specs.inner.Sessions.{IsEvaluated}
 use Rattle.edit_script.specs.Script.{script_left}
 use Rattle.sch_cli.proofs.EndLemmas.{on_ok}
 use Rattle.sch_cli.proofs.FollowLemmas.{command_edited, command_undone, ready_after, ready_written}
@@ -16,14 +17,14 @@ returns-in-Ok-clause-goes g c =
 
 pub returns-in-Ok-clause-ready : goal.returns-in-Ok-clause-ready
 returns-in-Ok-clause-ready g c =
-    ready_written (place_of c.args.self.now) (place_of c.write_edited.new.self) c.args.command.now c.apply.new.self c.write_edited.result c.requires.ready
+    ready_written (place_of c.args.self.now) (place_of c.write_edited.new.self) c.args.command.now c.write_edited.result c.requires.ready
     (ap (λ (tree : Contents). tree.pair_cap) c.write_edited.ensures.tree ∙ c.in-Ok.ensures.cap) (c.write_edited.ensures.plan ∙ c.in-Ok.ensures.plan) c.write_edited.ensures.number (ap script_left c.write_edited.ensures.script)
-    c.write_edited.ensures.tree c.write_edited.ensures.fresh
+    c.write_edited.ensures.fresh
 
 pub returns-in-Ok-clause-costed : goal.returns-in-Ok-clause-costed
 returns-in-Ok-clause-costed g c =
-    costed_whole (place_of c.args.self.now) (place_of c.write_edited.new.self) c.args.command.now c.apply.new.self _ _ c.write_edited.result c.requires.ready.cap c.requires.ready.fresh
-    c.in-Ok.ensures.within c.in-Ok.ensures.edited c.in-Ok.ensures.plan c.in-Ok.ensures.marked
+    costed_whole (place_of c.args.self.now) (place_of c.write_edited.new.self) c.args.command.now c.apply.new.self _ _ c.write_edited.result c.requires.ready.cap
+    c.in-Ok.ensures.within c.in-Ok.ensures.edited c.in-Ok.ensures.plan (c.in-Ok.ensures.dirty c.requires.ready.fresh)
     c.write_edited.ensures.plan c.write_edited.ensures.tree (ap script_left c.write_edited.ensures.script) c.write_edited.ensures.seen c.write_edited.ensures.rose
 
 pub returns-in-Err-clause-goes : goal.returns-in-Err-clause-goes
@@ -35,7 +36,7 @@ pub returns-in-Err-clause-ready : goal.returns-in-Err-clause-ready
 returns-in-Err-clause-ready g c =
     on_ok _ c.write_undone.result
     (ready_after (place_of c.args.self.now) _ c.args.command.now c.requires.ready c.in-Err.ensures.cap c.in-Err.ensures.plan refl refl
-    (ap (λ (s : Standing). s.past) c.in-Err.ensures.unchanged ∙ c.requires.ready.fresh ∙ ap evaluated_over (sym (ap (λ (s : Standing). s.tree.nodes) c.in-Err.ensures.unchanged))))
+    (subst IsEvaluated (sym c.in-Err.ensures.unchanged) c.requires.ready.fresh))
 
 pub returns-in-Err-clause-costed : goal.returns-in-Err-clause-costed
 returns-in-Err-clause-costed g c =

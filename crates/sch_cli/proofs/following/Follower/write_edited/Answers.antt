@@ -5,7 +5,8 @@ use Rattle.edit_session.specs.State.{state_text}
 use Rattle.sch_stops.specs.declared.stop.Stop.{Stop}
 use Rattle.sch_stops.specs.declared.stop.Stop.TheVariants.{WriteFault}
 use Rattle.sch_stops.specs.EditLines.{edit_line}
-use Rattle.sch_cli.specs.inner.Counts.{RoseFor, next_cost}
+use Rattle.sch_cli.specs.inner.Counts.{RoseFor}
+use Rattle.sch_cli.specs.inner.Sessions.{next_cost}
 use Rattle.sch_cli.proofs.EndLemmas.{failed_written, text_err, text_stopped, text_then, whole_written}
 use Rattle.sch_cli.proofs.following.Follower.write_edited.Goals as goal
 

@@ -5,8 +5,8 @@ use Rattle.sch_cli.proofs.measuring.Measurer.measure_command.Goals as goal
 
 pub returns-in-Ok-clause-moves : goal.returns-in-Ok-clause-moves
 returns-in-Ok-clause-moves g c =
-    moves-measured c.args.self.now c.measure_edited.new.self c.args.command.now c.apply.new.self _ _ c.measure_edited.result c.requires.ready.cap c.requires.ready.fresh
-    c.in-Ok.ensures.within c.in-Ok.ensures.edited c.in-Ok.ensures.plan c.in-Ok.ensures.marked
+    moves-measured c.args.self.now c.measure_edited.new.self c.args.command.now c.apply.new.self _ _ c.measure_edited.result c.requires.ready.cap
+    c.in-Ok.ensures.within c.in-Ok.ensures.edited c.in-Ok.ensures.plan (c.in-Ok.ensures.dirty c.requires.ready.fresh)
     c.measure_edited.ensures.plan c.measure_edited.ensures.tree c.measure_edited.ensures.script c.measure_edited.ensures.faulted c.measure_edited.ensures.rose
 
 pub returns-in-Ok-clause-ready : goal.returns-in-Ok-clause-ready

@@ -1,0 +1,4 @@
+pub mod ClimbLemmas
+pub mod SetLemmas
+pub mod FindLemmas
+pub mod DropLemmas

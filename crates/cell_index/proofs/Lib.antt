@@ -1,0 +1,4 @@
+pub mod CellLemmas
+pub mod LinkLemmas
+pub mod GatheringLemmas
+pub mod SharingLemmas

@@ -1,0 +1,22 @@
+-- What the next report of a session is to evaluate.
+use Rattle.std.specs.Prelude.{◌≡◌, ℕ, List}
+use Rattle.edit_costs.specs.Costs.{cost_of}
+use Rattle.edit_costs.specs.Units.{ValidationUnit, units_of}
+use Rattle.kept_state.specs.Running.{IsFresh, to_run}
+use Rattle.edit_session.specs.Standing.{Standing, seen_by}
+
+-- the units of a session that its next report runs
+abbrev pub next_units : Standing → List ValidationUnit
+next_units session = to_run session.plan session.tree.nodes (seen_by session)
+
+-- the visits of these
+abbrev pub next_cost : Standing → ℕ
+next_cost session = cost_of session.plan session.tree.nodes (next_units session)
+
+-- none of its units was evaluated
+abbrev pub IsUnevaluated : Standing → Type 0
+IsUnevaluated session = next_units session ≡ units_of session.plan session.tree.nodes
+
+-- all of them are as the document has them
+abbrev pub IsEvaluated : Standing → Type 0
+IsEvaluated session = IsFresh session.plan session.tree.nodes (seen_by session)

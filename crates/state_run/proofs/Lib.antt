@@ -1,0 +1,5 @@
+pub mod Searches
+pub mod RaisedLemmas
+pub mod LetLemmas
+pub mod NodeLemmas
+pub mod ScanningLemmas

@@ -1,0 +1,3 @@
+pub mod Outcomes
+pub mod Evaluated
+pub mod inner

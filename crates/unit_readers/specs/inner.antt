@@ -1,2 +1,0 @@
-pub mod CellNumbers
-pub mod Links
