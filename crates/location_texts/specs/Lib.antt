@@ -1,0 +1,4 @@
+pub mod LocationSteps
+pub mod StepTokens
+pub mod StepTypes
+pub mod Laws

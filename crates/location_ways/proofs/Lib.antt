@@ -1,0 +1,4 @@
+pub mod Lists
+pub mod Predicates
+pub mod LastSteps
+pub mod Ways
