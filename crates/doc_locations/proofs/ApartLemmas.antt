@@ -115,7 +115,7 @@ abbrev WayTo : Table → ℕ → Type 0
 WayTo T n = (ks : List ℕ) × IsWay T 0 ks × (last_or 0 ks ≡ n) × (steps_of T (above T n) ≡ flat_map (step_of T) ks)
 
 -- a node with a parent has a kind
-kinded : (T : Table) (k x : ℕ) → parent_of T k ≡ Some x → (kind : Kind) × (kind_of T k ≡ Some kind)
+pub kinded : (T : Table) (k x : ℕ) → parent_of T k ≡ Some x → (kind : Kind) × (kind_of T k ≡ Some kind)
 kinded T k x up = by (entry_at T k) up
   where
     by : (entry : Option Facts) → parent_at entry ≡ Some x → (kind : Kind) × (kind_at (content_at entry) ≡ Some kind)
@@ -123,7 +123,7 @@ kinded T k x up = by (entry_at T k) up
     by (Some facts) up = (kind_in facts.content, refl)
 
 -- an attribute has a name
-named : (T : Table) (k : ℕ) → kind_of T k ≡ Some Attribute → (name : Name) × (name_of T k ≡ Some name)
+pub named : (T : Table) (k : ℕ) → kind_of T k ≡ Some Attribute → (name : Name) × (name_of T k ≡ Some name)
 named T k is = by (content_of T k) is
   where
     by : (content : Option Content) → kind_at content ≡ Some Attribute → (name : Name) × (name_at content ≡ Some name)

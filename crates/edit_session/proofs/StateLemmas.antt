@@ -22,7 +22,7 @@ use Rattle.sch_compiled.specs.Plan.{rules_of}
 use Rattle.sch_units.specs.Laws.{FirstMatchFires, LetsStandInOrder}
 use Rattle.sch_units.specs.Units.{lets_of, unit_pair}
 use Rattle.sch_units.specs.Validity.{first_fault, first_let_fault, first_node_fault, first_with, finds, outcome_of, pair_fault, pair_outcome, pattern_numbers}
-use Rattle.svrl_out.specs.Elements.{element}
+use Rattle.pyx_write.specs.Elements.{element}
 use Rattle.svrl_out.specs.declared.report.OutError.{OutError}
 use Rattle.svrl_out.specs.declared.report.OutError.TheVariants as out
 use Rattle.svrl_out.specs.FaultLine.{IsFaultOf, fault_line}

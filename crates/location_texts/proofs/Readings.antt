@@ -4,10 +4,8 @@ use Rattle.std.specs.Char.{encode_utf8}
 use Rattle.std.specs.Fmt.{decimal}
 use Rattle.std.specs.List.{list_any, list_all}
 use Rattle.std.specs.Str.{chars, is_utf8}
-use Rattle.std.proofs.lemmas.Str.{IsUtf8-from_is_utf8}
 use Rattle.sch_base.specs.Characters.{is_name_start, is_name_char}
 use Rattle.sch_base.specs.Named.{named}
-use Rattle.sch_base.specs.Names.{is_ncname}
 use Rattle.doc_locations.specs.Locations.{kid_step, named_step, quotes_of}
 use Rattle.xp_tree.specs.declared.numbers.TheConstants.{MAX_WHOLE}
 use Rattle.xp_tree.specs.declared.terms.Operator.TheVariants as operators
@@ -19,8 +17,8 @@ use Rattle.xp_print_laws.proofs.Fronts.{both, is_equal}
 use Rattle.xp_print_laws.proofs.NameBytes.{is_name_byte, name-bytes}
 use Rattle.xp_print_laws.proofs.Longest.{no_pair}
 use Rattle.xp_print_laws.proofs.Lexed.{IsQuotable}
-use Rattle.xp_print_laws.proofs.Words.{and-is-name}
-use Rattle.xp_print_laws.proofs.Texts.{ReadsAs, reads_none, reads_space, sign_reads, star_reads, literal_reads, number_reads, name_reads, function_reads, word_reads}
+use Rattle.xp_print_laws.proofs.Words.{and-is-name, word}
+use Rattle.xp_print_laws.proofs.Texts.{around_by, ReadsAs, reads_none, reads_space, sign_reads, star_reads, literal_reads, number_reads, name_reads, function_reads, word_reads}
 use Rattle.xp_print_laws.proofs.Behind.{After, Behind, text_joined, open_reads, close_reads, bracket_reads, nothing_behind, close_bracket_behind, bracket_behind, slash_behind, test_reads}
 use Rattle.location_texts.specs.LocationSteps.{KidKind, elements, texts, comments, instructions, LocationStep, to_kid, to_attribute, test_written, step_text, steps_text, holds_both_quotes, IsSpellable, AllSpellable}
 use Rattle.location_texts.specs.StepTokens.{kind_tokens, place_tokens, equation_tokens, name_tokens, step_tokens, steps_tokens}
@@ -81,16 +79,12 @@ quotable uri not_both = by (list_any (λ b. b == 39) uri) refl not_both
     by true is none = record { quote = 34; is = refl; none = none }
     by false is none = record { quote = 39; is = refl; none = is }
 
--- the quotes round a text that holds a single one, or holds none
-abbrev quotes_by : Bool → List ℕ
-quotes_by holds = if holds then 34 ∷ [] else 39 ∷ []
-
 -- a text between single quotes, which it doesn't hold
 single_reads : (b : Bool) (value rest : List ℕ) (ts : List Token) → list_any (λ c. c == 39) value ≡ false → ReadsAs true rest ts →
     ReadsAs b (39 ∷ (value ++ (39 ∷ rest))) (token.Literal value ∷ ts)
 single_reads b value rest ts none on =
     subst (λ t. ReadsAs b (39 ∷ t) (token.Literal value ∷ ts)) (append_assoc value (39 ∷ []) rest)
-    (subst (λ q. ReadsAs b ((quotes_by q ++ (value ++ quotes_by q)) ++ rest) (token.Literal value ∷ ts)) none
+    (subst (λ q. ReadsAs b ((around_by q ++ (value ++ around_by q)) ++ rest) (token.Literal value ∷ ts)) none
     (literal_reads b value rest ts (record { quote = 39; is = refl; none = none }) on))
 
 -- a namespace between its quotes
@@ -102,9 +96,6 @@ uri_reads uri rest ts not_both on =
     (literal_reads false uri rest ts (quotable uri not_both) on)
 
 -- ---- expanded names
-
-word : (bytes : List ℕ) → is_utf8 bytes ≡ true → is_ncname bytes ≡ true → IsNcname bytes
-word bytes utf8 name = record { utf8 = IsUtf8-from_is_utf8 bytes utf8; name = name }
 
 local_name-is_name : IsNcname (codes "local-name")
 unfolding chars is_utf8 encode_utf8 is_name_char is_name_start

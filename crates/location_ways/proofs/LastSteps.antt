@@ -6,7 +6,7 @@ use Rattle.doc_tree.specs.Kinds.{is_kind, can_be_kid}
 use Rattle.doc_tree.specs.Laws.{WellFormed, Ordered}
 use Rattle.doc_tree.specs.Lists.{mem}
 use Rattle.doc_tree.specs.NameTests.{named}
-use Rattle.doc_tree.specs.Table.{Table, Name, Content, root, element, attribute, text, comment, instruction, kind_at, name_at, is_live, kind_of, name_of, parent_of, kids_of, attrs_of, content_of, expanded, expanded_of, expanded_in}
+use Rattle.doc_tree.specs.Table.{Table, Name, element, attribute, is_live, kind_of, name_of, parent_of, kids_of, attrs_of, expanded, expanded_of, expanded_in}
 use Rattle.doc_tree.specs.Walks.{order}
 use Rattle.doc_tree.specs.kind.Kind.{Kind}
 use Rattle.doc_tree.specs.kind.Kind.TheVariants as kinds
@@ -17,6 +17,7 @@ use Rattle.doc_axes.specs.Axes.{axis_nodes, on_axis, is_attribute_kind}
 use Rattle.doc_axes.specs.AxesByCells.{AxesByCells}
 use Rattle.doc_axes.specs.NodeTests.{passes}
 use Rattle.doc_locations.specs.Locations.{attribute_step, has_kind, kid_step, kids_of_parent, place_among, place_of, step_by, step_of}
+use Rattle.doc_locations.proofs.ApartLemmas.{named as has_name}
 use Rattle.doc_locations.proofs.PlaceLemmas.{same_kind}
 use Rattle.xp_print_laws.proofs.Fronts.{both}
 use Rattle.xp_typed_tree.specs.TypedTree.{TypedSteps, whole, no_typed, typed}
@@ -82,19 +83,6 @@ tested_by T elements ms k n stands = stands
 tested_by T texts ms k n stands = stands
 tested_by T comments ms k n stands = stands
 tested_by T instructions ms k n stands = stands
-
--- an attribute has a name
-pub has_name : (T : Table) (a : ℕ) → kind_of T a ≡ Some kinds.Attribute → (name : Name) × (name_of T a ≡ Some name)
-has_name T a is = by (content_of T a) is
-  where
-    by : (content : Option Content) → kind_at content ≡ Some kinds.Attribute → (name : Name) × (name_at content ≡ Some name)
-    by None is = absurd (cc)
-    by (Some root) is = absurd (cc)
-    by (Some (element name decls)) is = absurd (cc)
-    by (Some (attribute name value)) is = (name, refl)
-    by (Some (text characters)) is = absurd (cc)
-    by (Some (comment characters)) is = absurd (cc)
-    by (Some (instruction name characters)) is = absurd (cc)
 
 bytes_same : (xs ys : List ℕ) → bytes_eq xs ys ≡ true → xs ≡ ys
 bytes_same xs ys is = (bytes_eq-Decides xs ys).0 is

@@ -1,14 +1,15 @@
 -- Ways down grow by a step at their end.
-use Rattle.std.proofs.Common.{◌≡◌, ◌≢◌, ℕ, zero, suc, ◌≤◌, true, List, [], ◌∷◌, ◌++◌, length, append-nil, append_assoc, Option, None, Some, ⊎_elim, refl, sym, ap, ap₂, subst, ◌∙◌, arith}
+use Rattle.std.proofs.Common.{◌≡◌, ◌≢◌, ℕ, zero, suc, ◌≤◌, true, List, [], ◌∷◌, ◌++◌, length, append-nil, append_assoc, None, Some, ⊎_elim, refl, sym, ap, ap₂, subst, ◌∙◌, arith}
 use Rattle.std.proofs.lemmas.Bool.{cases_eq}
 use Rattle.std.proofs.lemmas.Grind.{flat_map-append}
 use Rattle.doc_tree.specs.Laws.{WellFormed, Ordered, HasWaysUp}
-use Rattle.doc_tree.specs.Table.{Table, Facts, parent_at, content_at, kind_at, kind_in, entry_at, is_live, kind_of, parent_of}
+use Rattle.doc_tree.specs.Table.{Table, is_live, kind_of, parent_of}
 use Rattle.doc_tree.specs.Walks.{above, ancestors}
 use Rattle.doc_tree.specs.kind.Kind.{Kind}
 use Rattle.doc_tree.specs.kind.Kind.TheVariants as kinds
 use Rattle.doc_axes.specs.AxesByCells.{AxesByCells}
 use Rattle.doc_locations.specs.Locations.{step_by, step_of, steps_of}
+use Rattle.doc_locations.proofs.ApartLemmas.{kinded, named}
 use Rattle.xp_outcome.specs.Evaluation.{done}
 use Rattle.xp_meaning.specs.Paths.{path, step_from}
 use Rattle.xp_meaning.specs.Evaluation.{Lets, steps_meant}
@@ -16,7 +17,7 @@ use Rattle.xp_meaning.proofs.Answers.{answer_then}
 use Rattle.location_texts.specs.LocationSteps.{elements, texts, comments, instructions, LocationStep, step_text, steps_text, IsSpellable, AllSpellable}
 use Rattle.location_texts.specs.StepTypes.{typed_steps}
 use Rattle.location_ways.specs.WayDown.{WayDown, HasSpellableAttributes, EachHasAWayDown}
-use Rattle.location_ways.proofs.LastSteps.{step_meant, first_meant, LastStep, has_name, to_kid_last, to_attribute_last}
+use Rattle.location_ways.proofs.LastSteps.{step_meant, first_meant, LastStep, to_kid_last, to_attribute_last}
 
 -- a way down, which may go on
 record Way (T : Table) (n : ℕ) : Type 0 where
@@ -33,14 +34,6 @@ spellable_more (x ∷ ss) s all is = (all.0, spellable_more ss s all.1 is)
 
 text_more : (ss : List LocationStep) (s : LocationStep) → steps_text ss ++ step_text s ≡ steps_text (ss ++ s ∷ [])
 text_more ss s = sym (flat_map-append step_text ss (s ∷ []) ∙ ap (λ (l : List ℕ). steps_text ss ++ l) (append-nil (step_text s)))
-
--- a node with a parent has a kind
-has_kind : (T : Table) (k x : ℕ) → parent_of T k ≡ Some x → (kind : Kind) × (kind_of T k ≡ Some kind)
-has_kind T k x up = by (entry_at T k) up
-  where
-    by : (entry : Option Facts) → parent_at entry ≡ Some x → (kind : Kind) × (kind_at (content_at entry) ≡ Some kind)
-    by None up = absurd (cc)
-    by (Some facts) up = (kind_in facts.content, refl)
 
 module _ (T : Table) (formed : WellFormed T) (ordered : Ordered T) (ways : HasWaysUp T) (cells : AxesByCells T) (spellable : HasSpellableAttributes T) where
   root_way : Way T 0
@@ -69,7 +62,7 @@ module _ (T : Table) (formed : WellFormed T) (ordered : Ordered T) (ways : HasWa
       let none : parent_of T n ≡ None = ap (parent_of T) (formed.one_root n is) ∙ formed.root_parent in absurd (cc)
   last_step p n live up kinds.Element is = to_kid_last T formed ordered cells elements p n (ways.parent_live n p up) live up is
   last_step p n live up kinds.Attribute is =
-      let name = has_name T n is in
+      let name = named T n is in
       to_attribute_last T formed ordered cells p n name.0 spellable (ways.parent_live n p up) live up is name.1
   last_step p n live up kinds.Text is = to_kid_last T formed ordered cells texts p n (ways.parent_live n p up) live up is
   last_step p n live up kinds.Comment is = to_kid_last T formed ordered cells comments p n (ways.parent_live n p up) live up is
@@ -78,7 +71,7 @@ module _ (T : Table) (formed : WellFormed T) (ordered : Ordered T) (ways : HasWa
   longer : (n : ℕ) → is_live T n ≡ true → n ≢ 0 → ((p : ℕ) → parent_of T n ≡ Some p → Way T p) → Way T n
   longer n live some way_up =
       let up = ways.has_parent n live some in
-      let kind = has_kind T n up.0 up.1 in
+      let kind = kinded T n up.0 up.1 in
       grown up.0 n up.1 (way_up up.0 up.1) (last_step up.0 n live up.1 kind.0 kind.1)
 
   -- a node's parent is nearer to the root

@@ -1,5 +1,5 @@
 -- Writing parts of a report one after another, where memory may run out between them.
-use Rattle.std.proofs.Common.{◌≡◌, ℕ, zero, suc, ◌+◌, ◌<◌, List, [], ◌∷◌, ◌++◌, map, length, take, drop, slice_get, slice_index_or, IsSomeAnd, Option, Result, Ok, Err, MatchResult, refl, ap, sym, subst, ◌∙◌, arith, append_assoc}
+use Rattle.std.proofs.Common.{◌≡◌, ℕ, zero, suc, ◌+◌, ◌<◌, List, [], ◌∷◌, ◌++◌, length, take, drop, slice_get, slice_index_or, IsSomeAnd, Option, Result, Ok, Err, MatchResult, refl, ap, sym, subst, ◌∙◌, arith, append_assoc}
 use Rattle.std.specs.List.{flat_map, zip, enumerate_from}
 use Rattle.std.specs.Option.{option_map_or}
 use Rattle.std.proofs.KnownBytes.{Appends-trans, Appends-nil}
@@ -8,12 +8,9 @@ use Rattle.std.proofs.lemmas.Option.{slice_get_read}
 use Rattle.std.proofs.lemmas.Slice.Zip.{get_or-zip}
 use Rattle.sch_io.specs.SinkLog.{SinkLog}
 use Rattle.sch_io.specs.Wrote.{Wrote, Appends}
-use Rattle.svrl_out.specs.declared.elements.Given.{Given}
 use Rattle.svrl_out.specs.declared.report.OutError.{OutError}
 use Rattle.svrl_out.specs.declared.report.OutError.TheVariants.{Failed, Memory}
-use Rattle.svrl_out.specs.Elements.{attributes}
 use Rattle.svrl_out.specs.Report.{Reported, faults_of_report}
-use Rattle.svrl_out.specs.inner.Given.{given_line, seen}
 use Rattle.sch_io.proofs.Writes.{flat_map-next, flat_map-cut}
 
 -- what was written of a text
@@ -79,11 +76,6 @@ some_within (x ∷ xs) (suc i) P holds = omega (arith, some_within xs i P holds)
 -- what holds of the item at a place
 pub some_holds : {A : Type 0} (xs : List A) (i : ℕ) (x : A) (P : A → Type 0) → x ≡ slice_index_or xs i x → IsSomeAnd (slice_get xs i) P → P x
 some_holds xs i x P is holds = subst (λ (o : Option _). IsSomeAnd o P) (slice_get_read xs (length xs) i x refl (some_within xs i P holds) is) holds
-
--- the attributes that are handed to the writer, line by line
-pub attributes_are : (given : List Given) → attributes (map seen given) ≡ flat_map given_line given
-attributes_are [] = refl
-attributes_are (one ∷ given) = ap (λ (l : List ℕ). given_line one ++ l) (attributes_are given)
 
 -- the pair at a place of two lists side by side
 pub pair_at : {A B : Type 0} (xs : List A) (ys : List B) (i : ℕ) (x : A) (y : B) → i < length xs → i < length ys → x ≡ slice_index_or xs i x → y ≡ slice_index_or ys i y → (x, y) ≡ slice_index_or (zip xs ys) i (x, y)

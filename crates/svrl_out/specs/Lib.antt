@@ -1,4 +1,3 @@
-pub mod Elements
 pub mod FaultLine
 pub use Rattle.doc_locations.specs.LocationLaws
 pub use Rattle.doc_locations.specs.Locations

@@ -21,7 +21,7 @@ use Rattle.sch_compiled.specs.Findings.{OutcomeTable, outcome_at}
 use Rattle.sch_compiled.specs.Plan.{rules_of}
 use Rattle.svrl_out.specs.declared.report.OutError.{OutError}
 use Rattle.svrl_out.specs.declared.report.OutError.TheVariants.{Failed, Memory}
-use Rattle.svrl_out.specs.Elements.{element}
+use Rattle.pyx_write.specs.Elements.{element}
 use Rattle.doc_locations.specs.Locations.{location_of}
 
 -- a prefix of the schema's expressions and its namespace

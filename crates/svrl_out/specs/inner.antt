@@ -1,3 +1,2 @@
-pub mod Given
 pub mod Pages
 pub mod Printer

@@ -1,7 +1,6 @@
 //! The report: what validation found, written as SVRL in lines of PYX (ISO/IEC 19757-3, annex on SVRL).
 #![tactic(auto)]
 
-mod elements;
 mod fault_line;
 mod page;
 mod parts;

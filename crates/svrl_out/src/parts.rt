@@ -3,11 +3,10 @@
 ghost use Rattle.std.specs.Prelude.{◌≡◌, All, codes};
 ghost use Rattle.std.specs.List.{flat_map, zip};
 ghost use Rattle.sch_io.specs.Wrote.{Wrote};
-ghost use Rattle.svrl_out.specs.Elements.{opening};
+ghost use Rattle.pyx_write.specs.Elements.{opening};
 ghost use Rattle.svrl_out.specs.Report.{IsFindingOf, active_pattern, assertion_lines, diagnostic_lines, finding_lines, finding_name, finding_texts, fired_rule, message_lines, ns_lines, output_attributes};
 
-use crate::elements::{Given, write_empty, write_opening, write_text};
-use pyx_write::write_end;
+use pyx_write::{Given, write_empty, write_end, write_opening, write_text};
 use sch_base::Text;
 use sch_compiled::{
     Finding, FindingList, Plan, PlanAssert, PlanAssertList, PlanDiagnostic, PlanDiagnosticList,

@@ -106,7 +106,7 @@ quote-value : (value : List ℕ) (q : ℕ) → is_quote q ≡ true → list_any 
 quote-value value q is none has = quote-by value q none has (q == 39) refl is
 
 -- the quotes round a literal
-abbrev around_by : Bool → List ℕ
+abbrev pub around_by : Bool → List ℕ
 around_by t = if t then 34 ∷ [] else 39 ∷ []
 
 quoted-by : (b : Bool) (value rest : List ℕ) (ts : List Token) → IsQuotable value → ReadsAs true rest ts → (t : Bool) → list_any (λ c. c == 39) value ≡ t →

@@ -14,7 +14,7 @@ use Rattle.sch_base.specs.Named.{named}
 use Rattle.xp_tree.specs.AxisNames.{axis_names}
 use Rattle.xp_tree.specs.AxisNames.{axis_text}
 
-word : (bytes : List ℕ) → is_utf8 bytes ≡ true → is_ncname bytes ≡ true → IsNcname bytes
+pub word : (bytes : List ℕ) → is_utf8 bytes ≡ true → is_ncname bytes ≡ true → IsNcname bytes
 word bytes utf8 name = record { utf8 = IsUtf8-from_is_utf8 bytes utf8; name = name }
 
 pub axis-is-name : (a : AxisName) → IsNcname (axis_text a)

@@ -4,16 +4,16 @@ ghost use Rattle.std.specs.Prelude.{[], map};
 ghost use Rattle.std.specs.List.{flat_map};
 ghost use Rattle.sch_io.specs.Wrote.{Wrote};
 ghost use Rattle.pyx_write.specs.Written.{chars_line};
-ghost use Rattle.svrl_out.specs.Elements.{attributes, element, opening};
-ghost use Rattle.svrl_out.specs.inner.Given.{seen, given_line};
+ghost use Rattle.pyx_write.specs.Elements.{attributes, element, opening};
+ghost use Rattle.pyx_write.specs.inner.Given.{seen, given_line};
 
-use pyx_write::{write_attr, write_chars, write_end, write_start};
+use crate::lines::{write_attr, write_chars, write_end, write_start};
 use sch_base::Text;
 use sch_io::{Failed, Sink};
 
 /// An attribute of an element that is to be written.
 #[derive(Clone, Copy)]
-pub(crate) enum Given<'a> {
+pub enum Given<'a> {
     /// Its name and a value that is the same in each report.
     Fixed(&'a str, &'a str),
     /// Its name and value.
@@ -24,11 +24,7 @@ pub(crate) enum Given<'a> {
 
 /// Writes how an element begins: its name, and the attributes that are given.
 #[tactic(auto, using(sch_io::proofs::Writes::writes))]
-pub(crate) fn write_opening<O: Sink>(
-    sink: &mut O,
-    name: &str,
-    given: &[Given<'_>],
-) -> Result<(), Failed>
+pub fn write_opening<O: Sink>(sink: &mut O, name: &str, given: &[Given<'_>]) -> Result<(), Failed>
     ensures { Wrote (O.log sink.old) (O.log sink.new) (opening name.now (map seen given.now)) result }
 {
     write_start(sink, name)?;
@@ -37,11 +33,7 @@ pub(crate) fn write_opening<O: Sink>(
 
 /// Writes an element that holds nothing.
 #[tactic(auto, using(sch_io::proofs::Writes::writes))]
-pub(crate) fn write_empty<O: Sink>(
-    sink: &mut O,
-    name: &str,
-    given: &[Given<'_>],
-) -> Result<(), Failed>
+pub fn write_empty<O: Sink>(sink: &mut O, name: &str, given: &[Given<'_>]) -> Result<(), Failed>
     ensures { Wrote (O.log sink.old) (O.log sink.new) (element name.now (map seen given.now) []) result }
 {
     write_opening(sink, name, given)?;
@@ -50,7 +42,7 @@ pub(crate) fn write_empty<O: Sink>(
 
 /// Writes an element that holds a text.
 #[tactic(auto, using(sch_io::proofs::Writes::writes))]
-pub(crate) fn write_text<O: Sink>(
+pub fn write_text<O: Sink>(
     sink: &mut O,
     name: &str,
     given: &[Given<'_>],

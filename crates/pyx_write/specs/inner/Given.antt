@@ -1,8 +1,8 @@
 -- Attributes as they are handed to the writer.
 use Rattle.std.specs.Prelude.{ℕ, List, Option, Some}
-use Rattle.svrl_out.specs.declared.elements.Given.{Given}
-use Rattle.svrl_out.specs.declared.elements.Given.TheVariants.{Fixed, Always, IfAny}
-use Rattle.svrl_out.specs.Elements.{attribute}
+use Rattle.pyx_write.specs.declared.elements.Given.{Given}
+use Rattle.pyx_write.specs.declared.elements.Given.TheVariants.{Fixed, Always, IfAny}
+use Rattle.pyx_write.specs.Elements.{attribute}
 
 -- the name, and the value if there is one
 abbrev pub seen : Given → List ℕ × Option (List ℕ)

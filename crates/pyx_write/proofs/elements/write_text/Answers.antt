@@ -2,7 +2,7 @@
 use Rattle.std.proofs.Common.{refl}
 use Rattle.pyx_write.specs.Written.{end_line}
 use Rattle.sch_io.proofs.Writes.{wrote_then, wrote_stopped}
-use Rattle.svrl_out.proofs.elements.write_text.Goals as goal
+use Rattle.pyx_write.proofs.elements.write_text.Goals as goal
 
 pub returns-in_err-write_chars : goal.returns-in_err-write_chars
 returns-in_err-write_chars g c = rw (← c.as_str.ensures)

@@ -1,9 +1,9 @@
 -- An attribute that was not written whole leaves a front of all.
 use Rattle.std.proofs.Math.Seq.{take_all}
-use Rattle.svrl_out.specs.inner.Given.{given_line}
+use Rattle.pyx_write.specs.inner.Given.{given_line}
 use Rattle.sch_io.proofs.Writes.{wrote_cut}
-use Rattle.svrl_out.proofs.ReportLemmas.{attributes_are}
-use Rattle.svrl_out.proofs.elements.write_attributes.Goals as goal
+use Rattle.pyx_write.proofs.Handed.{attributes_are}
+use Rattle.pyx_write.proofs.elements.write_attributes.Goals as goal
 
 pub returns-in_err-write_attribute : goal.returns-in_err-write_attribute
 returns-in_err-write_attribute g c = rw (attributes_are c.args.given.now)
