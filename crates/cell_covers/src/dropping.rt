@@ -88,7 +88,8 @@ fn add_uncovered(
     held: &mut Recorder,
 ) -> Result<(), AllocError>
     requires { held.old.cells ≡ empty }
-    ensures cells { OnOk result (Leaves (is_covered tree.now.nodes covering.now.shapes.numbers.items covering.now.texts.numbers.items) (from_list cells.now) held.new.cells) }
+    ensures cells { OnOk result (Leaves (is_covered tree.now.nodes covering.now.shapes.numbers.items covering.now.texts.numbers.items)
+        (from_list cells.now) held.new.cells) }
     ensures lets { OnOk result (held.new.lets ≡ held.old.lets) }
 {
     for cell in cells {

@@ -53,7 +53,8 @@ module _ (count : ℕ) where
   read-before slots (cell c) each named = tt
   read-before slots (variable place) each named = place-below slots place each named
 
-  pub reads-before : (slots : List (ℕ × ValueType)) (reads : List Read) → Each (Below count) slots → Each (IsNamedRead slots) reads → Each (IsBefore count) reads
+  pub reads-before : (slots : List (ℕ × ValueType)) (reads : List Read) → Each (Below count) slots → Each (IsNamedRead slots) reads →
+      Each (IsBefore count) reads
   reads-before slots [] each named = tt
   reads-before slots (r ∷ reads) each named = (read-before slots r each named.0, reads-before slots reads each named.1)
 
@@ -61,4 +62,5 @@ module _ (count : ℕ) where
 pub own-below : (plan : Plan) (slot : ℕ) (t : LetInForce) → IsSound plan → slice_get plan.lets slot ≡ Some t → Each (Below slot) (slots_in t.expr)
 own-below plan slot t sound there =
     let short : 0 + length (take slot plan.lets) ≤ slot = omega (arith, length-take slot plan.lets) in
-    named-below slot (seen_in t.pattern (take slot plan.lets)) (slots_in t.expr) (seen-below slot 0 t.pattern (take slot plan.lets) short) (sound.let_slots slot t there)
+    named-below slot (seen_in t.pattern (take slot plan.lets)) (slots_in t.expr) (seen-below slot 0 t.pattern (take slot plan.lets) short)
+    (sound.let_slots slot t there)

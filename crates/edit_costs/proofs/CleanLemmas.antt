@@ -29,7 +29,8 @@ module _ (plan : Plan) (T U : Table) (touched : Cell → Bool) where
       outcome-equal (in_slot (lets_of plan T) slot) (in_slot (lets_of plan U) slot)
       (not-false (same_outcome (in_slot (lets_of plan T) slot) (in_slot (lets_of plan U) slot)) h)
 
-  pub unchanged-reads : (xs : List Read) → list_any (λ r. is_touched touched r || is_changed plan T U r) xs ≡ false → Each (Unchanged plan T U touched) xs
+  pub unchanged-reads : (xs : List Read) → list_any (λ r. is_touched touched r || is_changed plan T U r) xs ≡ false →
+      Each (Unchanged plan T U touched) xs
   unchanged-reads [] h = tt
   unchanged-reads (r ∷ xs) h =
       let parts = neither (is_touched touched r || is_changed plan T U r) (list_any (λ x. is_touched touched x || is_changed plan T U x) xs) h in

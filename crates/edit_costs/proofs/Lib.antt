@@ -1,3 +1,6 @@
 mod SameLemmas
-mod CleanLemmas
+pub mod CleanLemmas
 mod BeforeLemmas
+pub mod UnitLemmas
+pub mod RaisedLemmas
+pub mod LetLemmas

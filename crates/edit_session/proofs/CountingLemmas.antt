@@ -21,15 +21,14 @@ use Rattle.sch_units.specs.Validity.{first_fault, pair_outcome}
 use Rattle.state_run.specs.declared.scanning.Evaluated.{Evaluated}
 use Rattle.state_run.specs.declared.scanning.Evaluated.TheVariants.{Whole, Faulted}
 use Rattle.state_run.specs.Evaluated.{Evaluates}
-use Rattle.edit_session.specs.declared.counting.Counted.{Counted}
-use Rattle.edit_session.specs.declared.counting.Counted.TheVariants.{FiredRules, FailedAssertions, SuccessfulReports}
 use Rattle.edit_costs.specs.Costs.{Raised, cost_of}
 use Rattle.kept_state.specs.Kept.{Kept}
 use Rattle.kept_state.specs.Running.{to_run}
 use Rattle.edit_session.specs.Counts.{counts_of, failed_assertions, fired_rules, over_pairs, successful_reports}
 use Rattle.edit_session.specs.declared.counting.Counts.{Counts}
+use Rattle.edit_session.specs.declared.counting.Tally.{Tally}
 use Rattle.edit_session.specs.Standing.{Standing}
-use Rattle.edit_session.specs.inner.Counting.{adds, adds_kept, fault_of, node_adds, nodes_add, pairs_add}
+use Rattle.edit_session.specs.inner.Counting.{Counted, FiredRules, FailedAssertions, SuccessfulReports, adds, adds_kept, counts_by, fault_of, node_adds, nodes_add, pairs_add, part}
 use Rattle.state_run.specs.Outcomes.{Holds}
 use Rattle.edit_session.proofs.FaultLemmas.{run-clear}
 use Rattle.edit_session.proofs.SearchLemmas.{or_right}
@@ -114,17 +113,14 @@ pub fault-is : (plan : Plan) (T : Table) (evaluated : Evaluated) → Evaluates p
 fault-is plan T (Whole found) whole = sym whole.0
 fault-is plan T (Faulted fault) is = sym is
 
-abbrev Counts-of : ℕ → ℕ → ℕ → Bool → Counts
-Counts-of fired failed reports faulted = record { fired = fired; failed = failed; reports = reports; faulted = faulted }
-
 -- what is counted, one by one
-pub counts-are : (plan : Plan) (T : Table) (fired failed reports : ℕ) (faulted : Bool) → fired ≡ fired_rules plan T → failed ≡ failed_assertions plan T → reports ≡ successful_reports plan T →
-    faulted ≡ is_some (first_fault plan T) → Counts-of fired failed reports faulted ≡ counts_of plan T
-counts-are plan T fired failed reports faulted a b c d =
-    ap (λ (n : ℕ). Counts-of n failed reports faulted) a
-    ∙ ap (λ (n : ℕ). Counts-of (fired_rules plan T) n reports faulted) b
-    ∙ ap (λ (n : ℕ). Counts-of (fired_rules plan T) (failed_assertions plan T) n faulted) c
-    ∙ ap (λ (t : Bool). Counts-of (fired_rules plan T) (failed_assertions plan T) (successful_reports plan T) t) d
+pub counts-are : (plan : Plan) (T : Table) (tally : Tally) (faulted : Bool) → ((what : Counted) → part what tally ≡ over_pairs plan T (adds what)) →
+    faulted ≡ is_some (first_fault plan T) → counts_by tally faulted ≡ counts_of plan T
+counts-are plan T tally faulted parts fault =
+    ap (λ (n : ℕ). counts_by (record { fired = n; failed = tally.failed; reports = tally.reports }) faulted) (parts FiredRules)
+    ∙ ap (λ (n : ℕ). counts_by (record { fired = fired_rules plan T; failed = n; reports = tally.reports }) faulted) (parts FailedAssertions)
+    ∙ ap (λ (n : ℕ). counts_by (record { fired = fired_rules plan T; failed = failed_assertions plan T; reports = n }) faulted) (parts SuccessfulReports)
+    ∙ ap (counts_by (record { fired = fired_rules plan T; failed = failed_assertions plan T; reports = successful_reports plan T })) fault
 
 -- the item at a place
 pub at_place : {A B : Type 0} (f : A → B) (xs : List A) (i : ℕ) (x : A) (d : B) → x ≡ slice_index_or xs i x → i < length xs → option_map_or f (slice_get xs i) d ≡ f x

@@ -1,10 +1,12 @@
 //! What is counted of a document whose units were evaluated: the rules that fire, the assertions that fail, the reports that succeed.
 
-ghost use Rattle.std.specs.Prelude.{◌≡◌, ◌+◌, ◌<◌, Some, IfOk, count_by, length, sum_by};
+ghost use Rattle.std.specs.Prelude.{◌≡◌, ◌+◌, ◌<◌, true, false, Some, IfOk, OnOk, count_by, length, sum_by};
 ghost use Rattle.sch_compiled.specs.Plan.{rules_of};
+ghost use Rattle.sch_compiled.specs.Soundness.{IsCounted};
+ghost use Rattle.sch_compiled.specs.declared.findings.Outcome.TheVariants.{Fired};
 ghost use Rattle.state_run.specs.Outcomes.{Holds, LetsHold};
-ghost use Rattle.edit_session.specs.Counts.{counts_of, found_by, is_kind, is_of_kind};
-ghost use Rattle.edit_session.specs.inner.Counting.{adds, fault_of, node_adds, pairs_add};
+ghost use Rattle.edit_session.specs.Counts.{counts_of, is_kind, is_of_kind};
+ghost use Rattle.edit_session.specs.inner.Counting.{Counted, Grows, adds, counts_by, fault_of, node_adds, pairs_add, part};
 
 use doc_tree::{NodeId, Tree};
 use rule_run::Lets;
@@ -12,7 +14,7 @@ use sch_compiled::{
     Finding, FindingList, Findings, Outcome, Plan, PlanAssert, PlanAssertList, PlanRuleList,
     StateFault,
 };
-use state_run::{Evaluated, came_to};
+use state_run::{Evaluated, came_to_among};
 use std::alloc::{AllocError, Global};
 
 /// What a document counts by a plan, over all its nodes under all active patterns.
@@ -28,14 +30,6 @@ pub struct Counts {
     pub faulted: bool,
 }
 
-/// What is added up.
-#[derive(Clone, Copy)]
-enum Counted {
-    FiredRules,
-    FailedAssertions,
-    SuccessfulReports,
-}
-
 /// What is counted of a document by the outcomes of its units. A count past 64 bits counts as want of memory.
 ///
 /// Looks at the outcomes of the nodes at which a rule fired or a fault was met; the memory grows with these nodes.
@@ -46,23 +40,17 @@ pub(crate) fn count_outcomes(
     lets: &Lets,
     found: &Findings,
 ) -> Result<Counts, AllocError>
+    requires counted { IsCounted plan.now }
     requires lets { LetsHold plan.now tree.now.nodes lets.now }
     requires found { Holds plan.now tree.now.nodes found.now }
     ensures { IfOk result (λ counts. counts ≡ counts_of plan.now tree.now.nodes) }
 {
-    let evaluated = came_to(alloc, plan, tree, lets, found)?;
-    let faulted = fault_of(evaluated).is_some();
     let nodes = found.told_in_order(alloc, tree)?;
     let nodes = nodes.as_slice();
-    let fired = sum_of_pairs(plan, found, nodes, Counted::FiredRules)?;
-    let failed = sum_of_pairs(plan, found, nodes, Counted::FailedAssertions)?;
-    let reports = sum_of_pairs(plan, found, nodes, Counted::SuccessfulReports)?;
-    Ok(Counts {
-        fired,
-        failed,
-        reports,
-        faulted,
-    })
+    let evaluated = came_to_among(plan, tree, lets, found, nodes);
+    let faulted = fault_of(evaluated).is_some();
+    let tally = tally_of_pairs(plan, found, nodes)?;
+    Ok(tally.counts(faulted))
 }
 
 /// The first fault, where there is one.
@@ -76,21 +64,19 @@ fn fault_of(evaluated: Evaluated) -> Option<StateFault>
 }
 
 /// What nodes add under all patterns.
-fn sum_of_pairs(
-    plan: &Plan,
-    found: &Findings,
-    nodes: &[NodeId],
-    what: Counted,
-) -> Result<u64, AllocError>
+fn tally_of_pairs(plan: &Plan, found: &Findings, nodes: &[NodeId]) -> Result<Tally, AllocError>
     requires { found.now.patterns ≡ length plan.now.patterns }
-    ensures { IfOk result (λ sum. sum ≡ pairs_add what plan.now found.now nodes.now) }
+    ensures { IfOk result (λ tally. (what : Counted) → part what tally ≡ pairs_add what plan.now found.now nodes.now) }
 {
-    let mut sum = 0;
+    let mut tally = Tally {
+        fired: 0,
+        failed: 0,
+        reports: 0,
+    };
     for p in 0..found.patterns() {
-        let more = sum_of_nodes(found, p, rules_of(plan, p), nodes, what)?;
-        sum = plus(sum, more)?;
+        tally.add_nodes(found, p, rules_of(plan, p), nodes)?;
     }
-    Ok(sum)
+    Ok(tally)
 }
 
 /// The rules of an active pattern.
@@ -101,22 +87,91 @@ fn rules_of(plan: &Plan, p: u32) -> &PlanRuleList
     &plan.patterns.as_slice()[p as usize].rules
 }
 
-/// What nodes add under a pattern with these rules.
-fn sum_of_nodes(
-    found: &Findings,
-    p: u32,
-    rules: &PlanRuleList,
-    nodes: &[NodeId],
-    what: Counted,
-) -> Result<u64, AllocError>
-    requires { p < found.now.patterns }
-    ensures { IfOk result (λ sum. sum ≡ sum_by (node_adds what found.now p rules.now) nodes.now) }
-{
-    let mut sum = 0;
-    for n in nodes {
-        sum = plus(sum, node_adds(found, p, rules, *n, what))?;
+/// What was counted so far.
+#[derive(Clone, Copy)]
+struct Tally {
+    fired: u64,
+    failed: u64,
+    reports: u64,
+}
+
+impl Tally {
+    /// The counts of a document of which all was counted.
+    fn counts(self, faulted: bool) -> Counts
+        ensures { result ≡ counts_by self faulted }
+    {
+        let Tally {
+            fired,
+            failed,
+            reports,
+        } = self;
+        Counts {
+            fired,
+            failed,
+            reports,
+            faulted,
+        }
     }
-    Ok(sum)
+
+    /// Adds what nodes add under a pattern with these rules.
+    fn add_nodes(
+        &mut self,
+        found: &Findings,
+        p: u32,
+        rules: &PlanRuleList,
+        nodes: &[NodeId],
+    ) -> Result<(), AllocError>
+        requires { p < found.now.patterns }
+        ensures { OnOk result (Grows self.old self.new (λ what. sum_by (node_adds what found.now p rules.now) nodes.now)) }
+    {
+        for n in nodes {
+            if let Some(outcome) = found.get(p, *n) {
+                self.add_outcome(outcome, rules)?;
+            }
+        }
+        Ok(())
+    }
+
+    /// Adds what an outcome adds under a pattern with these rules.
+    fn add_outcome(&mut self, outcome: &Outcome, rules: &PlanRuleList) -> Result<(), AllocError>
+        ensures { OnOk result (Grows self.old self.new (λ what. adds what rules.now outcome.now)) }
+    {
+        match outcome {
+            Outcome::Fired { rule, findings } => self.add_rule(rules, *rule, findings),
+            Outcome::NoRule | Outcome::Fault { .. } => Ok(()),
+        }
+    }
+
+    /// Adds what a rule adds that fired with findings.
+    fn add_rule(
+        &mut self,
+        rules: &PlanRuleList,
+        rule: u32,
+        findings: &FindingList,
+    ) -> Result<(), AllocError>
+        ensures { OnOk result (Grows self.old self.new (λ what. adds what rules.now (Fired rule findings.now))) }
+    {
+        self.fired = plus(self.fired, 1)?;
+        match rules.get(rule as usize) {
+            Some(rule) => self.add_findings(findings, &rule.assertions),
+            None => Ok(()),
+        }
+    }
+
+    /// Adds the findings among the assertions of their rule.
+    fn add_findings(
+        &mut self,
+        findings: &FindingList,
+        assertions: &PlanAssertList,
+    ) -> Result<(), AllocError>
+        ensures fired { OnOk result (self.new.fired ≡ self.old.fired) }
+        ensures failed { OnOk result (self.new.failed ≡ self.old.failed + count_by (is_of_kind false assertions.now) findings.now) }
+        ensures reports { OnOk result (self.new.reports ≡ self.old.reports + count_by (is_of_kind true assertions.now) findings.now) }
+    {
+        self.failed = plus(self.failed, of_kind(findings, assertions, false))?;
+        self.reports = plus(self.reports, of_kind(findings, assertions, true))?;
+        Ok(())
+    }
 }
 
 /// The sum of two numbers.
@@ -124,44 +179,6 @@ fn plus(a: u64, b: u64) -> Result<u64, AllocError>
     ensures { IfOk result (λ sum. sum ≡ a + b) }
 {
     a.checked_add(b).ok_or(AllocError)
-}
-
-/// What a node adds under a pattern with these rules.
-fn node_adds(found: &Findings, p: u32, rules: &PlanRuleList, n: NodeId, what: Counted) -> u64
-    requires { p < found.now.patterns }
-    ensures { result ≡ node_adds what found.now p rules.now n }
-{
-    match found.get(p, n) {
-        Some(outcome) => adds(outcome, rules, what),
-        None => 0,
-    }
-}
-
-/// What an outcome adds under a pattern with these rules.
-fn adds(outcome: &Outcome, rules: &PlanRuleList, what: Counted) -> u64
-    ensures { result ≡ adds what rules.now outcome.now }
-{
-    match what {
-        Counted::FiredRules => match outcome {
-            Outcome::Fired { .. } => 1,
-            Outcome::NoRule | Outcome::Fault { .. } => 0,
-        },
-        Counted::FailedAssertions => found_by(outcome, rules, false),
-        Counted::SuccessfulReports => found_by(outcome, rules, true),
-    }
-}
-
-/// The findings of asserts, or of reports, under a pattern with these rules.
-fn found_by(outcome: &Outcome, rules: &PlanRuleList, report: bool) -> u64
-    ensures { result ≡ found_by report rules.now outcome.now }
-{
-    let Outcome::Fired { rule, findings } = outcome else {
-        return 0;
-    };
-    match rules.get(*rule as usize) {
-        Some(rule) => of_kind(findings, &rule.assertions, report),
-        None => 0,
-    }
 }
 
 /// How many findings are of asserts, or of reports, among the assertions of their rule.

@@ -131,7 +131,7 @@ impl Session {
     /// Does a command of an edit script on the document, and marks the units that it touches as stale.
     ///
     /// A refused command changes nothing, nor does one that finds no memory; marking takes none. Costs what the edit of the tree
-    /// costs, and a look at what those units read that read a touched cell; at what all read, before the first refresh after an edit.
+    /// costs, and a look at what those units read that read a touched cell.
     pub fn apply(&mut self, command: &Command) -> Result<(), ApplyError>
         requires formed { WellFormedCommand command.now }
         ensures within { OnOk result (command_refusal self.old.tree command.now ≡ None) }

@@ -1,6 +1,7 @@
 //! The state of an evaluated document, written: the report, or the line of the first fault.
 
 ghost use Rattle.std.specs.Prelude.{◌≡◌};
+ghost use Rattle.sch_compiled.specs.Soundness.{IsCounted};
 ghost use Rattle.state_run.specs.Evaluated.{Evaluates};
 ghost use Rattle.state_run.specs.Outcomes.{Holds, LetsHold};
 ghost use Rattle.edit_session.specs.declared.state.ReportError.TheVariants as errors;
@@ -55,6 +56,7 @@ pub(crate) fn write_outcomes<O: Sink>(
     found: &Findings,
     out: &mut O,
 ) -> Result<Shown, ReportError>
+    requires counted { IsCounted plan.now }
     requires lets { LetsHold plan.now tree.now.nodes lets.now }
     requires found { Holds plan.now tree.now.nodes found.now }
     ensures { WroteState (O.log out.old) (O.log out.new) plan.now tree.now.nodes result }

@@ -17,7 +17,8 @@ use Rattle.kept_units.proofs.SeenLemmas.{seen_pair}
 -- Sums
 
 -- one sum more
-pub sum_on : (f : ℕ → ℕ) (n base old more : ℕ) → more ≡ f n → old ≡ base + sum_by f (range_with_len 0 n) → old + more ≡ base + sum_by f (range_with_len 0 (n + 1))
+pub sum_on : (f : ℕ → ℕ) (n base old more : ℕ) → more ≡ f n → old ≡ base + sum_by f (range_with_len 0 n) →
+    old + more ≡ base + sum_by f (range_with_len 0 (n + 1))
 sum_on f n base old more is so_far = let next = sum_more f n in omega (arith, is, so_far, next)
 
 -- what is the same of each of them has the same sum
@@ -56,14 +57,17 @@ count_filter p q (x ∷ xs) =
 
 -- how many lets in force are stale
 lets_counted : (plan : Plan) (kept : KeptUnits) →
-    count_by (λ slot. is_none (reads_at kept.let_reads.entries slot)) (range_with_len 0 (length plan.lets)) ≡ count_by (is_stale (seen_in kept)) (let_units plan)
+    count_by (λ slot. is_none (reads_at kept.let_reads.entries slot)) (range_with_len 0 (length plan.lets))
+    ≡ count_by (is_stale (seen_in kept)) (let_units plan)
 lets_counted plan kept = sym (sum_map (λ unit. cond (is_stale (seen_in kept) unit) 1 0) in_force (range_with_len 0 (length plan.lets)))
 
 -- how many live nodes are stale under a pattern
 nodes_counted : (plan : Plan) (T : Table) (kept : KeptUnits) (p : ℕ) → kept.found.patterns ≡ length plan.patterns → p < length plan.patterns →
-    count_by (is_stale_node T kept.reads.entries (length plan.patterns) p) (range_with_len 0 (length T)) ≡ count_by (is_stale (seen_in kept)) (node_units T p)
+    count_by (is_stale_node T kept.reads.entries (length plan.patterns) p) (range_with_len 0 (length T))
+    ≡ count_by (is_stale (seen_in kept)) (node_units T p)
 nodes_counted plan T kept p patterns active =
-    sum_alike (λ n. cond (is_stale_node T kept.reads.entries (length plan.patterns) p n) 1 0) (λ n. cond (is_live T n && is_stale (seen_in kept) (under p n)) 1 0) 0 (length T)
+    sum_alike (λ n. cond (is_stale_node T kept.reads.entries (length plan.patterns) p n) 1 0)
+    (λ n. cond (is_live T n && is_stale (seen_in kept) (under p n)) 1 0) 0 (length T)
     (λ n above below. ap (λ (b : Bool). cond (is_live T n && b) 1 0) (ap is_none (sym (seen_pair plan p n kept patterns active))))
     ∙ sym (count_filter (λ n. is_stale (seen_in kept) (under p n)) (is_live T) (range_with_len 0 (length T)))
     ∙ sym (sum_map (λ unit. cond (is_stale (seen_in kept) unit) 1 0) (under p) (live_numbers T))
@@ -71,16 +75,20 @@ nodes_counted plan T kept p patterns active =
 -- the count of all of them
 all_counted : (plan : Plan) (T : Table) (kept : KeptUnits) → kept.found.patterns ≡ length plan.patterns →
     count_by (λ slot. is_none (reads_at kept.let_reads.entries slot)) (range_with_len 0 (length plan.lets))
-    + sum_by (λ p. count_by (is_stale_node T kept.reads.entries (length plan.patterns) p) (range_with_len 0 (length T))) (range_with_len 0 (length plan.patterns))
+    + sum_by (λ p. count_by (is_stale_node T kept.reads.entries (length plan.patterns) p) (range_with_len 0 (length T)))
+    (range_with_len 0 (length plan.patterns))
     ≡ length (filter (is_stale (seen_in kept)) (units_of plan T))
 all_counted plan T kept patterns =
-    ap (λ (s : ℕ). s + sum_by (λ p. count_by (is_stale_node T kept.reads.entries (length plan.patterns) p) (range_with_len 0 (length T))) (range_with_len 0 (length plan.patterns)))
+    ap (λ (s : ℕ). s + sum_by (λ p. count_by (is_stale_node T kept.reads.entries (length plan.patterns) p) (range_with_len 0 (length T)))
+    (range_with_len 0 (length plan.patterns)))
     (lets_counted plan kept)
-    ∙ ap (λ (s : ℕ). count_by (is_stale (seen_in kept)) (let_units plan) + s) (under_all ∙ sym (sum_flat_map (λ unit. cond (is_stale (seen_in kept) unit) 1 0) (node_units T) (pattern_numbers plan)))
+    ∙ ap (λ (s : ℕ). count_by (is_stale (seen_in kept)) (let_units plan) + s)
+    (under_all ∙ sym (sum_flat_map (λ unit. cond (is_stale (seen_in kept) unit) 1 0) (node_units T) (pattern_numbers plan)))
     ∙ sym (sum_by-append (λ unit. cond (is_stale (seen_in kept) unit) 1 0) (let_units plan) (flat_map (node_units T) (pattern_numbers plan)))
     ∙ sym (length-filter (is_stale (seen_in kept)) (units_of plan T))
   where
-    under_all : sum_by (λ p. count_by (is_stale_node T kept.reads.entries (length plan.patterns) p) (range_with_len 0 (length T))) (range_with_len 0 (length plan.patterns))
+    under_all : sum_by (λ p. count_by (is_stale_node T kept.reads.entries (length plan.patterns) p) (range_with_len 0 (length T)))
+        (range_with_len 0 (length plan.patterns))
         ≡ sum_by (λ p. count_by (is_stale (seen_in kept)) (node_units T p)) (pattern_numbers plan)
     under_all = sum_alike (λ p. count_by (is_stale_node T kept.reads.entries (length plan.patterns) p) (range_with_len 0 (length T)))
         (λ p. count_by (is_stale (seen_in kept)) (node_units T p)) 0 (length plan.patterns)
@@ -88,12 +96,16 @@ all_counted plan T kept patterns =
 
 -- past the last pattern all are counted
 pub count_ends : (plan : Plan) (T : Table) (kept : KeptUnits) (lets patterns p count : ℕ) → kept.found.patterns ≡ length plan.patterns →
-    lets ≡ count_by (λ slot. is_none (reads_at kept.let_reads.entries slot)) (range_with_len 0 (length plan.lets)) → patterns ≡ length plan.patterns → p ≡ patterns →
+    lets ≡ count_by (λ slot. is_none (reads_at kept.let_reads.entries slot)) (range_with_len 0 (length plan.lets)) → patterns ≡ length plan.patterns →
+    p ≡ patterns →
     count ≡ lets + sum_by (λ q. count_by (is_stale_node T kept.reads.entries patterns q) (range_with_len 0 (length T))) (range_with_len 0 p) →
     count ≡ length (filter (is_stale (seen_in kept)) (units_of plan T))
 count_ends plan T kept lets patterns p count kept_patterns lets_are patterns_are ends so_far =
     so_far
-    ∙ ap (λ (k : ℕ). lets + sum_by (λ q. count_by (is_stale_node T kept.reads.entries patterns q) (range_with_len 0 (length T))) (range_with_len 0 k)) ends
-    ∙ ap (λ (k : ℕ). lets + sum_by (λ q. count_by (is_stale_node T kept.reads.entries k q) (range_with_len 0 (length T))) (range_with_len 0 k)) patterns_are
-    ∙ ap (λ (k : ℕ). k + sum_by (λ q. count_by (is_stale_node T kept.reads.entries (length plan.patterns) q) (range_with_len 0 (length T))) (range_with_len 0 (length plan.patterns))) lets_are
+    ∙ ap (λ (k : ℕ). lets + sum_by (λ q. count_by (is_stale_node T kept.reads.entries patterns q) (range_with_len 0 (length T))) (range_with_len 0 k))
+    ends
+    ∙ ap (λ (k : ℕ). lets + sum_by (λ q. count_by (is_stale_node T kept.reads.entries k q) (range_with_len 0 (length T))) (range_with_len 0 k))
+    patterns_are
+    ∙ ap (λ (k : ℕ). k + sum_by (λ q. count_by (is_stale_node T kept.reads.entries (length plan.patterns) q) (range_with_len 0 (length T)))
+    (range_with_len 0 (length plan.patterns))) lets_are
     ∙ all_counted plan T kept kept_patterns

@@ -16,6 +16,8 @@ use Rattle.sch_units.specs.Units.{lets_of, unit_pair}
 use Rattle.sch_units.specs.Validity.{outcome_of}
 use Rattle.edit_costs.specs.SameOutcome.{same_outcome}
 use Rattle.edit_costs.specs.Units.{ValidationUnit, in_force, under, let_units}
+use Rattle.edit_costs.proofs.LetLemmas.{lets_whole}
+use Rattle.edit_costs.proofs.RaisedLemmas.{spent_raised}
 use Rattle.kept_state.specs.Kept.{Gave, HeldAlike, IsUnit, Keeps, Kept, LetsLive, LetsPass, Stands, let_gives, noted, reads_under}
 use Rattle.kept_state.specs.Refreshing.{Reached, RefreshesGoOn}
 use Rattle.kept_state.specs.Running.{GivesHere, GoesOn, IsDone, is_run, is_stale}
@@ -27,9 +29,9 @@ use Rattle.kept_units.specs.declared.kept_units.KeptUnits.{KeptUnits}
 use Rattle.kept_units.specs.Keeping.{IsHeld, held_by, place_of, reads_in, seen_in}
 use Rattle.kept_units.specs.inner.Forgetting.{ForgetsAll, ForgetsPairs}
 use Rattle.kept_units.specs.inner.Refreshing.{LetsCut, LetsDone, LetsGo, LetsRefreshed, LetsSo, masked, masked_reads}
-use Rattle.kept_units.proofs.LetLemmas.{lets_whole, mask_below, mask_past}
+use Rattle.kept_units.proofs.LetLemmas.{mask_below, mask_past}
 use Rattle.kept_units.proofs.MarkingLemmas.{was_false}
-use Rattle.kept_units.proofs.RaisedLemmas.{spent_none, spent_raised}
+use Rattle.kept_units.proofs.RaisedLemmas.{spent_none}
 use Rattle.kept_units.proofs.ReadLemmas.{changed_by, same_changed, stays_kept, was_kept}
 use Rattle.kept_units.proofs.SeenLemmas.{same_kept, seen_pair, seen_past}
 
@@ -49,7 +51,8 @@ module _ (plan : Plan) (T : Table) (old mid new : Kept) (lets : new.lets ≡ mid
     new = λ p n past. none_new p n past (new.reads (under p n)) refl;
     before = λ slot other held is read. keeps.before slot other held (fewer (in_force slot) held is) read;
     stands = λ unit held exists typed is live.
-        let s : Stands plan T mid unit held = keeps.stands unit held exists typed (fewer unit held is) (subst (λ (L : Lets). LetsLive T L held.lets) lets live) in
+        let s : Stands plan T mid unit held =
+        keeps.stands unit held exists typed (fewer unit held is) (subst (λ (L : Lets). LetsLive T L held.lets) lets live) in
         record {
           gave = gave_on unit s.gave;
           read = subst (λ (L : Lets). HeldAlike T held (noted (reads_under plan T L unit))) (sym lets) s.read;
@@ -73,7 +76,8 @@ module _ (plan : Plan) (T : Table) (old mid new : Kept) (lets : new.lets ≡ mid
   gives_on (under p n) gives = outcomes p n ∙ gives
 
   -- where a refresh stopped, less may be kept of the units that were to be run
-  pub goes_fewer : ((unit : ValidationUnit) → IsUnit plan T unit → is_run plan T old unit ≡ false → new.reads unit ≡ mid.reads unit) → GoesOn plan T old mid → GoesOn plan T old new
+  pub goes_fewer : ((unit : ValidationUnit) → IsUnit plan T unit → is_run plan T old unit ≡ false → new.reads unit ≡ mid.reads unit) →
+      GoesOn plan T old mid → GoesOn plan T old new
   goes_fewer clean goes = record {
     keeps = keeps_fewer goes.keeps;
     some = λ unit exists runs. by unit (goes.some unit exists runs) (new.reads unit) refl;
@@ -82,7 +86,8 @@ module _ (plan : Plan) (T : Table) (old mid new : Kept) (lets : new.lets ≡ mid
         record { given = given_then unit stays.given; reads = clean unit exists none ∙ stays.reads };
   }
     where
-      by : (unit : ValidationUnit) → IsDone plan T mid unit ⊎ ((is_stale mid unit ≡ true) ⊎ StaysAs old mid unit) → (entry : Option Recorded) → new.reads unit ≡ entry →
+      by : (unit : ValidationUnit) → IsDone plan T mid unit ⊎ ((is_stale mid unit ≡ true) ⊎ StaysAs old mid unit) → (entry : Option Recorded) →
+          new.reads unit ≡ entry →
           IsDone plan T new unit ⊎ ((is_stale new unit ≡ true) ⊎ StaysAs old new unit)
       by unit was None is = inr (inl (ap is_none is))
       by unit (inl done) (Some held) is = inl (record {
@@ -91,7 +96,8 @@ module _ (plan : Plan) (T : Table) (old mid new : Kept) (lets : new.lets ≡ mid
         right = record { gives = gives_on unit done.right.gives; read = done.right.read };
       })
       by unit (inr (inl stale)) (Some held) is = absurd (true≢false (sym stale ∙ ap is_none (fewer unit held is)))
-      by unit (inr (inr stays)) (Some held) is = inr (inr (record { given = given_then unit stays.given; reads = is ∙ sym (fewer unit held is) ∙ stays.reads }))
+      by unit (inr (inr stays)) (Some held) is =
+          inr (inr (record { given = given_then unit stays.given; reads = is ∙ sym (fewer unit held is) ∙ stays.reads }))
 
 -- Nodes under patterns that are forgotten
 
@@ -101,14 +107,16 @@ record PairsForgotten (flags : List Bool) (plan : Plan) (old new : KeptUnits) : 
   reads : 0 < length plan.patterns → ForgetsReaders flags (length plan.patterns) old.reads new.reads
   none : length plan.patterns ≡ 0 → new.reads ≡ old.reads
 
-pair_forgotten : (flags : List Bool) (plan : Plan) (old new : KeptUnits) (p n : ℕ) → old.found.patterns ≡ length plan.patterns → PairsForgotten flags plan old new →
+pair_forgotten : (flags : List Bool) (plan : Plan) (old new : KeptUnits) (p n : ℕ) → old.found.patterns ≡ length plan.patterns →
+    PairsForgotten flags plan old new →
     reads_in (held_by new) (under p n) ≡ unless_changed (flag_at flags) (reads_in (held_by old) (under p n))
 pair_forgotten flags plan old new p n patterns forgets = by (cases_lt p (length plan.patterns))
   where
     new_patterns : new.found.patterns ≡ length plan.patterns
     new_patterns = ap (λ (table : OutcomeTable). table.patterns) forgets.found ∙ patterns
 
-    by : (p < length plan.patterns) ⊎ (length plan.patterns ≤ p) → reads_in (held_by new) (under p n) ≡ unless_changed (flag_at flags) (reads_in (held_by old) (under p n))
+    by : (p < length plan.patterns) ⊎ (length plan.patterns ≤ p) →
+        reads_in (held_by new) (under p n) ≡ unless_changed (flag_at flags) (reads_in (held_by old) (under p n))
     by (inl low) =
         seen_pair plan p n new new_patterns low
         ∙ (forgets.reads (omega (arith, low))).entries (place_of plan p n)
@@ -117,7 +125,8 @@ pair_forgotten flags plan old new p n patterns forgets = by (cases_lt p (length 
     by (inr past) = seen_past plan p n new new_patterns past ∙ ap (unless_changed (flag_at flags)) (sym (seen_past plan p n old patterns past))
 
 -- the places stay those of the tree
-held_forgotten : (flags : List Bool) (plan : Plan) (T : Table) (old new : KeptUnits) → PairsForgotten flags plan old new → length new.let_reads.entries ≡ length old.let_reads.entries →
+held_forgotten : (flags : List Bool) (plan : Plan) (T : Table) (old new : KeptUnits) → PairsForgotten flags plan old new →
+    length new.let_reads.entries ≡ length old.let_reads.entries →
     IsHeld plan T old → IsHeld plan T new
 held_forgotten flags plan T old new forgets lets held = by (cases_lt 0 (length plan.patterns))
   where
@@ -131,7 +140,8 @@ held_forgotten flags plan T old new forgets lets held = by (cases_lt 0 (length p
           blocks = omega (arith, reads.blocks, held.blocks);
           passed = λ p n low live clean.
               reads.clean (place_of plan p n) (ap (may_be_stale new.reads.stale_blocks.items) (div-mul-add n (length plan.patterns) p low) ∙ clean)
-              (held.passed p n low live (was_false (may_be_stale old.reads.stale_blocks.items n) (may_be_stale new.reads.stale_blocks.items n) (reads.still n) clean));
+              (held.passed p n low live (was_false (may_be_stale old.reads.stale_blocks.items n) (may_be_stale new.reads.stale_blocks.items n)
+              (reads.still n) clean));
         }
     by (inr no_pattern) =
         let same = forgets.none (omega (arith, no_pattern)) in
@@ -157,7 +167,8 @@ held_so plan T old mid flags so held = record {
 
 -- Where all lets were refreshed
 
-module _ (order : LetsStandInOrder) (plan : Plan) (T : Table) (go : RefreshesGoOn plan T) (old mid new : KeptUnits) (flags : List Bool) (before after : ℕ) (held : IsHeld plan T old)
+module _ (order : LetsStandInOrder) (plan : Plan) (T : Table) (go : RefreshesGoOn plan T) (old mid new : KeptUnits) (flags : List Bool)
+    (before after : ℕ) (held : IsHeld plan T old)
     (refreshed : LetsRefreshed plan T (length plan.lets) old mid flags before after) (forgets : ForgetsPairs flags plan mid new) where
   pairs : PairsForgotten flags plan mid new
   pairs = record { found = forgets.found; reads = forgets.reads; none = forgets.none }
@@ -167,16 +178,20 @@ module _ (order : LetsStandInOrder) (plan : Plan) (T : Table) (go : RefreshesGoO
 
   -- what is kept is what the mask shows
   seen_new : seen_in new ≡ masked (length plan.lets) flags mid
-  seen_new = same_kept (masked (length plan.lets) flags mid) (seen_in new) forgets.lets (λ p n. ap (λ (table : OutcomeTable). outcome_at table p n) forgets.found) each
+  seen_new =
+      same_kept (masked (length plan.lets) flags mid) (seen_in new) forgets.lets
+      (λ p n. ap (λ (table : OutcomeTable). outcome_at table p n) forgets.found) each
     where
       each : (unit : ValidationUnit) → reads_in (held_by new) unit ≡ masked_reads (length plan.lets) flags mid unit
       each (under p n) = pair_forgotten flags plan mid new p n held_mid.patterns pairs
       each (in_force slot) = ap (λ (k : KeptReads). reads_at k.entries slot) forgets.let_reads ∙ by (cases_lt slot (length plan.lets))
         where
-          by : (slot < length plan.lets) ⊎ (length plan.lets ≤ slot) → reads_at mid.let_reads.entries slot ≡ masked_reads (length plan.lets) flags mid (in_force slot)
+          by : (slot < length plan.lets) ⊎ (length plan.lets ≤ slot) →
+              reads_at mid.let_reads.entries slot ≡ masked_reads (length plan.lets) flags mid (in_force slot)
           by (inl below) = sym (mask_below (length plan.lets) slot flags mid below)
           by (inr past) =
-              let none : reads_at mid.let_reads.entries slot ≡ None = get_or_past mid.let_reads.entries slot None (omega (arith, past, held_mid.lets_short)) in
+              let none : reads_at mid.let_reads.entries slot ≡ None =
+              get_or_past mid.let_reads.entries slot None (omega (arith, past, held_mid.lets_short)) in
               none ∙ ap (unless_changed (flag_at flags)) (sym none) ∙ sym (mask_past (length plan.lets) slot flags mid past)
 
   reached_all : Reached plan T (under 0 0) (seen_in old) (seen_in new)
@@ -218,7 +233,8 @@ module _ (plan : Plan) (T : Table) (old mid new : KeptUnits) (flags : List Bool)
   fewer_cut : (unit : ValidationUnit) (found : Recorded) → reads_in (held_by new) unit ≡ Some found → masked_reads cut.l flags mid unit ≡ Some found
   fewer_cut (under p n) found is = sym (pair_forgotten flags plan mid new p n held_cut.patterns pairs_cut) ∙ is
   fewer_cut (in_force slot) found is = elim (cases_lt slot cut.l) [
-    | inl below ↦ mask_below cut.l slot flags mid below ∙ was_kept (flag_at flags) (reads_at mid.let_reads.entries slot) found (sym (let_now slot) ∙ is)
+    | inl below ↦ mask_below cut.l slot flags mid below ∙ was_kept (flag_at flags) (reads_at mid.let_reads.entries slot) found
+        (sym (let_now slot) ∙ is)
     | inr past ↦ mask_past cut.l slot flags mid past ∙ sym (let_now slot) ∙ is
   ]
 
@@ -239,7 +255,8 @@ module _ (plan : Plan) (T : Table) (old mid new : KeptUnits) (flags : List Bool)
           let less : other < slot = cut.goes_on.keeps.before slot other found (mask_below cut.l slot flags mid below ∙ is) read in
           cut.so.flagged other ∙ ap (λ o. not (same_outcome (in_slot old.lets other) o)) (cut.gives slot other less below)
 
-  clean_cut : (unit : ValidationUnit) → IsUnit plan T unit → is_run plan T (seen_in old) unit ≡ false → reads_in (held_by new) unit ≡ masked_reads cut.l flags mid unit
+  clean_cut : (unit : ValidationUnit) → IsUnit plan T unit → is_run plan T (seen_in old) unit ≡ false →
+      reads_in (held_by new) unit ≡ masked_reads cut.l flags mid unit
   clean_cut (under p n) exists none = pair_forgotten flags plan mid new p n held_cut.patterns pairs_cut
   clean_cut (in_force slot) exists none = elim (cases_lt slot cut.l) [
     | inl below ↦ let_now slot ∙ stays_cut slot exists below none ∙ sym (mask_below cut.l slot flags mid below)
@@ -249,13 +266,16 @@ module _ (plan : Plan) (T : Table) (old mid new : KeptUnits) (flags : List Bool)
   pub lets_go_cut : LetsGo plan T old new before after
   lets_go_cut = record {
     held = held_forgotten flags plan T mid new pairs_cut forgets.let_reads.places held_cut;
-    goes_on = goes_fewer plan T (seen_in old) (masked cut.l flags mid) (seen_in new) forgets.lets (λ p n. ap (λ (table : OutcomeTable). outcome_at table p n) forgets.found) fewer_cut
+    goes_on =
+        goes_fewer plan T (seen_in old) (masked cut.l flags mid) (seen_in new) forgets.lets
+        (λ p n. ap (λ (table : OutcomeTable). outcome_at table p n) forgets.found) fewer_cut
         clean_cut cut.goes_on;
     spent = cut.spent;
   }
 
 -- where nothing was run
-pub lets_go_nowhere : (plan : Plan) (T : Table) (go : RefreshesGoOn plan T) (kept : KeptUnits) (count : ℕ) → IsHeld plan T kept → Keeps plan T (seen_in kept) → LetsGo plan T kept kept count count
+pub lets_go_nowhere : (plan : Plan) (T : Table) (go : RefreshesGoOn plan T) (kept : KeptUnits) (count : ℕ) → IsHeld plan T kept →
+    Keeps plan T (seen_in kept) → LetsGo plan T kept kept count count
 lets_go_nowhere plan T go kept count held keeps = record {
   held = held;
   goes_on = go.stops (in_force 0) (seen_in kept) (seen_in kept) (go.lets.begins (seen_in kept) keeps);

@@ -9,7 +9,9 @@ use Rattle.sch_compiled.specs.declared.plan.Plan.{Plan}
 use Rattle.sch_compiled.specs.Findings.{OutcomeTable}
 use Rattle.sch_units.specs.Validity.{pattern_numbers}
 use Rattle.edit_costs.specs.Costs.{Raised}
+use Rattle.edit_costs.specs.Evaluating.{SpentOn}
 use Rattle.edit_costs.specs.Units.{ValidationUnit, in_force, under, let_units, node_units}
+use Rattle.edit_costs.proofs.RaisedLemmas.{raised_then, spent_raised}
 use Rattle.kept_state.specs.Kept.{Keeps, Kept}
 use Rattle.kept_state.specs.Refreshing.{RefreshesGoOn}
 use Rattle.kept_state.specs.Running.{GoesOn, IsFresh, is_run, to_run}
@@ -18,9 +20,9 @@ use Rattle.kept_reads.specs.declared.kept_reads.KeptReads.{KeptReads}
 use Rattle.kept_reads.specs.Reads.{may_be_stale, reads_at}
 use Rattle.kept_units.specs.declared.kept_units.KeptUnits.{KeptUnits}
 use Rattle.kept_units.specs.Keeping.{IsHeld, held_by, place_of, reads_in, seen_in}
-use Rattle.kept_units.specs.inner.Refreshing.{LetsDone, LetsGo, PairsReady, PassesNodes, PatternsCut, PatternsRefreshed, Reaches, SpentOn, UnitsDone, UnitsGo}
+use Rattle.kept_units.specs.inner.Refreshing.{LetsDone, LetsGo, PairsReady, PassesNodes, PatternsCut, PatternsRefreshed, Reaches, UnitsDone, UnitsGo}
 use Rattle.kept_units.proofs.PairLemmas.{held_alone}
-use Rattle.kept_units.proofs.RaisedLemmas.{raised_then, spent_more, spent_raised, spent_then}
+use Rattle.kept_units.proofs.RaisedLemmas.{spent_more, spent_then}
 use Rattle.kept_units.proofs.SeenLemmas.{same_seen, seen_pair}
 
 -- Places are made
@@ -42,7 +44,8 @@ pub keeps_reached : (plan : Plan) (T : Table) (old new : KeptUnits) → Reaches 
 keeps_reached plan T old new reaches keeps = subst (Keeps plan T) (sym (seen_reached plan T old new reaches)) keeps
 
 -- where no more than places was made
-pub goes_reached : (plan : Plan) (T : Table) (old new : KeptUnits) → Reaches plan T old new → Keeps plan T (seen_in old) → GoesOn plan T (seen_in old) (seen_in new)
+pub goes_reached : (plan : Plan) (T : Table) (old new : KeptUnits) → Reaches plan T old new → Keeps plan T (seen_in old) →
+    GoesOn plan T (seen_in old) (seen_in new)
 goes_reached plan T old new reaches keeps =
     subst (λ (k : Kept). GoesOn plan T (seen_in old) k) (sym (seen_reached plan T old new reaches))
     (record { keeps = keeps; some = λ unit exists runs. inr (inr (stays unit)); others = λ unit exists none. stays unit })
@@ -70,15 +73,18 @@ to_run_parts : (plan : Plan) (T : Table) (kept : Kept) → to_run plan T kept �
 to_run_parts plan T kept = filter-append (is_run plan T kept) (let_units plan) (flat_map (node_units T) (pattern_numbers plan))
 
 -- where the lets were cut short
-pub units_cut_lets : (plan : Plan) (T : Table) (old new : KeptUnits) (before after : ℕ) → LetsGo plan T old new before after → UnitsGo plan T old new before after
+pub units_cut_lets : (plan : Plan) (T : Table) (old new : KeptUnits) (before after : ℕ) → LetsGo plan T old new before after →
+    UnitsGo plan T old new before after
 units_cut_lets plan T old new before after go = record {
   held = go.held;
   goes_on = go.goes_on;
   spent = subst (λ (units : List ValidationUnit). SpentOn plan T units before after) (sym (to_run_parts plan T (seen_in old)))
-      (spent_more plan T (filter (is_run plan T (seen_in old)) (let_units plan)) (filter (is_run plan T (seen_in old)) (flat_map (node_units T) (pattern_numbers plan))) before after go.spent);
+      (spent_more plan T (filter (is_run plan T (seen_in old)) (let_units plan))
+      (filter (is_run plan T (seen_in old)) (flat_map (node_units T) (pattern_numbers plan))) before after go.spent);
 }
 
-module _ (plan : Plan) (T : Table) (old lets new : KeptUnits) (before middle after : ℕ) (go : LetsGo plan T old lets before middle) (done : LetsDone plan T old lets before middle) where
+module _ (plan : Plan) (T : Table) (old lets new : KeptUnits) (before middle after : ℕ) (go : LetsGo plan T old lets before middle)
+    (done : LetsDone plan T old lets before middle) where
   pub pairs_ready : PairsReady plan T lets
   pairs_ready = record { lets = done.lets; few = done.reached.keeps.few; held = go.held }
 
@@ -88,7 +94,8 @@ module _ (plan : Plan) (T : Table) (old lets new : KeptUnits) (before middle aft
     held = held_alone plan T lets new cut.alone go.held;
     goes_on = cut.goes_on (seen_in old) done.reached;
     spent = subst (λ (units : List ValidationUnit). SpentOn plan T units before after) (sym (to_run_parts plan T (seen_in old)))
-        (spent_then plan T (filter (is_run plan T (seen_in old)) (let_units plan)) (filter (is_run plan T (seen_in old)) (flat_map (node_units T) (pattern_numbers plan))) before middle after
+        (spent_then plan T (filter (is_run plan T (seen_in old)) (let_units plan))
+        (filter (is_run plan T (seen_in old)) (flat_map (node_units T) (pattern_numbers plan))) before middle after
         go.spent (cut.spent (seen_in old) done.reached));
   }
 
@@ -98,7 +105,8 @@ module _ (plan : Plan) (T : Table) (old lets new : KeptUnits) (before middle aft
     units_done = record {
       fresh = goes.pairs.over (length plan.patterns) 0 (seen_in old) (seen_in new) (refreshed.reached (seen_in old) done.reached) (omega arith);
       raised = subst (λ (units : List ValidationUnit). Raised plan T units before after) (sym (to_run_parts plan T (seen_in old)))
-          (raised_then plan T (filter (is_run plan T (seen_in old)) (let_units plan)) (filter (is_run plan T (seen_in old)) (flat_map (node_units T) (pattern_numbers plan))) before middle after
+          (raised_then plan T (filter (is_run plan T (seen_in old)) (let_units plan))
+          (filter (is_run plan T (seen_in old)) (flat_map (node_units T) (pattern_numbers plan))) before middle after
           done.raised (refreshed.raised (seen_in old) done.reached));
     }
 
@@ -115,13 +123,16 @@ pub seen_passed : (T : Table) (old new : KeptUnits) → PassesNodes T old new �
 seen_passed T old new passes = same_seen old new passes.lets passes.found (λ slot. ap (λ (k : KeptReads). reads_at k.entries slot) passes.let_reads)
     (λ place. ap (λ (entries : List (Option Recorded)). reads_at entries place) passes.reads.entries)
 
-pub fresh_passed : (plan : Plan) (T : Table) (old new : KeptUnits) → PassesNodes T old new → IsFresh plan T (seen_in old) → IsFresh plan T (seen_in new)
+pub fresh_passed : (plan : Plan) (T : Table) (old new : KeptUnits) → PassesNodes T old new → IsFresh plan T (seen_in old) →
+    IsFresh plan T (seen_in new)
 fresh_passed plan T old new passes fresh = subst (IsFresh plan T) (sym (seen_passed T old new passes)) fresh
 
-pub goes_passed : (plan : Plan) (T : Table) (old mid new : KeptUnits) → PassesNodes T mid new → GoesOn plan T (seen_in old) (seen_in mid) → GoesOn plan T (seen_in old) (seen_in new)
+pub goes_passed : (plan : Plan) (T : Table) (old mid new : KeptUnits) → PassesNodes T mid new → GoesOn plan T (seen_in old) (seen_in mid) →
+    GoesOn plan T (seen_in old) (seen_in new)
 goes_passed plan T old mid new passes goes = subst (λ (k : Kept). GoesOn plan T (seen_in old) k) (sym (seen_passed T mid new passes)) goes
 
-pub held_passed : (plan : Plan) (T : Table) (old new : KeptUnits) → PassesNodes T old new → IsFresh plan T (seen_in old) → IsHeld plan T old → IsHeld plan T new
+pub held_passed : (plan : Plan) (T : Table) (old new : KeptUnits) → PassesNodes T old new → IsFresh plan T (seen_in old) → IsHeld plan T old →
+    IsHeld plan T new
 held_passed plan T old new passes fresh held = record {
   patterns = ap (λ (table : OutcomeTable). table.patterns) passes.found ∙ held.patterns;
   lets_short = omega (arith, ap (λ (k : KeptReads). length k.entries) passes.let_reads, held.lets_short);
@@ -135,7 +146,8 @@ held_passed plan T old new passes fresh held = record {
 
 -- Nothing is kept
 
-pub nothing_seen : (kept : KeptUnits) → kept.let_reads.entries ≡ [] → kept.reads.entries ≡ [] → (unit : ValidationUnit) → reads_in (held_by kept) unit ≡ None
+pub nothing_seen : (kept : KeptUnits) → kept.let_reads.entries ≡ [] → kept.reads.entries ≡ [] → (unit : ValidationUnit) →
+    reads_in (held_by kept) unit ≡ None
 nothing_seen kept let_reads reads (in_force slot) = ap (λ (entries : List (Option Recorded)). reads_at entries slot) let_reads
 nothing_seen kept let_reads reads (under p n) =
     ap (λ (entries : List (Option Recorded)). if nat_lt p kept.found.patterns then reads_at entries (n * kept.found.patterns + p) else None) reads
@@ -145,7 +157,8 @@ nothing_seen kept let_reads reads (under p n) =
     by true = refl
     by false = refl
 
-pub held_nothing : (plan : Plan) (T : Table) (kept : KeptUnits) → kept.found.patterns ≡ length plan.patterns → kept.let_reads.entries ≡ [] → kept.reads.entries ≡ [] → kept.reads.stale_blocks.items ≡ [] →
+pub held_nothing : (plan : Plan) (T : Table) (kept : KeptUnits) → kept.found.patterns ≡ length plan.patterns → kept.let_reads.entries ≡ [] →
+    kept.reads.entries ≡ [] → kept.reads.stale_blocks.items ≡ [] →
     IsHeld plan T kept
 held_nothing plan T kept patterns let_reads reads blocks = record {
   patterns = patterns;

@@ -37,12 +37,14 @@ dropped : (touched : Cell → Bool) (width : ℕ) (old new : KeptReads) → Mark
 dropped touched width old new marks place =
     by new.stale_blocks.items (reads_at old.entries place) (reads_at new.entries place) (marks.thins.entries place) (marks.clean place)
   where
-    by : (blocks : List Bool) (before after : Option Recorded) → Thinned touched width place blocks before after → reads_touched touched after ≡ false → after ≡ unless_touched touched before
+    by : (blocks : List Bool) (before after : Option Recorded) → Thinned touched width place blocks before after →
+        reads_touched touched after ≡ false → after ≡ unless_touched touched before
     by blocks before after (entry_stays same) clean = same ∙ stays_untouched touched before (ap (reads_touched touched) (sym same) ∙ clean)
     by blocks before after (entry_dropped hit gone stale) clean = gone ∙ gone_touched touched before hit
 
 -- what wasn't dropped is kept
-still_kept : (touched : Cell → Bool) (width place : ℕ) (blocks : List Bool) (before after : Option Recorded) → Thinned touched width place blocks before after → 0 < width →
+still_kept : (touched : Cell → Bool) (width place : ℕ) (blocks : List Bool) (before after : Option Recorded) →
+    Thinned touched width place blocks before after → 0 < width →
     may_be_stale blocks (place / width) ≡ false → is_none before ≡ false → is_none after ≡ false
 still_kept touched width place blocks before after (entry_stays same) wide clean had = ap is_none same ∙ had
 still_kept touched width place blocks before after (entry_dropped hit gone stale) wide clean had = absurd (true≢false (sym (stale wide) ∙ clean))
@@ -53,7 +55,8 @@ was_false false b on clean = refl
 
 -- Units
 
-pub marks_seen : (touched : Cell → Bool) (old new : KeptUnits) (width : ℕ) → new.lets ≡ old.lets → new.found ≡ old.found → Marks touched 1 old.let_reads new.let_reads →
+pub marks_seen : (touched : Cell → Bool) (old new : KeptUnits) (width : ℕ) → new.lets ≡ old.lets → new.found ≡ old.found →
+    Marks touched 1 old.let_reads new.let_reads →
     Marks touched width old.reads new.reads → MarksSeen touched (seen_in old) (seen_in new)
 marks_seen touched old new width lets found let_marks marks = record {
   lets = lets;
@@ -78,14 +81,16 @@ one_edit : (T U : Table) (last : Cell → Bool) → Edit T U last → Edits T U 
 one_edit T U last edit = (then) T U (λ c. false) last none edit
 
 -- a node that lives only after an edit has a number past those before
-new_past : EditsLeave → (T U : Table) (last : Cell → Bool) (n : ℕ) → WellFormed T → Edit T U last → is_live U n ≡ true → is_live T n ≡ false → length T ≤ n
+new_past : EditsLeave → (T U : Table) (last : Cell → Bool) (n : ℕ) → WellFormed T → Edit T U last → is_live U n ≡ true → is_live T n ≡ false →
+    length T ≤ n
 new_past leave T U last n formed edit lives dead = elim (cases_lt n (length T)) [
   | inl within ↦ absurd (true≢false (sym ((leave T U (λ c. false || last c) formed (one_edit T U last edit)).agree.no_return n within lives) ∙ dead))
   | inr past ↦ past
 ]
 
 -- the places stay those of the tree that an edit makes
-pub held_marked : EditsLeave → (plan : Plan) (T U : Table) (touched last : Cell → Bool) (old new : KeptUnits) (width : ℕ) → WellFormed T → Edit T U last → new.found ≡ old.found → width ≡ old.found.patterns →
+pub held_marked : EditsLeave → (plan : Plan) (T U : Table) (touched last : Cell → Bool) (old new : KeptUnits) (width : ℕ) → WellFormed T →
+    Edit T U last → new.found ≡ old.found → width ≡ old.found.patterns →
     Marks touched 1 old.let_reads new.let_reads → Marks touched width old.reads new.reads → IsHeld plan T old → IsHeld plan U new
 held_marked leave plan T U touched last old new width formed edit found width_is let_marks marks held = record {
   patterns = ap (λ (table : OutcomeTable). table.patterns) found ∙ held.patterns;
@@ -98,13 +103,16 @@ held_marked leave plan T U touched last old new width formed edit found width_is
     wide : width ≡ length plan.patterns
     wide = width_is ∙ held.patterns
 
-    by_passed : (p n : ℕ) → p < length plan.patterns → is_live U n ≡ true → may_be_stale new.reads.stale_blocks.items n ≡ false → (b : Bool) → is_live T n ≡ b →
+    by_passed : (p n : ℕ) → p < length plan.patterns → is_live U n ≡ true → may_be_stale new.reads.stale_blocks.items n ≡ false → (b : Bool) →
+        is_live T n ≡ b →
         is_none (reads_at new.reads.entries (place_of plan p n)) ≡ false
     by_passed p n active lives clean true lived =
         let row : place_of plan p n / width ≡ n = ap (λ (w : ℕ). place_of plan p n / w) wide ∙ div-mul-add n (length plan.patterns) p active in
-        still_kept touched width (place_of plan p n) new.reads.stale_blocks.items (reads_at old.reads.entries (place_of plan p n)) (reads_at new.reads.entries (place_of plan p n))
+        still_kept touched width (place_of plan p n) new.reads.stale_blocks.items (reads_at old.reads.entries (place_of plan p n))
+        (reads_at new.reads.entries (place_of plan p n))
         (marks.thins.entries (place_of plan p n)) (omega (arith, wide, active)) (ap (may_be_stale new.reads.stale_blocks.items) row ∙ clean)
-        (held.passed p n active lived (was_false (may_be_stale old.reads.stale_blocks.items n) (may_be_stale new.reads.stale_blocks.items n) (marks.thins.still n) clean))
+        (held.passed p n active lived (was_false (may_be_stale old.reads.stale_blocks.items n) (may_be_stale new.reads.stale_blocks.items n)
+        (marks.thins.still n) clean))
     by_passed p n active lives clean false dead =
         let past = new_past leave T U last n formed edit lives dead in
         let behind : length old.reads.stale_blocks.items ≤ n / 64 = omega (arith, past, held.blocks) in

@@ -9,18 +9,16 @@ use Rattle.xp_outcome.specs.Recorded.{LetSet, Recorded}
 use Rattle.kept_state.specs.Steps.{unless_changed}
 use Rattle.kept_reads.specs.Forgetting.{flag_at, unless_flagged}
 
-pub neither : (b c : Bool) → (b || c) ≡ false → (b ≡ false) × (c ≡ false)
-neither true c is = absurd (false≢true (sym is))
-neither false c is = (refl, is)
-
 -- tests of slots that are the same for each slot of a set
 alike_on : (f g : ℕ → Bool) (xs : List ℕ) → ((x : ℕ) → list_any (eq_by_cmp nat_cmp x) xs ≡ true → f x ≡ g x) → list_any f xs ≡ list_any g xs
 alike_on f g [] each = refl
 alike_on f g (x ∷ xs) each =
-    ap (λ (b : Bool). b || list_any f xs) (each x (or_left (eq_by_cmp nat_cmp x x) (list_any (eq_by_cmp nat_cmp x) xs) (ap is_eq (tied_itself nat_cmp_total x))))
+    ap (λ (b : Bool). b || list_any f xs) (each x
+    (or_left (eq_by_cmp nat_cmp x x) (list_any (eq_by_cmp nat_cmp x) xs) (ap is_eq (tied_itself nat_cmp_total x))))
     ∙ ap (λ (b : Bool). g x || b) (alike_on f g xs (λ y there. each y (or_right (eq_by_cmp nat_cmp y x) (list_any (eq_by_cmp nat_cmp y) xs) there)))
 
-any_alike : (f g : ℕ → Bool) (lets : LetSet) → ((slot : ℕ) → contains lets slot ≡ true → f slot ≡ g slot) → list_any f (items lets) ≡ list_any g (items lets)
+any_alike : (f g : ℕ → Bool) (lets : LetSet) → ((slot : ℕ) → contains lets slot ≡ true → f slot ≡ g slot) →
+    list_any f (items lets) ≡ list_any g (items lets)
 any_alike f g lets each = alike_on f g (items lets) (λ slot there. each slot (contains-items lets slot ∙ there))
 
 none_any : (f : ℕ → Bool) → ((slot : ℕ) → f slot ≡ false) → (xs : List ℕ) → list_any f xs ≡ false
@@ -64,19 +62,24 @@ stays_kept f (Some held) some = by (list_any f (items held.lets)) some
     by false some = refl
 
 -- by tests that tell the same of what was read
-pub same_changed : (f g : ℕ → Bool) (entry : Option Recorded) → ((held : Recorded) (slot : ℕ) → entry ≡ Some held → contains held.lets slot ≡ true → f slot ≡ g slot) →
+pub same_changed : (f g : ℕ → Bool) (entry : Option Recorded) →
+    ((held : Recorded) (slot : ℕ) → entry ≡ Some held → contains held.lets slot ≡ true → f slot ≡ g slot) →
     unless_changed f entry ≡ unless_changed g entry
 same_changed f g None each = refl
-same_changed f g (Some held) each = ap (λ (b : Bool). if b then None else Some held) (any_alike f g held.lets (λ slot there. each held slot refl there))
+same_changed f g (Some held) each =
+    ap (λ (b : Bool). if b then None else Some held) (any_alike f g held.lets (λ slot there. each held slot refl there))
 
 -- where none that was read has changed
-pub none_changed : (f : ℕ → Bool) (entry : Option Recorded) → ((held : Recorded) (slot : ℕ) → entry ≡ Some held → contains held.lets slot ≡ true → f slot ≡ false) → unless_changed f entry ≡ entry
+pub none_changed : (f : ℕ → Bool) (entry : Option Recorded) →
+    ((held : Recorded) (slot : ℕ) → entry ≡ Some held → contains held.lets slot ≡ true → f slot ≡ false) → unless_changed f entry ≡ entry
 none_changed f None each = refl
 none_changed f (Some held) each =
-    ap (λ (b : Bool). if b then None else Some held) (any_alike f (λ _. false) held.lets (λ slot there. each held slot refl there) ∙ none_any (λ _. false) (λ _. refl) (items held.lets))
+    ap (λ (b : Bool). if b then None else Some held) (any_alike f (λ _. false) held.lets (λ slot there. each held slot refl there)
+    ∙ none_any (λ _. false) (λ _. refl) (items held.lets))
 
 -- some changes, and then others
-pub then_changed : (f d h : ℕ → Bool) → ((slot : ℕ) → h slot ≡ (f slot || d slot)) → (entry : Option Recorded) → unless_changed h entry ≡ unless_changed d (unless_changed f entry)
+pub then_changed : (f d h : ℕ → Bool) → ((slot : ℕ) → h slot ≡ (f slot || d slot)) → (entry : Option Recorded) →
+    unless_changed h entry ≡ unless_changed d (unless_changed f entry)
 then_changed f d h each None = refl
 then_changed f d h each (Some held) =
     ap (λ (b : Bool). if b then None else Some held) (any_either f d h each (items held.lets)) ∙ by (list_any f (items held.lets))

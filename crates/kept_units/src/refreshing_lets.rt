@@ -61,7 +61,8 @@ impl KeptUnits {
         requires places { HasPlaces run.now.plan.now run.now.caller.tree.now.nodes self.old }
         requires count { length changed.old.items ≡ length run.now.plan.now.lets }
         requires unset { (slot : ℕ) → flag_at changed.old.items slot ≡ false }
-        ensures refreshed { OnOk result (LetsRefreshed run.now.plan.now run.now.caller.tree.now.nodes (length run.now.plan.now.lets) self.old self.new changed.new.items steps.old steps.new) }
+        ensures refreshed { OnOk result (LetsRefreshed run.now.plan.now run.now.caller.tree.now.nodes (length run.now.plan.now.lets)
+            self.old self.new changed.new.items steps.old steps.new) }
         ensures cut { OnErr result (LetsCut run.now.plan.now run.now.caller.tree.now.nodes self.old self.new changed.new.items steps.old steps.new) }
     {
         refreshes_keep();
@@ -86,8 +87,10 @@ impl KeptUnits {
         requires in_force { l < length run.now.plan.now.lets }
         requires place { l < length self.old.let_reads.entries }
         requires flag { l < length changed.old.items }
-        ensures refreshes { OnOk result (RefreshesLet run.now.plan.now run.now.caller.tree.now.nodes l self.old self.new changed.old.items changed.new.items steps.old steps.new) }
-        ensures stops { OnErr result (LetStops run.now.plan.now run.now.caller.tree.now.nodes l self.old self.new changed.old.items changed.new.items steps.old steps.new) }
+        ensures refreshes { OnOk result (RefreshesLet run.now.plan.now run.now.caller.tree.now.nodes l
+            self.old self.new changed.old.items changed.new.items steps.old steps.new) }
+        ensures stops { OnErr result (LetStops run.now.plan.now run.now.caller.tree.now.nodes l
+            self.old self.new changed.old.items changed.new.items steps.old steps.new) }
     {
         if self.let_reads.is_stale_by(l as usize, changed) {
             return self.evaluate_let(run, l, changed, steps);
@@ -107,9 +110,11 @@ impl KeptUnits {
         requires place { l < length self.old.let_reads.entries }
         requires flag { l < length changed.old.items }
         ensures runs { OnOk result (IfSome (slice_get run.now.plan.now.lets l) (λ t.
-            RunsLet run.now.caller.tree.now.nodes (unit_let run.now.caller.tree.now.nodes self.old.lets t.expr) l self.old self.new changed.old.items changed.new.items steps.old steps.new)) }
+            RunsLet run.now.caller.tree.now.nodes (unit_let run.now.caller.tree.now.nodes self.old.lets t.expr) l self.old self.new changed.old.items
+            changed.new.items steps.old steps.new)) }
         ensures cuts { OnErr result (IfSome (slice_get run.now.plan.now.lets l) (λ t.
-            CutsLet (unit_let run.now.caller.tree.now.nodes self.old.lets t.expr) l self.old self.new changed.old.items changed.new.items steps.old steps.new)) }
+            CutsLet (unit_let run.now.caller.tree.now.nodes self.old.lets t.expr) l self.old self.new changed.old.items changed.new.items steps.old
+            steps.new)) }
     {
         let caller = run.caller;
         let kept = run_let(caller.alloc, run.plan, caller.tree, l, &self.lets, steps)?;
@@ -127,7 +132,8 @@ impl KeptUnits {
     ) -> Result<(), AllocError>
         requires place { l < length self.old.let_reads.entries }
         requires flag { l < length changed.old.items }
-        ensures keeps { OnOk result (KeepsLet run.now.caller.tree.now.nodes kept.value kept.reads l self.old self.new changed.old.items changed.new.items) }
+        ensures keeps { OnOk result (KeepsLet run.now.caller.tree.now.nodes kept.value kept.reads l
+            self.old self.new changed.old.items changed.new.items) }
         ensures cut { OnErr result (LetCut kept.value l self.old self.new changed.old.items changed.new.items) }
     {
         let KeptLet { value, reads } = kept;

@@ -37,7 +37,8 @@ impl KeptUnits {
         requires sound { IsSound run.now.plan.now }
         requires ready { PairsReady run.now.plan.now run.now.caller.tree.now.nodes self.old }
         requires places { length run.now.caller.tree.now.nodes * length run.now.plan.now.patterns ≤ length self.old.reads.entries }
-        ensures refreshed { OnOk result (PatternsRefreshed run.now.plan.now run.now.caller.tree.now.nodes (length run.now.plan.now.patterns) self.old self.new steps.old steps.new) }
+        ensures refreshed { OnOk result (PatternsRefreshed run.now.plan.now run.now.caller.tree.now.nodes (length run.now.plan.now.patterns)
+            self.old self.new steps.old steps.new) }
         ensures cut { OnErr result (PatternsCut run.now.plan.now run.now.caller.tree.now.nodes self.old self.new steps.old steps.new) }
     {
         refreshes_keep();
@@ -63,7 +64,8 @@ impl KeptUnits {
         requires pairs { PairsReady at.now.run.plan.now at.now.run.caller.tree.now.nodes self.old }
         ensures refreshed { OnOk result (NodesRefreshed at.now.run.plan.now at.now.run.caller.tree.now.nodes at.now.pattern
             (length at.now.run.caller.tree.now.nodes) self.old self.new steps.old steps.new) }
-        ensures cut { OnErr result (NodesCut at.now.run.plan.now at.now.run.caller.tree.now.nodes at.now.pattern self.old self.new steps.old steps.new) }
+        ensures cut { OnErr result (NodesCut at.now.run.plan.now at.now.run.caller.tree.now.nodes at.now.pattern
+            self.old self.new steps.old steps.new) }
     {
         let mut matches = KeptMatches::new(at.run.caller.alloc);
         let ended = self.refresh_nodes(at, &mut matches, steps);
@@ -84,7 +86,8 @@ impl KeptUnits {
         requires matches { AreKeptFor at.now.run.plan.now at.now.run.caller.tree.now.nodes at.now.pattern self.old.lets matches.old }
         ensures refreshed { OnOk result (NodesRefreshed at.now.run.plan.now at.now.run.caller.tree.now.nodes at.now.pattern
             (length at.now.run.caller.tree.now.nodes) self.old self.new steps.old steps.new) }
-        ensures cut { OnErr result (NodesCut at.now.run.plan.now at.now.run.caller.tree.now.nodes at.now.pattern self.old self.new steps.old steps.new) }
+        ensures cut { OnErr result (NodesCut at.now.run.plan.now at.now.run.caller.tree.now.nodes at.now.pattern
+            self.old self.new steps.old steps.new) }
     {
         refreshes_keep();
         at.run.caller.tree.laws();
@@ -114,8 +117,10 @@ impl KeptUnits {
         requires matches { AreKeptFor at.now.run.plan.now at.now.run.caller.tree.now.nodes at.now.pattern self.old.lets matches.old }
         ensures later { IfOk result (λ next. number < next) }
         ensures at_most { IfOk result (λ next. next ≤ numbers) }
-        ensures goes { IfOk result (λ next. StepsOn at.now.run.plan.now at.now.run.caller.tree.now.nodes at.now.pattern number next self.old self.new steps.old steps.new) }
-        ensures stops { OnErr result (PairStops at.now.run.plan.now at.now.run.caller.tree.now.nodes at.now.pattern number self.old self.new steps.old steps.new) }
+        ensures goes { IfOk result (λ next. StepsOn at.now.run.plan.now at.now.run.caller.tree.now.nodes at.now.pattern number next
+            self.old self.new steps.old steps.new) }
+        ensures stops { OnErr result (PairStops at.now.run.plan.now at.now.run.caller.tree.now.nodes at.now.pattern number
+            self.old self.new steps.old steps.new) }
         ensures alone { PairsAlone self.old self.new }
         ensures matches { AreKeptFor at.now.run.plan.now at.now.run.caller.tree.now.nodes at.now.pattern self.old.lets matches.new }
     {
@@ -137,8 +142,10 @@ impl KeptUnits {
         requires ready { IsReady at.now.run.plan.now at.now.run.caller.tree.now.nodes at.now.pattern self.old }
         requires made { n < length at.now.run.caller.tree.now.nodes }
         requires matches { AreKeptFor at.now.run.plan.now at.now.run.caller.tree.now.nodes at.now.pattern self.old.lets matches.old }
-        ensures refreshes { OnOk result (RefreshesPair at.now.run.plan.now at.now.run.caller.tree.now.nodes at.now.pattern n self.old self.new steps.old steps.new) }
-        ensures stops { OnErr result (PairStops at.now.run.plan.now at.now.run.caller.tree.now.nodes at.now.pattern n self.old self.new steps.old steps.new) }
+        ensures refreshes { OnOk result (RefreshesPair at.now.run.plan.now at.now.run.caller.tree.now.nodes at.now.pattern n
+            self.old self.new steps.old steps.new) }
+        ensures stops { OnErr result (PairStops at.now.run.plan.now at.now.run.caller.tree.now.nodes at.now.pattern n
+            self.old self.new steps.old steps.new) }
         ensures alone { PairsAlone self.old self.new }
         ensures matches { AreKeptFor at.now.run.plan.now at.now.run.caller.tree.now.nodes at.now.pattern self.old.lets matches.new }
     {
@@ -173,8 +180,10 @@ impl KeptUnits {
         requires made { n < length at.now.run.caller.tree.now.nodes }
         requires stale { pair_runs at.now.run.plan.now at.now.pattern n self.old ≡ true }
         requires matches { AreKeptFor at.now.run.plan.now at.now.run.caller.tree.now.nodes at.now.pattern self.old.lets matches.old }
-        ensures runs { OnOk result (RunsPair at.now.run.plan.now at.now.run.caller.tree.now.nodes at.now.pattern n self.old self.new steps.old steps.new) }
-        ensures cuts { OnErr result (CutsPair at.now.run.plan.now at.now.run.caller.tree.now.nodes at.now.pattern n self.old self.new steps.old steps.new) }
+        ensures runs { OnOk result (RunsPair at.now.run.plan.now at.now.run.caller.tree.now.nodes at.now.pattern n
+            self.old self.new steps.old steps.new) }
+        ensures cuts { OnErr result (CutsPair at.now.run.plan.now at.now.run.caller.tree.now.nodes at.now.pattern n
+            self.old self.new steps.old steps.new) }
         ensures alone { PairsAlone self.old self.new }
         ensures matches { AreKeptFor at.now.run.plan.now at.now.run.caller.tree.now.nodes at.now.pattern self.old.lets matches.new }
     {
@@ -188,7 +197,8 @@ impl KeptUnits {
         requires ready { IsReady at.now.run.plan.now at.now.run.caller.tree.now.nodes at.now.pattern self.old }
         requires made { n < length at.now.run.caller.tree.now.nodes }
         requires stale { pair_runs at.now.run.plan.now at.now.pattern n self.old ≡ true }
-        ensures keeps { OnOk result (KeepsPair at.now.run.plan.now at.now.run.caller.tree.now.nodes kept.outcome kept.reads at.now.pattern n self.old self.new) }
+        ensures keeps { OnOk result (KeepsPair at.now.run.plan.now at.now.run.caller.tree.now.nodes kept.outcome kept.reads at.now.pattern n
+            self.old self.new) }
         ensures cut { OnErr result (PairCut at.now.pattern n self.old self.new) }
         ensures alone { PairsAlone self.old self.new }
     {

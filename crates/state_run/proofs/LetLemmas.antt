@@ -1,8 +1,6 @@
--- Lets that are evaluated one after another, each under those before it.
-use Rattle.std.proofs.Common.{◌≡◌, ◌∙◌, inl, inr, ℕ, ◌+◌, ◌<◌, ◌≤◌, List, [], ◌∷◌, ◌++◌, length, take, Option, None, Some, IfSome, Result, Ok, Err, slice_get, sym, ap, subst, arith}
-use Rattle.std.proofs.lemmas.Bool.{cases_lt}
-use Rattle.std.proofs.lemmas.List.{ext_get_or, get_or_past, length-take-le, take_more}
-use Rattle.std.proofs.lemmas.Option.{slice_get_cases}
+-- A let in force that is evaluated under those before it.
+use Rattle.std.proofs.Common.{◌≡◌, ◌∙◌, ℕ, ◌+◌, ◌<◌, [], ◌∷◌, ◌++◌, length, take, Option, None, Some, IfSome, Result, Ok, Err, slice_get, sym, ap, subst, arith}
+use Rattle.std.proofs.lemmas.List.{length-take-le, take_more}
 use Rattle.doc_tree.specs.Table.{Table}
 use Rattle.xp_outcome.specs.Evaluation.{Evaluation}
 use Rattle.xp_outcome.specs.Recorded.{Recorded}
@@ -17,55 +15,29 @@ use Rattle.sch_compiled.specs.declared.plan.Plan.{Plan}
 use Rattle.sch_units.specs.Laws.{LetsStandInOrder}
 use Rattle.sch_units.specs.Units.{lets_of, unit_let}
 use Rattle.edit_costs.specs.Costs.{Raised}
+use Rattle.edit_costs.specs.Evaluating.{Took}
 use Rattle.edit_costs.specs.Units.{in_force, let_work, work_of}
-use Rattle.state_run.specs.inner.Running.{Took}
-use Rattle.state_run.proofs.RaisedLemmas.{raised_let}
+use Rattle.edit_costs.proofs.LetLemmas.{let_there}
+use Rattle.edit_costs.proofs.RaisedLemmas.{raised_let}
 
--- slots that are all filled, and others with the same values and no more, are the same
-same_slots : {V : Type 0} (xs ys : List (Option V)) → length xs ≤ length ys → ((i : ℕ) → i < length ys → (v : V) × (in_slot ys i ≡ Some v)) →
-    ((i : ℕ) → i < length ys → in_slot xs i ≡ in_slot ys i) → xs ≡ ys
-same_slots {V} xs ys few filled same = ext_get_or None xs ys long (λ i below. same i (omega (arith, below, few)))
-  where
-    short : length xs < length ys → ⊥
-    short below =
-        let value = filled (length xs) below in
-        let none : in_slot xs (length xs) ≡ None = get_or_past xs (length xs) None (omega arith) in
-        let some : in_slot xs (length xs) ≡ Some value.0 = same (length xs) below ∙ value.1 in
-        (cc)
-
-    long : length xs ≡ length ys
-    long = elim (cases_lt (length xs) (length ys)) [ inl below ↦ absurd (short below) | inr past ↦ omega (arith, past, few) ]
-
--- a let stands in each slot
-pub let_there : (plan : Plan) (slot : ℕ) → slot < length plan.lets → (t : LetInForce) × (slice_get plan.lets slot ≡ Some t)
-let_there plan slot within = elim (slice_get_cases plan.lets slot).1 [
-  | inl at ↦ (at.0, at.2)
-  | inr past ↦ absurd (omega (arith, within, past.0))
-]
-
--- all lets are those of the tree
-pub lets_whole : (order : LetsStandInOrder) (plan : Plan) (T : Table) (L : Lets) → length L ≤ length plan.lets →
-    ((slot : ℕ) → slot < length plan.lets → in_slot L slot ≡ in_slot (lets_of plan T) slot) → L ≡ lets_of plan T
-lets_whole order plan T L few gives =
-    same_slots L (lets_of plan T) (omega (arith, few, count))
-    (λ slot below. let t = let_there plan slot (omega (arith, below, count)) in ((unit_let T (take slot (lets_of plan T)) t.0.expr).answer, order.under plan T slot t.0 t.1))
-    (λ slot below. gives slot (omega (arith, below, count)))
-  where
-    count : length (lets_of plan T) ≡ length plan.lets
-    count = order.count plan T
-
--- One let
-
-let_answer : (m : Evaluation EvalFault Value) (value : Result Value EvalFault) (held now : Recorded) (before after : ℕ) → Ran m (value_shown value) held now before after → m.answer ≡ value
+-- a let that has a value or a fault
+pub let_answer : (m : Evaluation EvalFault Value) (value : Result Value EvalFault) (held now : Recorded) (before after : ℕ) →
+    Ran m (value_shown value) held now before after → m.answer ≡ value
 let_answer m (Ok v) held now before after ran = ran.computes.answer
 let_answer m (Err f) held now before after ran = ran.computes.answer
 
-let_took : (m : Evaluation EvalFault Value) (value : Result Value EvalFault) (held now : Recorded) (before after : ℕ) → before < after → Ran m (value_shown value) held now before after → Took m before after
-let_took m (Ok v) held now before after later ran = record { later = later; at_most = omega (arith, ran.computes.steps); exactly = λ other is. ran.computes.steps }
-let_took m (Err f) held now before after later ran =
-    record { later = later; at_most = ran.computes.steps; exactly = λ other is. absurd (let e : Err f ≡ Ok other = sym ran.computes.answer ∙ is in (cc)) }
+pub let_took : (m : Evaluation EvalFault Value) (value : Result Value EvalFault) (held now : Recorded) (before after : ℕ) → before < after →
+    Ran m (value_shown value) held now before after → Took m before after
+let_took m (Ok v) held now before after later ran =
+    record { later = later; at_most = omega (arith, ran.computes.steps); exactly = λ other is. ran.computes.steps }
+let_took m (Err f) held now before after later ran = record {
+  later = later;
+  at_most = ran.computes.steps;
+  exactly = λ other is. absurd (let e : Err f ≡ Ok other = sym ran.computes.answer ∙ is in (cc));
+}
 
-module _ (order : LetsStandInOrder) (plan : Plan) (T : Table) (slot : ℕ) (within : slot < length plan.lets) (lets : Lets) (before : lets ≡ take slot (lets_of plan T)) where
+module _ (order : LetsStandInOrder) (plan : Plan) (T : Table) (slot : ℕ) (within : slot < length plan.lets) (lets : Lets)
+    (before : lets ≡ take slot (lets_of plan T)) where
   work_is : (t : LetInForce) → slice_get plan.lets slot ≡ Some t → work_of plan T (in_force slot) ≡ (unit_let T lets t.expr).work
   work_is t there = ap (let_work T (take slot (lets_of plan T))) there ∙ ap (λ (L : Lets). (unit_let T L t.expr).work) (sym before)
 
@@ -74,23 +46,27 @@ module _ (order : LetsStandInOrder) (plan : Plan) (T : Table) (slot : ℕ) (with
 
   -- it gave a value or a fault
   pub let_raised : (value : Result Value EvalFault) (held now : Recorded) (start end : ℕ) → start < end →
-      IfSome (slice_get plan.lets slot) (λ t. Ran (unit_let T lets t.expr) (value_shown value) held now start end) → Raised plan T (in_force slot ∷ []) start end
+      IfSome (slice_get plan.lets slot) (λ t. Ran (unit_let T lets t.expr) (value_shown value) held now start end) →
+      Raised plan T (in_force slot ∷ []) start end
   let_raised value held now start end later ran =
       let t = let_there plan slot within in
       let run : Ran (unit_let T lets t.0.expr) (value_shown value) held now start end =
       subst (λ (o : Option LetInForce). IfSome o (λ u. Ran (unit_let T lets u.expr) (value_shown value) held now start end)) t.1 ran in
-      raised_let plan T (unit_let T lets t.0.expr) slot start end (answer_is t.0 t.1) (work_is t.0 t.1) (let_took (unit_let T lets t.0.expr) value held now start end later run)
+      raised_let plan T (unit_let T lets t.0.expr) slot start end (answer_is t.0 t.1) (work_is t.0 t.1)
+      (let_took (unit_let T lets t.0.expr) value held now start end later run)
 
   -- and stands in its slot
   pub let_set : (value : Result Value EvalFault) (held now : Recorded) (start end : ℕ) →
-      IfSome (slice_get plan.lets slot) (λ t. Ran (unit_let T lets t.expr) (value_shown value) held now start end) → with_slot lets slot value ≡ take (slot + 1) (lets_of plan T)
+      IfSome (slice_get plan.lets slot) (λ t. Ran (unit_let T lets t.expr) (value_shown value) held now start end) →
+      with_slot lets slot value ≡ take (slot + 1) (lets_of plan T)
   let_set value held now start end ran =
       let t = let_there plan slot within in
       let run : Ran (unit_let T lets t.0.expr) (value_shown value) held now start end =
       subst (λ (o : Option LetInForce). IfSome o (λ u. Ran (unit_let T lets u.expr) (value_shown value) held now start end)) t.1 ran in
       let short : slot < length (lets_of plan T) = omega (arith, within, order.count plan T) in
       let long : length lets ≡ slot = ap length before ∙ length-take-le slot (lets_of plan T) (omega (arith, short)) in
-      let last : in_slot (lets_of plan T) slot ≡ Some value = answer_is t.0 t.1 ∙ ap Some (let_answer (unit_let T lets t.0.expr) value held now start end run) in
+      let last : in_slot (lets_of plan T) slot ≡ Some value =
+      answer_is t.0 t.1 ∙ ap Some (let_answer (unit_let T lets t.0.expr) value held now start end run) in
       ap (λ (k : ℕ). with_slot lets k value) (sym long)
       ∙ order.next lets value
       ∙ ap (λ (L : Lets). L ++ Some value ∷ []) before

@@ -18,10 +18,10 @@ use Rattle.sch_units.specs.Laws.{LetsStandInOrder}
 use Rattle.sch_units.specs.Units.{lets_of}
 use Rattle.xp_meaning.specs.Evaluation.{Lets}
 use Rattle.sch_units.specs.Validity.{finds, first_fault, first_let_fault, first_node_fault, first_with, has_finding, pair_fault, pair_outcome, pattern_numbers}
+use Rattle.edit_costs.proofs.LetLemmas.{lets_whole}
 use Rattle.state_run.specs.declared.scanning.Evaluated.TheVariants.{Whole, Faulted}
 use Rattle.state_run.specs.Evaluated.{Evaluates}
 use Rattle.state_run.specs.Outcomes.{Holds, LetsHold}
-use Rattle.state_run.proofs.LetLemmas.{lets_whole}
 use Rattle.state_run.specs.inner.Scanning.{came_to, fault_of_node, fault_of_nodes, kept_outcome, node_finds, nodes_find, patterns_came_to}
 use Rattle.state_run.proofs.Searches.{any_alike, found_all, found_on, with_alike, with_here, with_on, with_past}
 
@@ -43,7 +43,8 @@ fault_is (Some g) found f is = let e : g ≡ f = cc in ap Some e
 
 module _ {X : Type 0} (fault : X → Option StateFault) (found : X → Bool) (xs : List X) where
   -- one item more, without a fault
-  pub scan_goes_on : (i : ℕ) (x d : X) (was now finds : Bool) → i < length xs → x ≡ slice_index_or xs i d → came_to (fault x) (found x) ≡ Whole finds → now ≡ (was || finds) →
+  pub scan_goes_on : (i : ℕ) (x d : X) (was now finds : Bool) → i < length xs → x ≡ slice_index_or xs i d →
+      came_to (fault x) (found x) ≡ Whole finds → now ≡ (was || finds) →
       ScannedTo fault found xs i was → ScannedTo fault found xs (i + 1) now
   scan_goes_on i x d was now finds within is came now_is so_far =
       let told = fault_told (fault x) (found x) finds came in
@@ -53,13 +54,16 @@ module _ {X : Type 0} (fault : X → Option StateFault) (found : X → Bool) (xs
       }
 
   -- an item with a fault ends the scan
-  pub scan_stops : (i : ℕ) (x d : X) (was : Bool) (f : StateFault) → i < length xs → x ≡ slice_index_or xs i d → came_to (fault x) (found x) ≡ Faulted f →
+  pub scan_stops : (i : ℕ) (x d : X) (was : Bool) (f : StateFault) → i < length xs → x ≡ slice_index_or xs i d →
+      came_to (fault x) (found x) ≡ Faulted f →
       ScannedTo fault found xs i was → Faulted f ≡ came_to (first_with fault xs) (list_any found xs)
   scan_stops i x d was f within is came so_far =
-      ap (λ o. came_to o (list_any found xs)) (with_here fault xs i x d f (first_with fault xs) within (sym is) (fault_is (fault x) (found x) f came) so_far.first)
+      ap (λ o. came_to o (list_any found xs)) (with_here fault xs i x d f (first_with fault xs) within (sym is) (fault_is (fault x) (found x) f came)
+      so_far.first)
 
   -- past the end all is known
-  pub scan_ends : (i : ℕ) (any : Bool) → length xs ≤ i → ScannedTo fault found xs i any → Whole any ≡ came_to (first_with fault xs) (list_any found xs)
+  pub scan_ends : (i : ℕ) (any : Bool) → length xs ≤ i → ScannedTo fault found xs i any →
+      Whole any ≡ came_to (first_with fault xs) (list_any found xs)
   scan_ends i any past so_far =
       ap Whole (found_all found xs i any (list_any found xs) past so_far.any_is)
       ∙ ap (λ o. came_to o (list_any found xs)) (with_past fault xs i (first_with fault xs) past so_far.first)
@@ -79,7 +83,8 @@ number_below : (from count p : ℕ) → mem p (range_with_len from count) ≡ tr
 number_below from zero p there = absurd (false≢true there)
 number_below from (suc count) p there = by (p == from) refl there (number_below (from + 1) count p)
   where
-    by : (b : Bool) → (p == from) ≡ b → (b || mem p (range_with_len (from + 1) count)) ≡ true → (mem p (range_with_len (from + 1) count) ≡ true → p < (from + 1) + count) → p < from + suc count
+    by : (b : Bool) → (p == from) ≡ b → (b || mem p (range_with_len (from + 1) count)) ≡ true →
+        (mem p (range_with_len (from + 1) count) ≡ true → p < (from + 1) + count) → p < from + suc count
     by true same there rest = omega (arith, eqb-true p from same)
     by false other there rest = omega (arith, rest there)
 
@@ -97,11 +102,13 @@ no_finding (Some (Fired rule findings)) finds = refl
 no_finding (Some (Fault kind)) finds = refl
 
 -- what gives nothing may be left out
-with_filter : {B : Type 0} (f : ℕ → Option B) (among : ℕ → Bool) (ns : List ℕ) → ((n : ℕ) → among n ≡ false → f n ≡ None) → first_with f (filter among ns) ≡ first_with f ns
+with_filter : {B : Type 0} (f : ℕ → Option B) (among : ℕ → Bool) (ns : List ℕ) → ((n : ℕ) → among n ≡ false → f n ≡ None) →
+    first_with f (filter among ns) ≡ first_with f ns
 with_filter f among [] none = refl
 with_filter f among (n ∷ ns) none = by (among n) refl (with_filter f among ns none)
   where
-    by : (b : Bool) → among n ≡ b → first_with f (filter among ns) ≡ first_with f ns → first_with f (if b then n ∷ filter among ns else filter among ns) ≡ option_or (f n) (first_with f ns)
+    by : (b : Bool) → among n ≡ b → first_with f (filter among ns) ≡ first_with f ns →
+        first_with f (if b then n ∷ filter among ns else filter among ns) ≡ option_or (f n) (first_with f ns)
     by true is rest = ap (option_or (f n)) rest
     by false is rest = rest ∙ sym (ap (λ o. option_or o (first_with f ns)) (none n is))
 
@@ -130,28 +137,36 @@ told_scanned T found nodes count told few =
 -- The whole
 
 -- the first fault of a let is the first of all
-pub let_faulted : (in_order : LetsStandInOrder) (plan : Plan) (T : Table) (lets : Lets) (fault : StateFault) → LetsHold plan T lets → first_let_fault 0 lets ≡ Some fault →
+pub let_faulted : (in_order : LetsStandInOrder) (plan : Plan) (T : Table) (lets : Lets) (fault : StateFault) → LetsHold plan T lets →
+    first_let_fault 0 lets ≡ Some fault →
     first_fault plan T ≡ Some fault
 let_faulted in_order plan T lets fault let_holds is =
     let lets_are : lets ≡ lets_of plan T = lets_whole in_order plan T lets let_holds.few let_holds.each in
     ap (λ o. option_or o (first_with (first_node_fault plan T) (pattern_numbers plan))) (sym (ap (first_let_fault 0) lets_are) ∙ is)
 
 -- what the outcomes that are held say is what the plan says
-pub all_scanned : (in_order : LetsStandInOrder) (plan : Plan) (T : Table) (lets : Lets) (found : OutcomeTable) → Ordered T → LetsHold plan T lets → Holds plan T found → first_let_fault 0 lets ≡ None →
+pub all_scanned : (in_order : LetsStandInOrder) (plan : Plan) (T : Table) (lets : Lets) (found : OutcomeTable) → Ordered T → LetsHold plan T lets →
+    Holds plan T found → first_let_fault 0 lets ≡ None →
     Evaluates plan T (patterns_came_to found (order T) (length plan.patterns))
 all_scanned in_order plan T lets found ordered let_holds holds none =
-    subst (Evaluates plan T) (ap (λ o. came_to o (finds plan T)) (sym under_patterns) ∙ ap (came_to (first_with (fault_of_nodes found (order T)) (pattern_numbers plan))) (sym all_found)) told
+    subst (Evaluates plan T) (ap (λ o. came_to o (finds plan T)) (sym under_patterns)
+    ∙ ap (came_to (first_with (fault_of_nodes found (order T)) (pattern_numbers plan))) (sym all_found)) told
   where
-    outcome_is : (p n : ℕ) → mem p (pattern_numbers plan) ≡ true → mem n (order T) ≡ true → kept_outcome (outcome_at found p n) ≡ pair_outcome plan T p n
+    outcome_is : (p n : ℕ) → mem p (pattern_numbers plan) ≡ true → mem n (order T) ≡ true →
+        kept_outcome (outcome_at found p n) ≡ pair_outcome plan T p n
     outcome_is p n active there = ap kept_outcome (holds.outcomes p n (omega (arith, number_below 0 (length plan.patterns) p active)) there)
 
     under_patterns : first_with (fault_of_nodes found (order T)) (pattern_numbers plan) ≡ first_with (first_node_fault plan T) (pattern_numbers plan)
     under_patterns = with_alike (fault_of_nodes found (order T)) (first_node_fault plan T) (pattern_numbers plan) (λ p active.
-        with_alike (fault_of_node found p) (λ n. pair_fault p n (pair_outcome plan T p n)) (order T) (λ n there. ap (pair_fault p n) (outcome_is p n active there)))
+        with_alike (fault_of_node found p) (λ n. pair_fault p n (pair_outcome plan T p n)) (order T)
+        (λ n there. ap (pair_fault p n) (outcome_is p n active there)))
 
     all_found : list_any (nodes_find found (order T)) (pattern_numbers plan) ≡ finds plan T
-    all_found = any_alike (nodes_find found (order T)) (λ p. list_any (λ n. has_finding (pair_outcome plan T p n)) (order T)) (pattern_numbers plan) (λ p active.
-        any_alike (node_finds found p) (λ n. has_finding (pair_outcome plan T p n)) (order T) (λ n there. ap has_finding (outcome_is p n active there)))
+    all_found =
+        any_alike (nodes_find found (order T)) (λ p. list_any (λ n. has_finding (pair_outcome plan T p n)) (order T)) (pattern_numbers plan)
+        (λ p active.
+        any_alike (node_finds found p) (λ n. has_finding (pair_outcome plan T p n)) (order T)
+        (λ n there. ap has_finding (outcome_is p n active there)))
 
     lets_are : lets ≡ lets_of plan T
     lets_are = lets_whole in_order plan T lets let_holds.few let_holds.each

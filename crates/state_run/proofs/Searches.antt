@@ -35,13 +35,15 @@ with_from f xs i x d within is =
     at_drop_more (first_with f) xs i d within ∙ ap (λ y. option_or (f y) (first_with f (drop (i + 1) xs))) is
 
 -- where it isn't this one, the search goes on
-pub with_on : {X B : Type 0} (f : X → Option B) (xs : List X) (i : ℕ) (x d : X) (all : Option B) → i < length xs → slice_index_or xs i d ≡ x → f x ≡ None →
+pub with_on : {X B : Type 0} (f : X → Option B) (xs : List X) (i : ℕ) (x d : X) (all : Option B) → i < length xs → slice_index_or xs i d ≡ x →
+    f x ≡ None →
     first_with f (drop i xs) ≡ all → first_with f (drop (i + 1) xs) ≡ all
 with_on f xs i x d all within is none so_far =
     sym (with_from f xs i x d within is ∙ ap (λ o. option_or o (first_with f (drop (i + 1) xs))) none) ∙ so_far
 
 -- this one ends it
-pub with_here : {X B : Type 0} (f : X → Option B) (xs : List X) (i : ℕ) (x d : X) (y : B) (all : Option B) → i < length xs → slice_index_or xs i d ≡ x → f x ≡ Some y →
+pub with_here : {X B : Type 0} (f : X → Option B) (xs : List X) (i : ℕ) (x d : X) (y : B) (all : Option B) → i < length xs →
+    slice_index_or xs i d ≡ x → f x ≡ Some y →
     first_with f (drop i xs) ≡ all → Some y ≡ all
 with_here f xs i x d y all within is some so_far =
     sym (with_from f xs i x d within is ∙ ap (λ o. option_or o (first_with f (drop (i + 1) xs))) some) ∙ so_far

@@ -5,4 +5,4 @@ mod outcomes;
 mod scanning;
 
 pub use outcomes::{Outcomes, evaluate};
-pub use scanning::{Evaluated, came_to};
+pub use scanning::{Evaluated, came_to, came_to_among};

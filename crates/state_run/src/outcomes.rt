@@ -8,9 +8,10 @@ ghost use Rattle.sch_units.specs.Units.{lets_of};
 ghost use Rattle.sch_units.specs.Validity.{pair_outcome};
 ghost use Rattle.rule_run.specs.KeptMatches.{AreKeptFor};
 ghost use Rattle.edit_costs.specs.Costs.{Raised, cost_of};
+ghost use Rattle.edit_costs.specs.Evaluating.{SpentOn, patterns_below};
 ghost use Rattle.edit_costs.specs.Units.{in_force, let_units, node_units, under, units_of};
 ghost use Rattle.state_run.specs.Outcomes.{Holds, LetsHold};
-ghost use Rattle.state_run.specs.inner.Running.{HoldsTo, SpentOn, pattern_units, under_node};
+ghost use Rattle.state_run.specs.inner.Running.{HoldsTo, under_node};
 
 use doc_tree::{NodeId, Tree};
 use rule_run::{Caller, KeptMatches, Lets, PlanRun, run_let, run_pair_with};
@@ -153,9 +154,9 @@ impl Outcomes {
         ensures lets { self.new.lets ≡ self.old.lets }
         ensures found { OnOk result (HoldsTo run.now.plan.now run.now.caller.tree.now.nodes (length run.now.plan.now.patterns) 0 self.new.found) }
         ensures raised { OnOk result (Raised run.now.plan.now run.now.caller.tree.now.nodes
-            (pattern_units run.now.caller.tree.now.nodes (length run.now.plan.now.patterns)) steps.old steps.new) }
+            (patterns_below run.now.caller.tree.now.nodes (length run.now.plan.now.patterns)) steps.old steps.new) }
         ensures spent { SpentOn run.now.plan.now run.now.caller.tree.now.nodes
-            (pattern_units run.now.caller.tree.now.nodes (length run.now.plan.now.patterns)) steps.old steps.new }
+            (patterns_below run.now.caller.tree.now.nodes (length run.now.plan.now.patterns)) steps.old steps.new }
     {
         for p in 0..run.plan.pattern_count() {
             let at = PatternRun {
@@ -261,7 +262,8 @@ impl Outcomes {
         ensures matches { AreKeptFor at.now.run.plan.now at.now.run.caller.tree.now.nodes at.now.pattern self.old.lets matches.new }
         ensures puts { OnOk result (Puts self.old.found self.new.found at.now.pattern n
             (Some (pair_outcome at.now.run.plan.now at.now.run.caller.tree.now.nodes at.now.pattern n))) }
-        ensures raised { OnOk result (Raised at.now.run.plan.now at.now.run.caller.tree.now.nodes (under at.now.pattern n ∷ []) steps.old steps.new) }
+        ensures raised { OnOk result (Raised at.now.run.plan.now at.now.run.caller.tree.now.nodes
+            (under at.now.pattern n ∷ []) steps.old steps.new) }
         ensures spent { SpentOn at.now.run.plan.now at.now.run.caller.tree.now.nodes (under at.now.pattern n ∷ []) steps.old steps.new }
     {
         lets_stand_in_order();

@@ -1,6 +1,8 @@
 //! What all units came to.
 
 ghost use Rattle.std.specs.Prelude.{◌≡◌, ◌<◌, ◌≤◌, IfOk, Some, length};
+ghost use Rattle.sch_compiled.specs.Findings.{ToldInOrder};
+ghost use Rattle.sch_compiled.specs.Soundness.{IsCounted};
 ghost use Rattle.sch_units.specs.Validity.{first_let_fault, has_finding, let_fault, pair_fault};
 ghost use Rattle.xp_outcome.specs.Slots.{in_slot};
 ghost use Rattle.state_run.specs.Evaluated.{Evaluates};
@@ -34,27 +36,35 @@ pub fn came_to(
     lets: &Lets,
     found: &Findings,
 ) -> Result<Evaluated, AllocError>
+    requires counted { IsCounted plan.now }
     requires lets { LetsHold plan.now tree.now.nodes lets.now }
     requires found { Holds plan.now tree.now.nodes found.now }
     ensures { IfOk result (Evaluates plan.now tree.now.nodes) }
 {
-    tree.laws();
-    lets_stand_in_order();
-    if let Some(fault) = first_let_fault(lets, let_count(plan)?) {
-        return Ok(Evaluated::Faulted(fault));
-    }
     let nodes = found.told_in_order(alloc, tree)?;
-    Ok(scan_all(found, nodes.as_slice()))
+    Ok(came_to_among(plan, tree, lets, found, nodes.as_slice()))
 }
 
-/// How many lets are in force. More than the numbers of slots count as want of memory.
-fn let_count(plan: &Plan) -> Result<u32, AllocError>
-    ensures { IfOk result (λ count. count ≡ length plan.now.lets) }
+/// The same for a caller who has the nodes of which something is told. Takes no memory.
+pub fn came_to_among(
+    plan: &Plan,
+    tree: &Tree,
+    lets: &Lets,
+    found: &Findings,
+    nodes: &[NodeId],
+) -> Evaluated
+    requires counted { IsCounted plan.now }
+    requires lets { LetsHold plan.now tree.now.nodes lets.now }
+    requires found { Holds plan.now tree.now.nodes found.now }
+    requires told { ToldInOrder tree.now.nodes found.now nodes.now }
+    ensures { Evaluates plan.now tree.now.nodes result }
 {
-    match u32::try_from(plan.lets.len()) {
-        Ok(count) => Ok(count),
-        Err(_) => Err(AllocError),
+    tree.laws();
+    lets_stand_in_order();
+    if let Some(fault) = first_let_fault(lets, plan.let_count()) {
+        return Evaluated::Faulted(fault);
     }
+    scan_all(found, nodes)
 }
 
 /// The first fault among the first lets, by slot; behind them no let is set.

@@ -36,5 +36,6 @@ module _ (stand : UnitsStand) (plan : Plan) (T U : Table) (touched : Cell → Bo
 pub returns : goal.returns
 returns c = record {
   lets = λ plan T U touched slot t formed edits there clean. let-stands c.units_stand.ensures.units plan T U touched formed edits slot t there clean;
-  pairs = λ plan T U touched p n formed edits typed lives clean. pair-stands c.units_stand.ensures.units plan T U touched formed edits p n typed lives clean;
+  pairs = λ plan T U touched p n formed edits typed lives clean. pair-stands c.units_stand.ensures.units plan T U touched formed edits p n typed lives
+      clean;
 }

@@ -1,5 +1,5 @@
 -- What the counts add up, by the outcomes that are kept.
-use Rattle.std.specs.Prelude.{ℕ, true, false, List, Option, None, Some, sum_by}
+use Rattle.std.specs.Prelude.{◌≡◌, ℕ, ◌+◌, Bool, true, false, List, Option, None, Some, sum_by}
 use Rattle.sch_compiled.specs.declared.findings.Outcome.{Outcome}
 use Rattle.sch_compiled.specs.declared.parts.PlanRule.{PlanRule}
 use Rattle.sch_compiled.specs.declared.plan.Plan.{Plan}
@@ -9,9 +9,29 @@ use Rattle.sch_compiled.specs.Plan.{rules_of}
 use Rattle.sch_units.specs.Validity.{pattern_numbers}
 use Rattle.state_run.specs.declared.scanning.Evaluated.{Evaluated}
 use Rattle.state_run.specs.declared.scanning.Evaluated.TheVariants.{Whole, Faulted}
-use Rattle.edit_session.specs.declared.counting.Counted.{Counted}
-use Rattle.edit_session.specs.declared.counting.Counted.TheVariants.{FiredRules, FailedAssertions, SuccessfulReports}
+use Rattle.edit_session.specs.declared.counting.Counts.{Counts}
+use Rattle.edit_session.specs.declared.counting.Tally.{Tally}
 use Rattle.edit_session.specs.Counts.{fired_by, found_by}
+
+-- what is counted
+pub data Counted : Type 0 where
+  FiredRules : Counted
+  FailedAssertions : Counted
+  SuccessfulReports : Counted
+
+-- the part of a tally that counts it
+abbrev pub part : Counted → Tally → ℕ
+part FiredRules tally = tally.fired
+part FailedAssertions tally = tally.failed
+part SuccessfulReports tally = tally.reports
+
+-- each part of a tally grew by so much
+abbrev pub Grows : Tally → Tally → (Counted → ℕ) → Type 0
+Grows old new more = (what : Counted) → part what new ≡ part what old + more what
+
+-- the counts of a document of which all was counted
+abbrev pub counts_by : Tally → Bool → Counts
+counts_by tally faulted = record { fired = tally.fired; failed = tally.failed; reports = tally.reports; faulted = faulted }
 
 -- what an outcome adds to a count
 abbrev pub adds : Counted → List PlanRule → Outcome → ℕ

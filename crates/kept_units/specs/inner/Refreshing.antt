@@ -1,6 +1,5 @@
 -- What a refresh does, unit by unit.
-use Rattle.std.specs.Prelude.{◌≡◌, ◌≢◌, ℕ, ◌+◌, ◌*◌, ◌<◌, ◌≤◌, ◌⊎◌, nat_lt, Bool, true, false, not, List, length, map, filter, Option, None, Some, IfSome, Result, Ok, is_none, if◌then◌else◌, slice_get, slice_set, flat_map}
-use Rattle.std.specs.List.{range_with_len}
+use Rattle.std.specs.Prelude.{◌≡◌, ◌≢◌, ℕ, ◌+◌, ◌*◌, ◌<◌, ◌≤◌, ◌⊎◌, nat_lt, Bool, true, false, not, List, length, filter, Option, None, Some, IfSome, Result, is_none, if◌then◌else◌, slice_get, slice_set, flat_map}
 use Rattle.doc_tree.specs.Table.{Table, is_live}
 use Rattle.xp_outcome.specs.Evaluation.{Evaluation}
 use Rattle.xp_outcome.specs.Recorded.{Recorded}
@@ -15,7 +14,8 @@ use Rattle.sch_units.specs.Units.{lets_of, unit_let, unit_pair}
 use Rattle.sch_units.specs.Validity.{outcome_of, pattern_numbers}
 use Rattle.edit_costs.specs.SameOutcome.{same_outcome}
 use Rattle.edit_costs.specs.Units.{ValidationUnit, in_force, under, let_units, node_units}
-use Rattle.edit_costs.specs.Costs.{Raised, cost_of}
+use Rattle.edit_costs.specs.Costs.{Raised}
+use Rattle.edit_costs.specs.Evaluating.{SpentOn, Took, lets_below, nodes_below, patterns_below}
 use Rattle.kept_state.specs.Kept.{HeldAlike, Kept, noted}
 use Rattle.kept_state.specs.Refreshing.{Reached}
 use Rattle.kept_state.specs.Running.{GoesOn, IsFresh, is_run, to_run}
@@ -28,21 +28,10 @@ use Rattle.kept_units.specs.Keeping.{IsHeld, place_of, reads_in, held_by, seen_i
 
 -- Counts
 
--- a count rose for one evaluation: by its visits at most, and by exactly these where it meets no fault
-pub record Took {F A : Type 0} (m : Evaluation F A) (before after : ℕ) : Type 0 where
-  pub later : before < after
-  pub at_most : after ≤ before + m.work
-  pub exactly : (v : A) → m.answer ≡ Ok v → after ≡ before + m.work
-
 -- a count rose for an evaluation that may have been cut short
 pub record Spent {F A : Type 0} (m : Evaluation F A) (before after : ℕ) : Type 0 where
   pub later : before ≤ after
   pub at_most : after ≤ before + m.work
-
--- a count rose for the evaluation of units at most
-pub record SpentOn (plan : Plan) (T : Table) (units : List ValidationUnit) (before after : ℕ) : Type 0 where
-  pub later : before ≤ after
-  pub at_most : after ≤ before + cost_of plan T units
 
 -- Places
 
@@ -78,7 +67,8 @@ abbrev pub masked : ℕ → List Bool → KeptUnits → Kept
 masked l flags kept = record { lets = kept.lets; outcomes = outcome_at kept.found; reads = masked_reads l flags kept }
 
 -- a let in force has an outcome, and it is known whether that is another one; of what it read this is kept
-pub record SetsLet (outcome : Result Value EvalFault) (l : ℕ) (entry : Option Recorded) (old new : KeptUnits) (flags new_flags : List Bool) : Type 0 where
+pub record SetsLet (outcome : Result Value EvalFault) (l : ℕ) (entry : Option Recorded) (old new : KeptUnits)
+    (flags new_flags : List Bool) : Type 0 where
   pub found : new.found ≡ old.found
   pub reads : new.reads ≡ old.reads
   pub lets : new.lets ≡ with_slot old.lets l outcome
@@ -86,7 +76,8 @@ pub record SetsLet (outcome : Result Value EvalFault) (l : ℕ) (entry : Option 
   pub flagged : new_flags ≡ slice_set flags l (not (same_outcome (in_slot old.lets l) (Some outcome)))
 
 -- what it read is kept but for covered cells
-pub record KeepsLet (T : Table) (outcome : Result Value EvalFault) (reads : Recorded) (l : ℕ) (old new : KeptUnits) (flags new_flags : List Bool) : Type 0 where
+pub record KeepsLet (T : Table) (outcome : Result Value EvalFault) (reads : Recorded) (l : ℕ) (old new : KeptUnits)
+    (flags new_flags : List Bool) : Type 0 where
   pub held : Recorded
   pub alike : HeldAlike T held reads
   pub sets : SetsLet outcome l (Some held) old new flags new_flags
@@ -97,7 +88,8 @@ pub data LetCut (outcome : Result Value EvalFault) (l : ℕ) (old new : KeptUnit
   let_unread : SetsLet outcome l None old new flags new_flags → LetCut outcome l old new flags new_flags
 
 -- a let in force was evaluated
-pub record RunsLet (T : Table) (m : Evaluation EvalFault Value) (l : ℕ) (old new : KeptUnits) (flags new_flags : List Bool) (before after : ℕ) : Type 0 where
+pub record RunsLet (T : Table) (m : Evaluation EvalFault Value) (l : ℕ) (old new : KeptUnits) (flags new_flags : List Bool)
+    (before after : ℕ) : Type 0 where
   pub keeps : KeepsLet T m.answer (noted m.reads) l old new flags new_flags
   pub took : Took m before after
 
@@ -112,9 +104,11 @@ let_runs l flags kept = is_none (unless_flagged flags (reads_at kept.let_reads.e
 
 -- a let in force was evaluated where it is to be
 pub data RefreshesLet (plan : Plan) (T : Table) (l : ℕ) (old new : KeptUnits) (flags new_flags : List Bool) (before after : ℕ) : Type 0 where
-  let_ran : let_runs l flags old ≡ true → IfSome (slice_get plan.lets l) (λ t. RunsLet T (unit_let T old.lets t.expr) l old new flags new_flags before after) →
+  let_ran : let_runs l flags old ≡ true → IfSome (slice_get plan.lets l)
+      (λ t. RunsLet T (unit_let T old.lets t.expr) l old new flags new_flags before after) →
       RefreshesLet plan T l old new flags new_flags before after
-  let_left : let_runs l flags old ≡ false → Leaves old new before after → new_flags ≡ flags → RefreshesLet plan T l old new flags new_flags before after
+  let_left : let_runs l flags old ≡ false → Leaves old new before after → new_flags ≡ flags →
+      RefreshesLet plan T l old new flags new_flags before after
 
 -- a let in force that is to be evaluated was cut short
 pub record LetStops (plan : Plan) (T : Table) (l : ℕ) (old new : KeptUnits) (flags new_flags : List Bool) (before after : ℕ) : Type 0 where
@@ -133,7 +127,7 @@ pub record LetsSo (plan : Plan) (old new : KeptUnits) (flags : List Bool) : Type
 pub record LetsRefreshed (plan : Plan) (T : Table) (l : ℕ) (old new : KeptUnits) (flags : List Bool) (before after : ℕ) : Type 0 where
   pub so : LetsSo plan old new flags
   pub reached : Reached plan T (in_force l) (seen_in old) (masked l flags new)
-  pub raised : Raised plan T (filter (is_run plan T (seen_in old)) (map in_force (range_with_len 0 l))) before after
+  pub raised : Raised plan T (filter (is_run plan T (seen_in old)) (lets_below l)) before after
 
 -- the lets were refreshed up to one of them
 pub record LetsCut (plan : Plan) (T : Table) (old new : KeptUnits) (flags : List Bool) (before after : ℕ) : Type 0 where
@@ -209,7 +203,8 @@ pub record CutsPair (plan : Plan) (T : Table) (p n : ℕ) (old new : KeptUnits) 
 
 -- a node under a pattern was evaluated where it lives and is stale
 pub data RefreshesPair (plan : Plan) (T : Table) (p n : ℕ) (old new : KeptUnits) (before after : ℕ) : Type 0 where
-  pair_ran : is_live T n ≡ true → pair_runs plan p n old ≡ true → RunsPair plan T p n old new before after → RefreshesPair plan T p n old new before after
+  pair_ran : is_live T n ≡ true → pair_runs plan p n old ≡ true → RunsPair plan T p n old new before after →
+      RefreshesPair plan T p n old new before after
   pair_left : is_live T n ≡ true → pair_runs plan p n old ≡ false → Leaves old new before after → RefreshesPair plan T p n old new before after
   pair_dead : is_live T n ≡ false → Leaves old new before after → RefreshesPair plan T p n old new before after
 
@@ -232,15 +227,12 @@ pub record PairsReady (plan : Plan) (T : Table) (kept : KeptUnits) : Type 0 wher
   pub few : length kept.lets ≤ length plan.lets
   pub held : IsHeld plan T kept
 
--- the units of the live nodes below a number
-abbrev pub units_below : Table → ℕ → ℕ → List ValidationUnit
-units_below T p n = map (under p) (filter (is_live T) (range_with_len 0 n))
-
 -- a refresh that has come to a pattern has come to its node n
 pub record NodesRefreshed (plan : Plan) (T : Table) (p n : ℕ) (old new : KeptUnits) (before after : ℕ) : Type 0 where
   pub alone : PairsAlone old new
   pub reached : (was : Kept) → Reached plan T (under p 0) was (seen_in old) → Reached plan T (under p n) was (seen_in new)
-  pub raised : (was : Kept) → Reached plan T (under p 0) was (seen_in old) → Raised plan T (filter (is_run plan T was) (units_below T p n)) before after
+  pub raised : (was : Kept) → Reached plan T (under p 0) was (seen_in old) →
+      Raised plan T (filter (is_run plan T was) (nodes_below T p n)) before after
 
 -- it was cut short at one of the pattern's nodes
 pub record NodesCut (plan : Plan) (T : Table) (p : ℕ) (old new : KeptUnits) (before after : ℕ) : Type 0 where
@@ -260,7 +252,7 @@ pub record PatternsRefreshed (plan : Plan) (T : Table) (p : ℕ) (old new : Kept
   pub alone : PairsAlone old new
   pub reached : (was : Kept) → Reached plan T (under 0 0) was (seen_in old) → Reached plan T (under p 0) was (seen_in new)
   pub raised : (was : Kept) → Reached plan T (under 0 0) was (seen_in old) →
-      Raised plan T (filter (is_run plan T was) (flat_map (node_units T) (range_with_len 0 p))) before after
+      Raised plan T (filter (is_run plan T was) (patterns_below T p)) before after
 
 -- it was cut short under one of the patterns
 pub record PatternsCut (plan : Plan) (T : Table) (old new : KeptUnits) (before after : ℕ) : Type 0 where

@@ -2,7 +2,7 @@
 use Rattle.std.proofs.Common.{◌≡◌, take}
 use Rattle.sch_units.specs.Units.{lets_of}
 use Rattle.edit_costs.specs.Costs.{Raised}
-use Rattle.state_run.specs.inner.Running.{lets_below}
+use Rattle.edit_costs.specs.Evaluating.{lets_below}
 use Rattle.state_run.proofs.outcomes.run_lets.Given as goal
 
 abbrev pub invariant-loop-slot : goal.invariant-loop-slot

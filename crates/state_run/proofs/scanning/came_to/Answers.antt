@@ -1,21 +1,7 @@
--- The outcomes that are held are those of the tree, and the nodes of which nothing is told may be left out.
-use Rattle.std.proofs.Common.{◌∙◌, ℕ, List, ap, arith, subst, sym}
-use Rattle.state_run.specs.Evaluated.{Evaluates}
-use Rattle.state_run.specs.inner.Scanning.{patterns_came_to}
-use Rattle.state_run.proofs.ScanningLemmas.{all_scanned, let_faulted, told_scanned}
+-- The nodes that are handed on are those of which something is told.
+use Rattle.std.proofs.Common.{subst, sym}
+use Rattle.sch_compiled.specs.Findings.{ToldInOrder}
 use Rattle.state_run.proofs.scanning.came_to.Goals as goal
 
-pub returns-in-Some : goal.returns-in-Some
-returns-in-Some c =
-    let_faulted c.lets_stand_in_order.ensures c.args.plan.now c.args.tree.now.nodes c.args.lets.now c.in-Some.fault c.requires.lets (sym c.first_let_fault.ensures ∙ c.in-Some.is)
-
-pub returns : goal.returns
-returns c =
-    let count = c.args.found.now.patterns in
-    subst (Evaluates c.args.plan.now c.args.tree.now.nodes)
-    (sym (c.scan_all.ensures
-    ∙ ap (λ (nodes : List ℕ). patterns_came_to c.args.found.now nodes count) c.as_slice.ensures
-    ∙ told_scanned c.args.tree.now.nodes c.args.found.now _ count c.in_ok-nodes.ensures (omega arith)
-    ∙ ap (patterns_came_to c.args.found.now _) c.requires.found.patterns))
-    (all_scanned c.lets_stand_in_order.ensures c.args.plan.now c.args.tree.now.nodes c.args.lets.now c.args.found.now c.laws.ensures.ordered c.requires.lets c.requires.found
-    (sym c.first_let_fault.ensures ∙ c.in_default.is))
+pub came_to_among-requires-clause-told : goal.came_to_among-requires-clause-told
+came_to_among-requires-clause-told c = subst (ToldInOrder c.args.tree.now.nodes c.args.found.now) (sym c.as_slice.ensures) c.in_ok-nodes.ensures

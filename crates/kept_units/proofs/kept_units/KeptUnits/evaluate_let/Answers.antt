@@ -8,13 +8,15 @@ pub returns-in_err-kept-clause-cuts : goal.returns-in_err-kept-clause-cuts
 returns-in_err-kept-clause-cuts g c =
     let run = c.args.run.now in
     on_err c.from_residual.result _
-    (let_unrun (slice_get run.plan.now.lets c.args.l) run.caller.tree.now.nodes c.args.self.now.lets _ c.args.l c.args.self.now c.args.changed.now.items c.args.steps.now c.run_let.new.steps c.in_err-kept.ensures.ran)
+    (let_unrun (slice_get run.plan.now.lets c.args.l) run.caller.tree.now.nodes c.args.self.now.lets _ c.args.l c.args.self.now
+    c.args.changed.now.items c.args.steps.now c.run_let.new.steps c.in_err-kept.ensures.ran)
 
 pub returns-clause-runs : goal.returns-clause-runs
 returns-clause-runs g c =
     let run = c.args.run.now in
     on_ok_weaker c.keep_let.result
-    (let_ran_so (slice_get run.plan.now.lets c.args.l) run.caller.tree.now.nodes c.args.self.now.lets c.in_ok-kept.kept.value c.in_ok-kept.kept.reads c.args.l c.args.self.now c.keep_let.new.self
+    (let_ran_so (slice_get run.plan.now.lets c.args.l) run.caller.tree.now.nodes c.args.self.now.lets c.in_ok-kept.kept.value c.in_ok-kept.kept.reads
+    c.args.l c.args.self.now c.keep_let.new.self
     c.args.changed.now.items c.keep_let.new.changed.items c.args.steps.now c.run_let.new.steps c.in_ok-kept.ensures.counted c.in_ok-kept.ensures.ran)
     c.keep_let.ensures.keeps
 
@@ -22,6 +24,7 @@ pub returns-clause-cuts : goal.returns-clause-cuts
 returns-clause-cuts g c =
     let run = c.args.run.now in
     on_err_weaker c.keep_let.result
-    (let_cut_so (slice_get run.plan.now.lets c.args.l) run.caller.tree.now.nodes c.args.self.now.lets c.in_ok-kept.kept.value c.in_ok-kept.kept.reads c.args.l c.args.self.now c.keep_let.new.self
+    (let_cut_so (slice_get run.plan.now.lets c.args.l) run.caller.tree.now.nodes c.args.self.now.lets c.in_ok-kept.kept.value c.in_ok-kept.kept.reads
+    c.args.l c.args.self.now c.keep_let.new.self
     c.args.changed.now.items c.keep_let.new.changed.items c.args.steps.now c.run_let.new.steps c.in_ok-kept.ensures.counted c.in_ok-kept.ensures.ran)
     c.keep_let.ensures.cut

@@ -11,8 +11,10 @@ returns-clause-held c = λ T.
 pub returns-clause-keeps : goal.returns-clause-keeps
 returns-clause-keeps c = λ T.
     (c.nothing_keeps.ensures c.args.plan.now T _ c.new.ensures
-    (nothing_seen (record { lets = c.new.result; let_reads = c.new-2.result; found = c.in_ok-new.field-0; reads = c.new-4.result }) c.new-2.ensures.entries c.new-4.ensures.entries)).0
+    (nothing_seen (record { lets = c.new.result; let_reads = c.new-2.result; found = c.in_ok-new.field-0; reads = c.new-4.result })
+    c.new-2.ensures.entries c.new-4.ensures.entries)).0
 
 pub returns-clause-stale : goal.returns-clause-stale
 returns-clause-stale c =
-    nothing_seen (record { lets = c.new.result; let_reads = c.new-2.result; found = c.in_ok-new.field-0; reads = c.new-4.result }) c.new-2.ensures.entries c.new-4.ensures.entries
+    nothing_seen (record { lets = c.new.result; let_reads = c.new-2.result; found = c.in_ok-new.field-0; reads = c.new-4.result })
+    c.new-2.ensures.entries c.new-4.ensures.entries

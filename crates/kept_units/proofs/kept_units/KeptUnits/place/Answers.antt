@@ -8,6 +8,7 @@ returns-clause-within c =
     omega (
       arith,
       c.place_of.ensures,
-      place_within c.args.at.now.run.plan.now c.args.at.now.pattern c.args.n (length c.args.at.now.run.caller.tree.now.nodes) (length c.args.self.now.reads.entries)
+      place_within c.args.at.now.run.plan.now c.args.at.now.pattern c.args.n (length c.args.at.now.run.caller.tree.now.nodes)
+          (length c.args.self.now.reads.entries)
           c.requires.ready.active c.requires.made c.requires.ready.places,
     )

@@ -17,7 +17,8 @@ returns-in-Ok-clause-puts c = on_ok_weaker c.put-in-Ok.result
 pub returns-in-Ok-clause-cut : goal.returns-in-Ok-clause-cut
 returns-in-Ok-clause-cut c =
     let entries = c.args.self.now.reads.entries in
-    let stale : is_none (reads_at entries c.place-place.result) ≡ true = ap (λ (place : ℕ). is_none (reads_at entries place)) c.place-place.ensures.value ∙ c.requires.stale in
+    let stale : is_none (reads_at entries c.place-place.result) ≡ true =
+    ap (λ (place : ℕ). is_none (reads_at entries place)) c.place-place.ensures.value ∙ c.requires.stale in
     on_err_weaker c.put-in-Ok.result
     (λ empties. record {
       others = c.in-Ok.ensures.puts.others;
@@ -28,12 +29,15 @@ returns-in-Ok-clause-cut c =
 pub returns-in-Ok-clause-alone : goal.returns-in-Ok-clause-alone
 returns-in-Ok-clause-alone c =
     let entries = c.args.self.now.reads.entries in
-    let stale : is_none (reads_at entries c.place-place.result) ≡ true = ap (λ (place : ℕ). is_none (reads_at entries place)) c.place-place.ensures.value ∙ c.requires.stale in
+    let stale : is_none (reads_at entries c.place-place.result) ≡ true =
+    ap (λ (place : ℕ). is_none (reads_at entries place)) c.place-place.ensures.value ∙ c.requires.stale in
     alone_set c.place-place.result c.args.self.now c.put.new.self c.put-in-Ok.new.self c.in-Ok.ensures.puts.patterns
-    (entry_set c.put-in-Ok.result c.place-place.result c.args.held c.args.self.now.reads c.put-in-Ok.new.self c.put-in-Ok.ensures.puts c.put-in-Ok.ensures.empties) stale
+    (entry_set c.put-in-Ok.result c.place-place.result c.args.held c.args.self.now.reads c.put-in-Ok.new.self c.put-in-Ok.ensures.puts
+    c.put-in-Ok.ensures.empties) stale
 
 pub returns-in-Err-clause-cut : goal.returns-in-Err-clause-cut
-returns-in-Err-clause-cut c = record { others = λ q k apart. ap (λ (table : OutcomeTable). outcome_at table q k) c.in-Err.ensures.unchanged; entries = λ place. refl }
+returns-in-Err-clause-cut c =
+    record { others = λ q k apart. ap (λ (table : OutcomeTable). outcome_at table q k) c.in-Err.ensures.unchanged; entries = λ place. refl }
 
 pub returns-in-Err-clause-alone : goal.returns-in-Err-clause-alone
 returns-in-Err-clause-alone c = record {

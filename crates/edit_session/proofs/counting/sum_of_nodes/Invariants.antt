@@ -1,8 +1,0 @@
--- What the nodes so far add.
-use Rattle.std.proofs.Common.{◌≡◌, take}
-use Rattle.std.specs.Prelude.{sum_by}
-use Rattle.edit_session.specs.inner.Counting.{node_adds}
-use Rattle.edit_session.proofs.counting.sum_of_nodes.Given as goal
-
-abbrev pub invariant-loop-n : goal.invariant-loop-n
-invariant-loop-n l = l.sum ≡ sum_by (node_adds l.what l.found l.p l.rules) (take l.n-index l.nodes)
