@@ -18,7 +18,7 @@ use Rattle.sch_cli.specs.Output.{ended}
 use Rattle.sch_cli.specs.Runs.{Fronted}
 use Rattle.sch_stops.specs.Stops.{Names, counted_if, ends_with, is_status, status_of, stopped_by}
 use Rattle.sch_loading.specs.Stages.{Stage, Then, goes, halts, unread}
-use Rattle.sch_cli.specs.Steps.{CountsAtMost, CountsBy}
+use Rattle.sch_cli.specs.Steps.{CountsAtMost, CountsBy, CountsStopped}
 use Rattle.sch_cli.specs.inner.Carried.{Carried, Concludes, Shows, Visits, WritesBehind, status_of_end}
 use Rattle.sch_cli.specs.inner.Writing.{IsOfWriting, may_have_written}
 use Rattle.sch_loading.proofs.StageLemmas.{goes-on, halts-first, unread-first}
@@ -54,13 +54,17 @@ concludes_in P P' R R' Q Q' written may failed comes (Err stop) stopped =
     (λ stop shows. shows_in P P' written may (stopped_by stop) shows) (λ name is. (failed name is.0, is.1)) (fronted_in Q Q' written comes)
     (⊎_elim (λ (none : written []). inl none) (λ (front : Fronted Q written). inr (fronted_in Q Q' written comes front))) stop stopped
 
+stopped_in : (costs costs' : ℕ → Type 0) → ((cost : ℕ) → costs cost → costs' cost) → (before after : ℕ) → CountsStopped costs before after → CountsStopped costs' before after
+stopped_in costs costs' weaker before after = ⊎_elim (λ (none : after ≡ before). inl none) (λ (some : CountsAtMost costs before after). inr (some.0, weaker some.0 some.1, some.2))
+
 pub counts_in : (costs costs' : ℕ → Type 0) → ((cost : ℕ) → costs cost → costs' cost) → (status : Status) (before after : ℕ) → CountsBy costs status before after → CountsBy costs' status before after
 counts_in costs costs' weaker status.Clean before after counts = (counts.0, weaker counts.0 counts.1, counts.2)
 counts_in costs costs' weaker status.Findings before after counts = (counts.0, weaker counts.0 counts.1, counts.2)
 counts_in costs costs' weaker status.Faulted before after counts = (counts.0, weaker counts.0 counts.1, counts.2)
-counts_in costs costs' weaker status.ScriptRefused before after counts = ⊎_elim (λ (none : after ≡ before). inl none)
-    (λ (some : CountsAtMost costs before after). inr (some.0, weaker some.0 some.1, some.2)) counts
-counts_in costs costs' weaker _ before after counts = tt
+counts_in costs costs' weaker status.ScriptRefused before after counts = stopped_in costs costs' weaker before after counts
+counts_in costs costs' weaker status.WriteFault before after counts = stopped_in costs costs' weaker before after counts
+counts_in costs costs' weaker status.Memory before after counts = stopped_in costs costs' weaker before after counts
+counts_in costs costs' weaker _ before after counts = counts
 
 -- a value that the stages made ready gives one of which something holds
 ready : {A B : Type 0} (stage : Stage A) (holds : A → B → Type 0) (opened : List (List ℕ)) (value : A) → stage opened (goes value) → (made : B) → holds value made →
@@ -118,16 +122,16 @@ carried {A} named stage value_of outputs texts visits evaluates old new log late
     asked : Behaviour
     asked = from named stage outputs texts visits evaluates
 
--- nothing is said of the visits of a run that stops before it writes
-uncounted : (costs : ℕ → Type 0) (count : ℕ) (stop : Stop) → CountsBy costs (status_of stop) count count
-uncounted costs count Usage = tt
-uncounted costs count (SchemaRefused refusal) = tt
-uncounted costs count (DocumentRefused refusal) = tt
+-- a run that stops before its first state may leave the count
+pub uncounted : (costs : ℕ → Type 0) (count : ℕ) (stop : Stop) → CountsBy costs (status_of stop) count count
+uncounted costs count Usage = refl
+uncounted costs count (SchemaRefused refusal) = refl
+uncounted costs count (DocumentRefused refusal) = refl
 uncounted costs count (ScriptRefused refusal) = inl refl
-uncounted costs count (Missing name) = tt
-uncounted costs count (ReadFault name) = tt
-uncounted costs count WriteFault = tt
-uncounted costs count Memory = tt
+uncounted costs count (Missing name) = refl
+uncounted costs count (ReadFault name) = refl
+uncounted costs count WriteFault = inl refl
+uncounted costs count Memory = inl refl
 
 -- the stages were stopped
 pub stopped_before : {A B : Type 0} (named : List Named) (stage : Files → Stage A) (value_of : B → A) (outputs : A → Output → Type 0) (texts : A → List ℕ → Type 0) (visits : A → ℕ → Type 0) (evaluates : Bool)

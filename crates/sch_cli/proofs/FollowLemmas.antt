@@ -21,6 +21,7 @@ use Rattle.edit_script.specs.declared.fault.ScriptKind.{ScriptKind}
 use Rattle.edit_script.specs.declared.limits.TheConstants.{MAX_SCRIPT_BYTES}
 use Rattle.edit_commands.specs.declared.refusal.ApplyError.{ApplyError}
 use Rattle.edit_commands.specs.declared.refusal.ApplyError.TheVariants as apply
+use Rattle.edit_command_laws.specs.OneEdit.{OneEdit}
 use Rattle.edit_commands.specs.Commands.{IsEdited, RefusesCommand, command_refusal}
 use Rattle.sch_compiled.specs.declared.plan.Plan.{Plan}
 use Rattle.edit_session.specs.Pairs.{has_too_many_pairs, pair_cap_for}
@@ -42,9 +43,10 @@ use Rattle.sch_loading.specs.Stages.{Is, goes, halt_if}
 use Rattle.sch_cli.specs.inner.Followers.{Beginning, Ending, Goes, IsLed, IsReady, IsUndone, Place, in_front_of, treed_by}
 use Rattle.sch_loading.specs.Reads.{EndsAs}
 use Rattle.sch_cli.specs.inner.Carried.{Concludes, Shows}
-use Rattle.sch_cli.specs.inner.Sessions.{IsEvaluated}
+use Rattle.sch_cli.specs.inner.Sessions.{HasCost, IsEvaluated}
 use Rattle.sch_cli.specs.inner.Writing.{IsOfWriting, WroteText}
-use Rattle.sch_cli.proofs.EndLemmas.{concludes_behind, memory_writing}
+use Rattle.sch_cli.proofs.CostLemmas.{costs_same, past_edited, past_refused}
+use Rattle.sch_cli.proofs.EndLemmas.{concludes_behind, memory_writing, on_ok}
 use Rattle.sch_loading.proofs.PartLemmas.{by_cause}
 use Rattle.sch_loading.proofs.SchemaLemmas.{passed}
 
@@ -230,22 +232,49 @@ command_undone at later command apply.Memory old new result cap some undone plan
     subst (λ (r : Result (Unit {0}) Stop). Goes {A = Unit {0}} (in_front_of command at) later old new r) (sym undone.0)
     (subst (λ (log : SinkLog). Goes {A = Unit {0}} (in_front_of command at) later old log (Err Memory)) (sym undone.1) (goes_nowhere (in_front_of command at) later old))
 
+-- what comes behind a command has its visits: where it is accepted
+pub costs_edited : (at session later : Standing) (command : Command) (rest left : Script) → OneEdit → at.tree.pair_cap ≡ pair_cap_for at.plan →
+    command_refusal at.tree command ≡ None → IsEdited at.tree.nodes command session.tree.nodes → session.plan ≡ at.plan →
+    later.plan ≡ session.plan → later.tree ≡ session.tree → left ≡ rest → HasCost at (onto command rest) → HasCost later left
+costs_edited at session later command rest left one_edit cap none makes plan plans trees scripts costs =
+    let more = past_edited at.plan one_edit at.tree.nodes session.tree.nodes command rest (refusal_under at.plan at.tree command cap ∙ none) makes costs in
+    (more.0, costs_same at.plan later.plan session.tree.nodes later.tree.nodes rest left more.0 (sym (plans ∙ plan)) (ap (λ (tree : Contents). tree.nodes) (sym trees)) (sym scripts) more.1)
+
+-- and where it is refused
+pub costs_refused : (at later : Standing) (command : Command) (reason : EditRefusal) (rest left : Script) → at.tree.pair_cap ≡ pair_cap_for at.plan →
+    command_refusal at.tree command ≡ Some reason → later.plan ≡ at.plan → later.tree.nodes ≡ at.tree.nodes → left ≡ rest → HasCost at (onto command rest) → HasCost later left
+costs_refused at later command reason rest left cap some plans trees scripts costs =
+    let more = past_refused at.plan at.tree.nodes command reason rest (refusal_under at.plan at.tree command cap ∙ some) costs in
+    (more.0, costs_same at.plan later.plan at.tree.nodes later.tree.nodes rest left more.0 (sym plans) (sym trees) (sym scripts) more.1)
+
 -- the next place is ready too
 pub ready_after : (at later : Place) (command : Command) → IsReady (in_front_of command at) → later.session.tree.pair_cap ≡ at.session.tree.pair_cap → later.session.plan ≡ at.session.plan →
-    later.number ≡ at.number + 1 → later.script ≡ at.script → IsEvaluated later.session → IsReady later
-ready_after at later command ready caps plans numbers scripts fresh = record {
+    later.number ≡ at.number + 1 → later.script ≡ at.script → HasCost later.session later.script → IsEvaluated later.session → IsReady later
+ready_after at later command ready caps plans numbers scripts costs fresh = record {
   cap = caps ∙ ready.cap ∙ ap pair_cap_for (sym plans);
   few =
       let length_is : length later.script.commands ≡ length at.script.commands = ap (λ (s : Script). length s.commands) scripts in
       omega (arith, ready.few, numbers, length_is);
+  costs = costs;
   fresh = fresh;
 }
 
 -- where the state behind it is written
 pub ready_written : (at later : Place) (command : Command) (result : Result (Unit {0}) Stop) → IsReady (in_front_of command at) → later.session.tree.pair_cap ≡ at.session.tree.pair_cap →
-    later.session.plan ≡ at.session.plan → later.number ≡ at.number + 1 → later.script ≡ at.script → OnOk result (IsEvaluated later.session) → OnOk result (IsReady later)
-ready_written at later command (Ok done) ready caps plans numbers scripts fresh = ready_after at later command ready caps plans numbers scripts fresh
-ready_written at later command (Err stop) ready caps plans numbers scripts fresh = tt
+    later.session.plan ≡ at.session.plan → later.number ≡ at.number + 1 → later.script ≡ at.script → HasCost later.session later.script →
+    OnOk result (IsEvaluated later.session) → OnOk result (IsReady later)
+ready_written at later command (Ok done) ready caps plans numbers scripts costs fresh = ready_after at later command ready caps plans numbers scripts costs fresh
+ready_written at later command (Err stop) ready caps plans numbers scripts costs fresh = tt
+
+-- behind one that is not done
+pub ready_undone : (at later : Place) (command : Command) (error : ApplyError) (old new : SinkLog) (result : Result (Unit {0}) Stop) → IsReady (in_front_of command at) →
+    RefusesCommand at.session.tree command error → IsUndone at.number error old new result → later.session ≡ at.session → later.number ≡ at.number + 1 → later.script ≡ at.script → OnOk result (IsReady later)
+ready_undone at later command (apply.Refused reason) old new result ready some undone sessions numbers scripts =
+    on_ok (IsReady later) result (ready_after at later command ready (ap (λ (s : Standing). s.tree.pair_cap) sessions) (ap (λ (s : Standing). s.plan) sessions) numbers scripts
+    (costs_refused at.session later.session command reason at.script later.script ready.cap some (ap (λ (s : Standing). s.plan) sessions) (ap (λ (s : Standing). s.tree.nodes) sessions) scripts ready.costs)
+    (subst IsEvaluated (sym sessions) ready.fresh))
+ready_undone at later command apply.Memory old new result ready some undone sessions numbers scripts =
+    subst (λ (r : Result (Unit {0}) Stop). OnOk r (IsReady later)) (sym undone.0) tt
 
 -- The commands one after another
 

@@ -1,9 +1,11 @@
 pub mod CarryLemmas
+pub mod CostLemmas
 pub mod EndLemmas
 pub mod EventLemmas
 pub mod FollowLemmas
 pub mod RunLemmas
 pub mod OneOutput
+pub mod ScriptCases
 pub mod SessionLemmas
 pub mod StepLemmas
 pub mod MeasureLemmas

@@ -41,18 +41,19 @@ use Rattle.sch_cli.specs.Behaviours.{Making, Measures, MeasuresText, OpeningAll,
 use Rattle.sch_cli.specs.Following.{Follows, comes_to_end, stops_at, then_shown}
 use Rattle.sch_cli.specs.Measuring.{LeadsTo, measure_text, measured_as, past_edited, past_refused, to_a_fault, to_the_end}
 use Rattle.sch_cli.specs.Output.{ended, in_front, status_shown}
+use Rattle.sch_cli.specs.Steps.{CountsAtMost}
 use Rattle.sch_cli.specs.inner.Carried.{Concludes}
-use Rattle.sch_cli.specs.inner.Counts.{CountsAlong, CountsOn, RoseFor}
+use Rattle.sch_cli.specs.inner.Counts.{CountsAlong, RoseFor}
 use Rattle.sch_cli.specs.inner.Followers.{Ending, Place, in_front_of, scripted_by}
 use Rattle.sch_cli.specs.inner.Measurers.{ConcludesMeasure, IsUnderWay, Moved, MovesTo, RestMeasured, StopsAt, is_fault, measured_of, place_at, text_of_both}
-use Rattle.sch_cli.specs.inner.Sessions.{IsEvaluated, next_cost}
+use Rattle.sch_cli.specs.inner.Sessions.{HasCost, IsEvaluated, ScriptCost, next_cost}
 use Rattle.sch_cli.specs.inner.Writing.{IsOfWriting, WroteText}
 use Rattle.sch_cli.specs.declared.following.Scripted.{Scripted}
 use Rattle.sch_cli.specs.declared.measuring.Measured.{Measured}
 use Rattle.sch_cli.specs.declared.measuring.Measurer.{Measurer}
 use Rattle.sch_cli.proofs.EndLemmas.{text_ends}
 use Rattle.sch_cli.proofs.FollowLemmas.{IsPlace, follows_same, led_edited, led_on, led_refused, led_same, next_command, refusal_under}
-use Rattle.sch_cli.proofs.StepLemmas.{costed_edited, costed_on, costed_refused, costed_to_next, not_costed, rest_stops_counting, unsaid}
+use Rattle.sch_cli.proofs.StepLemmas.{ahead_none, ahead_on, costed_edited, costed_on, costed_refused, costed_to_next, not_costed}
 use Rattle.sch_cli.proofs.SessionLemmas.{RunsDirty}
 
 -- Faults among what is shown
@@ -206,16 +207,35 @@ moves-next first at later mid next command before start after number seen is say
 
 -- the script has a fault, or memory runs out in front of a command
 pub stops-there : (first at later : Measurer) (before after : ℕ) (number : ℕ) (seen : Shown) (error : ScriptError) (stop : Stop) (result : Result (Unit {0}) Stop) → result ≡ Err stop → stop ≡ of_script error →
-    IfFault (λ found. script_left at.script ≡ stops found) error → MovesTo (place_at first number seen) at before after → RestMeasured (place_at first number seen) later before after result
-stops-there first at later before after number seen error stop result is says found so_far =
-    subst (RestMeasured (place_at first number seen) later before after) (sym is) (error, says, by error found)
+    IfFault (λ found. script_left at.script ≡ stops found) error → HasCost at.session (script_left at.script) → MovesTo (place_at first number seen) at before after →
+    RestMeasured (place_at first number seen) later before after result
+stops-there first at later before after number seen error stop result is says found costs so_far =
+    let there = place_at at so_far.number so_far.seen in
+    subst (RestMeasured (place_at first number seen) later before after) (sym is)
+    (error, says, by error found, ahead_on (place_at first number seen) there before after after so_far.moved.costed (ahead_none there after costs))
   where
     by : (error : ScriptError) → IfFault (λ found. script_left at.script ≡ stops found) error → IfFault (StopsAt (place_at first number seen) before after) error
     by (script.Fault fault) found = record { later = place_at at so_far.number so_far.seen; moved = so_far.moved; stopped = found }
     by script.Memory found = tt
 
-pub stops-for-memory : (earlier : Place) (later : Measurer) (before after : ℕ) (stop : Stop) (result : Result (Unit {0}) Stop) → result ≡ Err stop → stop ≡ Memory → RestMeasured earlier later before after result
-stops-for-memory earlier later before after stop result is memory = subst (RestMeasured earlier later before after) (sym is) (script.Memory, memory, tt)
+-- memory runs out at a command
+pub stops-for-memory : (first at later : Measurer) (mid : Script) (next : Option Edit) (command : Edit) (before start after : ℕ) (number : ℕ) (seen : Shown) (stop : Stop) (result : Result (Unit {0}) Stop) →
+    result ≡ Err stop → stop ≡ Memory → next ≡ Some command → IfSome next (λ c. script_left at.script ≡ onto c mid) → MovesTo (place_at first number seen) at before start →
+    CountsAtMost (ScriptCost at.session (onto command mid)) start after → RestMeasured (place_at first number seen) later before after result
+stops-for-memory first at later mid next command before start after number seen stop result is memory some says so_far ahead =
+    let there = place_at at so_far.number so_far.seen in
+    subst (RestMeasured (place_at first number seen) later before after) (sym is) (
+      script.Memory,
+      memory,
+      tt,
+      ahead_on (place_at first number seen) (in_front_of command (record there { script = mid })) before start after
+          (costed_to_next (place_at first number seen) there mid next command before start some says so_far.moved.costed) ahead,
+    )
+
+-- the script in front of a command that is next has its visits
+pub costs-next : (session : Standing) (script mid : Script) (next : Option Edit) (command : Edit) → next ≡ Some command → IfSome next (λ c. script ≡ onto c mid) → HasCost session script →
+    HasCost session (onto command mid)
+costs-next session script mid next command is says = subst (HasCost session) (next_command next command script mid is says)
 
 -- The whole
 
@@ -303,29 +323,20 @@ pub without-memory : (P : Output → Type 0) (Q : List ℕ → Type 0) (log : Si
     Concludes P (λ _. ⊥) Q (Appends log.written log.written) result
 without-memory P Q log stop result is memory = subst (Concludes P (λ _. ⊥) Q (Appends log.written log.written)) (sym (is ∙ ap Err memory)) (inl (Appends-nil log.written))
 
-pub uncounted-memory : (costs : ℕ → Type 0) (before after : ℕ) (stop : Stop) (result : Result Shown Stop) → result ≡ Err stop → stop ≡ Memory → CountsAlong costs before after result
-uncounted-memory costs before after stop result is memory = subst (CountsAlong costs before after) (sym (is ∙ ap Err memory)) tt
-
 -- what was measured to the end of the script is counted, also where a write failed
 pub counts-end : (costs : ℕ → Type 0) (before after : ℕ) (seen : Shown) (faulted : Bool) (old new : SinkLog) (text : List ℕ) (result : Result Shown Stop) → CountsAlong costs before after (Ok seen) → faulted ≡ is_fault seen →
     ConcludesMeasure faulted old new text result → CountsAlong costs before after result
 counts-end costs before after seen faulted old new text result counts is concludes = by seen counts (subst (λ (t : Bool). ConcludesMeasure t old new text result) is concludes)
   where
-    clean : (result : Result Shown Stop) → CountsAlong costs before after (Ok Clean) → WroteText old new text result → IfOk result (λ last. last ≡ Clean) → CountsAlong costs before after result
-    clean (Ok last) counts wrote last_is = subst (λ (s : Shown). CountsAlong costs before after (Ok s)) (sym last_is) counts
-    clean (Err stop) counts wrote last_is = unsaid (λ _. ⊥) _ _ costs before after stop wrote.told
+    clean : (result : Result Shown Stop) → CountsAlong costs before after (Ok Clean) → IfOk result (λ last. last ≡ Clean) → CountsAlong costs before after result
+    clean (Ok last) counts last_is = subst (λ (s : Shown). CountsAlong costs before after (Ok s)) (sym last_is) counts
+    clean (Err stop) counts last_is = (counts.0, counts.1, counts.2.at_most)
 
     by : (seen : Shown) → CountsAlong costs before after (Ok seen) → ConcludesMeasure (is_fault seen) old new text result → CountsAlong costs before after result
-    by Clean counts ends = clean result counts ends.0 ends.1
+    by Clean counts ends = clean result counts ends.1
     by Findings counts ends =
-        clean result (counts.0, counts.1, record { at_most = counts.2.at_most; exactly = λ whole. counts.2.exactly (λ is. true≢false (sym (ap is_fault is))) }) ends.0 ends.1
+        clean result (counts.0, counts.1, record { at_most = counts.2.at_most; exactly = λ whole. counts.2.exactly (λ is. true≢false (sym (ap is_fault is))) }) ends.1
     by Fault counts ends = subst (CountsAlong costs before after) (sym ends.0) counts
-
-pub counts-stopped : (first : Place) (before after : ℕ) (error : ScriptError) (stop : Stop) (result : Result Shown Stop) → result ≡ Err stop → stop ≡ of_script error →
-    IfFault (StopsAt first before after) error → CountsOn first before after result
-counts-stopped first before after (script.Fault fault) stop result is says at =
-    rest_stops_counting first at.later before after at.moved.costed (script.Fault fault) stop result is says at.stopped
-counts-stopped first before after script.Memory stop result is says at = subst (CountsOn first before after) (sym (is ∙ ap Err says)) (λ amount start was. tt)
 
 -- a run that concludes so has written what it has to write
 pub concludes-writing : (faulted : Bool) (old new : SinkLog) (text : List ℕ) (result : Result Shown Stop) → ConcludesMeasure faulted old new text result → IfErr result IsOfWriting

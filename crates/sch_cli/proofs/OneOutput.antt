@@ -47,6 +47,7 @@ use Rattle.sch_loading.specs.Loading.{Compiling, Expanding, Fetching, Flattening
 use Rattle.sch_stops.specs.Output.{Output, stopped, usage_line}
 use Rattle.sch_cli.specs.Output.{expanded, in_front, notice_output, state}
 use Rattle.sch_loading.specs.Stages.{Came, Is, Stage, Then, goes, halt_at, halt_if, halts, unread}
+use Rattle.sch_cli.proofs.ScriptCases.{command-same, ends-or-goes, ends-or-stops, refused-or-none, refused-same, stops-or-goes}
 use Rattle.sch_loading.proofs.StageLemmas.{IsDecided, Single, no_unread, one-by, one-is, one-then}
 
 -- a file is one tree, or has one first fault
@@ -56,32 +57,9 @@ no-fault bytes T fault d is = let none : doc_fault bytes ≡ None = d.sound in c
 same-fault : (bytes : List ℕ) (fault other : DocFault) → doc_fault bytes ≡ Some fault → doc_fault bytes ≡ Some other → fault ≡ other
 same-fault bytes fault other p q = cc
 
--- a script is at its end, or has a fault, or a command comes first
-ends-or-stops : (fault : ScriptFault) → nothing ≡ stops fault → ⊥
-ends-or-stops fault same = let faults : None ≡ Some fault = ap (λ (s : Script). s.fault) same in cc
-
-ends-or-goes : (command : EditCommand) (rest : Script) → nothing ≡ onto command rest → ⊥
-ends-or-goes command rest same = let commands : [] ≡ command ∷ rest.commands = ap (λ (s : Script). s.commands) same in cc
-
-stops-or-goes : (fault : ScriptFault) (command : EditCommand) (rest : Script) → stops fault ≡ onto command rest → ⊥
-stops-or-goes fault command rest same = let commands : [] ≡ command ∷ rest.commands = ap (λ (s : Script). s.commands) same in cc
-
+-- a script that stops has one fault
 fault-same : (fault other : ScriptFault) → stops fault ≡ stops other → fault ≡ other
 fault-same fault other same = let faults : Some fault ≡ Some other = ap (λ (s : Script). s.fault) same in cc
-
-command-same : (command other : EditCommand) (rest more : Script) → onto command rest ≡ onto other more → (command ≡ other) × (rest ≡ more)
-command-same command other rest more same =
-    let commands : command ∷ rest.commands ≡ other ∷ more.commands = ap (λ (s : Script). s.commands) same in
-    let first : command ≡ other = cc in
-    let others : rest.commands ≡ more.commands = cc in
-    let faults : rest.fault ≡ more.fault = ap (λ (s : Script). s.fault) same in
-    (first, ap (λ (cs : List EditCommand). record { commands = cs; fault = rest.fault }) others ∙ ap (λ (f : Option ScriptFault). record { commands = more.commands; fault = f }) faults)
-
-refused-same : {o : Option EditRefusal} {a b : EditRefusal} → o ≡ Some a → o ≡ Some b → a ≡ b
-refused-same p q = cc
-
-refused-or-none : {o : Option EditRefusal} {a : EditRefusal} → o ≡ Some a → o ≡ None → ⊥
-refused-or-none p q = cc
 
 -- what follows from a place is one output
 module _ (one_edit : OneEdit) (plan : Plan) where

@@ -60,7 +60,7 @@ carries_nothing words state log count is = subst (λ (asked : Option Command). C
     err_is = refl;
     out = Appends-nil log.written;
   };
-  counted = λ files told. tt;
+  counted = λ files told. refl;
   faults = refl;
   misses = refl;
   write_faults = refl;

@@ -1,15 +1,12 @@
 -- What a run counts.
-use Rattle.std.proofs.Common.{◌∙◌, ◌≡◌, ℕ, ◌+◌, ◌≤◌, inl, inr, Bool, true, false, List, IfOk, IfSome, OnOk, Option, None, Some, Result, Ok, Err, refl, ap, sym, subst, arith, true≢false}
+use Rattle.std.proofs.Common.{◌∙◌, ◌≡◌, ℕ, ◌+◌, ◌≤◌, inl, inr, Bool, true, false, List, IfErr, IfOk, IfSome, OnOk, Option, None, Some, Result, Ok, Err, refl, ap, sym, subst, arith, true≢false}
 use Rattle.sch_io.specs.Files.{Files}
 use Rattle.sch_io.specs.SinkLog.{SinkLog}
-use Rattle.sch_io.specs.Wrote.{Appends}
 use Rattle.doc_tree.specs.Table.{Contents, Table}
 use Rattle.doc_tree.specs.declared.refusal.EditRefusal.{EditRefusal}
-use Rattle.edit_script.specs.Faults.{IfFault}
-use Rattle.edit_script.specs.Script.{Script, nothing, onto, script_of, stops}
+use Rattle.edit_script.specs.Script.{Script, nothing, onto, script_of}
 use Rattle.edit_script.specs.declared.command.Command.{Command as Edit}
-use Rattle.edit_script.specs.declared.fault.ScriptError.{ScriptError}
-use Rattle.edit_script.specs.declared.fault.ScriptError.TheVariants as script
+use Rattle.edit_command_laws.specs.OneEdit.{OneEdit}
 use Rattle.edit_commands.specs.Commands.{IsEdited, RefusesCommand, command_refusal}
 use Rattle.edit_commands.specs.declared.refusal.ApplyError.{ApplyError}
 use Rattle.edit_commands.specs.declared.refusal.ApplyError.TheVariants as apply
@@ -24,15 +21,15 @@ use Rattle.sch_stops.specs.declared.stop.Stop.{Stop}
 use Rattle.sch_stops.specs.declared.stop.Stop.TheVariants.{Usage, SchemaRefused, DocumentRefused, ScriptRefused, Missing, ReadFault, WriteFault, Memory}
 use Rattle.sch_cli.specs.Behaviours.{StatesCost, asked_by}
 use Rattle.sch_cli.specs.Following.{then_shown}
-use Rattle.sch_cli.specs.Runs.{AppendsFront, Costs, CountsOver, Fronted}
-use Rattle.sch_cli.specs.Steps.{CountsBy, EditsCost, at_a_fault, at_the_end, edit_cost, first_cost, of_edited, of_refused}
+use Rattle.sch_cli.specs.Runs.{Costs, CountsOver}
+use Rattle.sch_cli.specs.Steps.{CountsBy, EditsCost, at_the_end, edit_cost, first_cost, of_edited, of_refused}
 use Rattle.sch_cli.specs.inner.Carried.{Visits, status_of_end}
-use Rattle.sch_cli.specs.inner.Counts.{CostOn, CountsAlong, CountsOn, IsCosted, RoseFor}
-use Rattle.sch_cli.specs.inner.Followers.{Beginning, Goes, IsUndone, Place, in_front_of}
-use Rattle.sch_stops.specs.Stops.{ByCause, of_script}
-use Rattle.sch_cli.specs.inner.Sessions.{IsUnevaluated, next_cost}
-use Rattle.sch_cli.specs.inner.Writing.{WroteText}
-use Rattle.sch_cli.proofs.CarryLemmas.{counts_in}
+use Rattle.sch_cli.specs.inner.Counts.{CostOn, CountsAhead, CountsAlong, CountsOn, IsCosted, RoseFor}
+use Rattle.sch_cli.specs.inner.Followers.{IsUndone, Place, in_front_of}
+use Rattle.sch_cli.specs.inner.Sessions.{HasCost, IsUnevaluated, next_cost}
+use Rattle.sch_cli.specs.inner.Writing.{IsOfWriting}
+use Rattle.sch_cli.proofs.CarryLemmas.{counts_in, uncounted}
+use Rattle.sch_cli.proofs.CostLemmas.{costs_same, past_edited}
 use Rattle.sch_cli.proofs.EndLemmas.{on_ok}
 use Rattle.sch_cli.proofs.FollowLemmas.{next_command, refusal_under}
 use Rattle.sch_cli.proofs.SessionLemmas.{RunsDirty, first-is, next-is-edit}
@@ -78,13 +75,6 @@ rose_then first more start before after seen next later is rose was = record {
       let b : after ≡ before + more = rose.exactly (not_next seen next (λ e. whole (is ∙ e))) in
       omega (arith, a, b);
 }
-
--- what it costs does not depend on how a place is told
-costs_same : (plan other : Plan) (T U : Table) (script rest : Script) (cost : ℕ) → plan ≡ other → T ≡ U → script ≡ rest → EditsCost plan T script cost → EditsCost other U rest cost
-costs_same plan other T U script rest cost plans trees scripts costs =
-    subst (λ (s : Script). EditsCost other U s cost) scripts
-    (subst (λ (X : Table). EditsCost other X script cost) trees
-    (subst (λ (p : Plan). EditsCost p T script cost) plans costs))
 
 -- Commands
 
@@ -139,6 +129,20 @@ costed_undone at later command (apply.Refused reason) old new result count cap s
 costed_undone at later command apply.Memory old new result count cap some undone plans trees scripts seen =
     subst (λ (r : Result (Unit {0}) Stop). OnOk r (IsCosted (in_front_of command at) later count count)) (sym undone.0) tt
 
+-- what comes of a command counts at most the visits of what is to come: where it is accepted
+pub ahead_edited : (at : Place) (command : Edit) (session : Standing) (before after : ℕ) → OneEdit → at.session.tree.pair_cap ≡ pair_cap_for at.session.plan →
+    command_refusal at.session.tree command ≡ None → IsEdited at.session.tree.nodes command session.tree.nodes →
+    session.plan ≡ at.session.plan → RunsDirty at.session.plan at.session.tree.nodes command session →
+    HasCost at.session (onto command at.script) → after ≤ before + next_cost session → CountsAhead (in_front_of command at) before after
+ahead_edited at command session before after one_edit cap none makes plan dirty costs at_most =
+    let free = refusal_under at.session.plan at.session.tree command cap ∙ none in
+    let rest = past_edited at.session.plan one_edit at.session.tree.nodes session.tree.nodes command at.script free makes costs in
+    let first : next_cost session ≡ edit_cost at.session.plan at.session.tree.nodes command session.tree.nodes = next-is-edit at.session.plan at.session.tree.nodes command session plan dirty in (
+      edit_cost at.session.plan at.session.tree.nodes command session.tree.nodes + rest.0,
+      of_edited at.session.tree.nodes session.tree.nodes command at.script rest.0 free makes rest.1,
+      omega (arith, at_most, first),
+    )
+
 -- The commands one after another
 
 pub not_costed : (at : Place) (count : ℕ) → IsCosted at at count count
@@ -184,87 +188,60 @@ rest_counts earlier later before after costed none = λ first start was.
     let costs = all_cost earlier later before after first costed (subst (λ (s : Script). EditsCost later.session.plan later.session.tree.nodes s 0) (sym none) (at_the_end later.session.tree.nodes)) in
     (first + costed.cost, costs, costed.rose first start was)
 
--- the script has a fault, or memory runs out
-pub rest_stops_counting : (earlier later : Place) (before after : ℕ) → IsCosted earlier later before after → (error : ScriptError) (stop : Stop) (result : Result Shown Stop) → result ≡ Err stop → stop ≡ of_script error →
-    IfFault (λ found. later.script ≡ stops found) error → CountsOn earlier before after result
-rest_stops_counting earlier later before after costed error stop result is says found = subst (CountsOn earlier before after) (sym (is ∙ ap Err says)) (by error found)
-  where
-    by : (error : ScriptError) → IfFault (λ found. later.script ≡ stops found) error → CountsOn earlier before after (Err (of_script error))
-    by (script.Fault fault) found = λ first start was.
-        let costs = all_cost earlier later before after first costed
-        (subst (λ (s : Script). EditsCost later.session.plan later.session.tree.nodes s 0) (sym found) (at_a_fault later.session.tree.nodes fault)) in
-        let rose = costed.rose first start was in
-        (first + costed.cost, costs, rose.at_most)
-    by script.Memory found = λ first start was. tt
+-- what counts at most the visits of what is to come
+pub ahead_none : (at : Place) (count : ℕ) → HasCost at.session at.script → CountsAhead at count count
+ahead_none at count costs = (costs.0, costs.1, omega arith)
 
--- where the writing stops, nothing is said
-pub unsaid : (R : List ℕ → Type 0) (W M : Type 0) (costs : ℕ → Type 0) (before after : ℕ) (stop : Stop) → ByCause (λ _. ⊥) R W M stop → CountsAlong costs before after (Err stop)
-unsaid R W M costs before after Usage says = tt
-unsaid R W M costs before after (SchemaRefused refusal) says = tt
-unsaid R W M costs before after (DocumentRefused refusal) says = tt
-unsaid R W M costs before after (ScriptRefused refusal) says = absurd says
-unsaid R W M costs before after (Missing name) says = tt
-unsaid R W M costs before after (ReadFault name) says = tt
-unsaid R W M costs before after WriteFault says = tt
-unsaid R W M costs before after Memory says = tt
+-- also behind what was done
+pub ahead_on : (earlier later : Place) (before mid after : ℕ) → IsCosted earlier later before mid → CountsAhead later mid after → CountsAhead earlier before after
+ahead_on earlier later before mid after costed ahead =
+    let rose = costed.rose 0 before (record { at_most = omega arith; exactly = λ whole. omega arith }) in
+    let so_far : mid ≤ before + (0 + costed.cost) = rose.at_most in
+    let more : after ≤ mid + ahead.0 = ahead.2 in
+    (costed.cost + ahead.0, costed.led ahead.0 ahead.1, omega (arith, so_far, more))
 
-pub command_stops_counting : {A : Type 0} (earlier before later : Place) (mid new : SinkLog) (old after : ℕ) (stop : Stop) (result : Result Shown Stop) → result ≡ Err stop →
-    Goes {A = A} before later mid new (Err stop) → CountsOn earlier old after result
-command_stops_counting earlier before later mid new old after stop result is goes = subst (CountsOn earlier old after) (sym is)
-    (λ first start was. unsaid (λ _. ⊥) (Fronted (Beginning before) (Appends mid.written new.written)) (Fronted (Beginning before) (Appends mid.written new.written)) (CostOn earlier first) start after stop goes.told)
+-- the rest is stopped
+pub ahead_stops : (at : Place) (before after : ℕ) (stop : Stop) (result : Result Shown Stop) → result ≡ Err stop → CountsAhead at before after → CountsOn at before after result
+ahead_stops at before after stop result is ahead = subst (CountsOn at before after) (sym is) (λ first start was.
+    let so_far : before ≤ start + first = was.at_most in
+    let more : after ≤ before + ahead.0 = ahead.2 in
+    (first + ahead.0, (ahead.0, ahead.1, refl), omega (arith, so_far, more)))
 
 -- The whole
 
 along_as : (A B : ℕ → Type 0) (before after : ℕ) (result : Result Shown Stop) → ((cost : ℕ) → A cost → B cost) → CountsAlong A before after result → CountsAlong B before after result
 along_as A B before after (Ok seen) gives counts = (counts.0, gives counts.0 counts.1, counts.2)
-along_as A B before after (Err Usage) gives counts = tt
-along_as A B before after (Err (SchemaRefused refusal)) gives counts = tt
-along_as A B before after (Err (DocumentRefused refusal)) gives counts = tt
-along_as A B before after (Err (ScriptRefused refusal)) gives counts = (counts.0, gives counts.0 counts.1, counts.2)
-along_as A B before after (Err (Missing name)) gives counts = tt
-along_as A B before after (Err (ReadFault name)) gives counts = tt
-along_as A B before after (Err WriteFault) gives counts = tt
-along_as A B before after (Err Memory) gives counts = tt
+along_as A B before after (Err stop) gives counts = (counts.0, gives counts.0 counts.1, counts.2)
 
--- by the status of the run
-pub along_by : (costs : ℕ → Type 0) (before after : ℕ) (result : Result Shown Stop) → CountsAlong costs before after result → CountsBy costs (status_of_end result) before after
-along_by costs before after (Ok Clean) counts = (counts.0, counts.1, counts.2.exactly (no_fault Clean refl))
-along_by costs before after (Ok Findings) counts = (counts.0, counts.1, counts.2.exactly (no_fault Findings refl))
-along_by costs before after (Ok Fault) counts = (counts.0, counts.1, counts.2.at_most)
-along_by costs before after (Err Usage) counts = tt
-along_by costs before after (Err (SchemaRefused refusal)) counts = tt
-along_by costs before after (Err (DocumentRefused refusal)) counts = tt
-along_by costs before after (Err (ScriptRefused refusal)) counts = inr counts
-along_by costs before after (Err (Missing name)) counts = tt
-along_by costs before after (Err (ReadFault name)) counts = tt
-along_by costs before after (Err WriteFault) counts = tt
-along_by costs before after (Err Memory) counts = tt
-
--- a run that was stopped before its first state
-still : (costs : ℕ → Type 0) (count : ℕ) (stop : Stop) → CountsBy costs (status_of_end (Err stop)) count count
-still costs count Usage = tt
-still costs count (SchemaRefused refusal) = tt
-still costs count (DocumentRefused refusal) = tt
-still costs count (ScriptRefused refusal) = inl refl
-still costs count (Missing name) = tt
-still costs count (ReadFault name) = tt
-still costs count WriteFault = tt
-still costs count Memory = tt
+-- by the status of the run, which stops where it writes
+pub along_by : (costs : ℕ → Type 0) (before after : ℕ) (result : Result Shown Stop) → IfErr result IsOfWriting → CountsAlong costs before after result → CountsBy costs (status_of_end result) before after
+along_by costs before after (Ok Clean) writing counts = (counts.0, counts.1, counts.2.exactly (no_fault Clean refl))
+along_by costs before after (Ok Findings) writing counts = (counts.0, counts.1, counts.2.exactly (no_fault Findings refl))
+along_by costs before after (Ok Fault) writing counts = (counts.0, counts.1, counts.2.at_most)
+along_by costs before after (Err (ScriptRefused refusal)) writing counts = inr counts
+along_by costs before after (Err WriteFault) writing counts = inr counts
+along_by costs before after (Err Memory) writing counts = inr counts
+along_by costs before after (Err Usage) writing counts = absurd (true≢false (sym writing.writes))
+along_by costs before after (Err (SchemaRefused refusal)) writing counts = absurd (true≢false (sym writing.writes))
+along_by costs before after (Err (DocumentRefused refusal)) writing counts = absurd (true≢false (sym writing.writes))
+along_by costs before after (Err (Missing name)) writing counts = absurd (true≢false (sym writing.writes))
+along_by costs before after (Err (ReadFault name)) writing counts = absurd (true≢false (sym writing.writes))
 
 -- the first state costs the visits of all units
-pub state_counts : (plan : Plan) (T : Table) (text : List ℕ) (old new : SinkLog) (before after : ℕ) (result : Result Shown Stop) →
-    IfOk result (RoseFor (first_cost plan T) before after) → WroteText old new text result → CountsBy (λ cost. cost ≡ first_cost plan T) (status_of_end result) before after
-state_counts plan T text old new before after result rose wrote = along_by (λ cost. cost ≡ first_cost plan T) before after result (by result rose wrote)
+pub state_counts : (plan : Plan) (T : Table) (before after : ℕ) (result : Result Shown Stop) → IfErr result IsOfWriting →
+    IfOk result (RoseFor (first_cost plan T) before after) → after ≤ before + first_cost plan T → CountsBy (λ cost. cost ≡ first_cost plan T) (status_of_end result) before after
+state_counts plan T before after result writing rose at_most = along_by (λ cost. cost ≡ first_cost plan T) before after result writing (by result rose)
   where
-    by : (result : Result Shown Stop) → IfOk result (RoseFor (first_cost plan T) before after) → WroteText old new text result → CountsAlong (λ cost. cost ≡ first_cost plan T) before after result
-    by (Ok seen) rose wrote = (first_cost plan T, refl, rose)
-    by (Err stop) rose wrote =
-        unsaid (λ _. ⊥) (AppendsFront old.written new.written text) (AppendsFront old.written new.written text) (λ cost. cost ≡ first_cost plan T) before after stop wrote.told
+    by : (result : Result Shown Stop) → IfOk result (RoseFor (first_cost plan T) before after) → CountsAlong (λ cost. cost ≡ first_cost plan T) before after result
+    by (Ok seen) rose = (first_cost plan T, refl, rose)
+    by (Err stop) rose = (first_cost plan T, refl, at_most)
 
--- the first state of a script that is not written whole
-pub first_unsaid : (plan : Plan) (T : Table) (bytes text : List ℕ) (old new : SinkLog) (before after : ℕ) (stop : Stop) (result : Result Shown Stop) → result ≡ Err stop →
-    WroteText {A = Shown} old new text (Err stop) → CountsAlong (StatesCost plan T bytes) before after result
-first_unsaid plan T bytes text old new before after stop result is wrote = subst (CountsAlong (StatesCost plan T bytes) before after) (sym is) (unsaid (λ _. ⊥) (AppendsFront old.written new.written text) (AppendsFront old.written new.written text) (StatesCost plan T bytes) before after stop wrote.told)
+-- the first state of a script does not come to its end
+pub first_counts : (session : Standing) (bytes : List ℕ) (before after : ℕ) (stop : Stop) (result : Result Shown Stop) → result ≡ Err stop → IsUnevaluated session →
+    HasCost session (script_of bytes) → after ≤ before + next_cost session → CountsAlong (StatesCost session.plan session.tree.nodes bytes) before after result
+first_counts session bytes before after stop result is none costs at_most = subst (CountsAlong (StatesCost session.plan session.tree.nodes bytes) before after) (sym is)
+    (let first : next_cost session ≡ first_cost session.plan session.tree.nodes = first-is session none in
+    (first_cost session.plan session.tree.nodes + costs.0, (costs.0, costs.1, refl), omega (arith, at_most, first)))
 
 -- the states, the first of which was written
 pub states_count : (session : Standing) (bytes : List ℕ) (first : Place) (before mid after : ℕ) (result : Result Shown Stop) → IsUnevaluated session →
@@ -286,7 +263,7 @@ pub none_counted : (count : ℕ) (result : Result Shown Stop) → CountsBy (λ c
 none_counted count (Ok Clean) = (0, refl, omega arith)
 none_counted count (Ok Findings) = (0, refl, omega arith)
 none_counted count (Ok Fault) = (0, refl, omega arith)
-none_counted count (Err stop) = still (λ cost. cost ≡ 0) count stop
+none_counted count (Err stop) = uncounted (λ cost. cost ≡ 0) count stop
 
 -- what a run counts by the files that it opened is what it counts
 pub run_counts : (words : List (List ℕ)) (files : Option Files) (opened : List (List ℕ)) (ends : Status) (result : Result Shown Stop) (before after : ℕ) → ends ≡ status_of_end result →

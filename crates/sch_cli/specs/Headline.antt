@@ -9,5 +9,5 @@ pub record Headline (files : Option Files) (words : List (List ℕ)) (opens : Li
   -- the run ends as the files and words say: a report is the standard's of the tree as it stands, at the start and after each accepted edit
   pub whole : Ends files words opens written told status
   -- and the count of steps rises by the visits of all units for the first state, and for an accepted edit by those of the units that
-  -- are new or whose reads it touched; where an evaluation faults it may rise by less
+  -- are new or whose reads it touched; where an evaluation faults, or the run is stopped, it may rise by less
   pub counted : CountsOver files words status before after

@@ -13,7 +13,7 @@ use Rattle.edit_costs.specs.Costs.{cost_of}
 use Rattle.edit_costs.specs.Dirty.{dirty_units}
 use Rattle.edit_costs.specs.Units.{units_of}
 use Rattle.sch_words.specs.declared.status.Status.{Status}
-use Rattle.sch_words.specs.declared.status.Status.TheVariants.{Clean, Findings, ScriptRefused, Faulted}
+use Rattle.sch_words.specs.declared.status.Status.TheVariants.{Clean, Findings, ScriptRefused, Faulted, WriteFault, Memory}
 use Rattle.sch_cli.specs.Following.{under}
 
 -- the visits for the first state of a document: of all units
@@ -42,11 +42,17 @@ CountsAll costs before after = (cost : ℕ) × costs cost × (after ≡ before +
 abbrev pub CountsAtMost : (ℕ → Type 0) → ℕ → ℕ → Type 0
 CountsAtMost costs before after = (cost : ℕ) × costs cost × (after ≤ before + cost)
 
+-- a run that is stopped may be so before its first state, which leaves the count; else these count at most
+abbrev pub CountsStopped : (ℕ → Type 0) → ℕ → ℕ → Type 0
+CountsStopped costs before after = (after ≡ before) ⊎ CountsAtMost costs before after
+
 -- what a status says of the count of steps, by the visits: these exactly where no evaluation faults, and at most these where one does;
--- a script that is refused may be so before its first state
+-- a script that is refused, a write that fails and want of memory may stop a run at any state, and what else stops one leaves the count
 abbrev pub CountsBy : (ℕ → Type 0) → Status → ℕ → ℕ → Type 0
 CountsBy costs Clean before after = CountsAll costs before after
 CountsBy costs Findings before after = CountsAll costs before after
 CountsBy costs Faulted before after = CountsAtMost costs before after
-CountsBy costs ScriptRefused before after = (after ≡ before) ⊎ CountsAtMost costs before after
-CountsBy costs status before after = Unit {0}
+CountsBy costs ScriptRefused before after = CountsStopped costs before after
+CountsBy costs WriteFault before after = CountsStopped costs before after
+CountsBy costs Memory before after = CountsStopped costs before after
+CountsBy costs status before after = after ≡ before

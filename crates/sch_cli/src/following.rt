@@ -2,6 +2,7 @@
 
 ghost use Rattle.std.specs.Prelude.{◌≡◌, ◌≤◌, ◌+◌, ◌<◌, ◌^◌, ◌++◌, false, [], ◌∷◌, Some, IfErr, IfOk, OnOk, length};
 ghost use Rattle.sch_io.specs.Wrote.{Appends};
+ghost use Rattle.edit_script.specs.Script.{script_of};
 ghost use Rattle.edit_script.specs.WellFormed.{WellFormedCommand};
 ghost use Rattle.edit_script.specs.declared.limits.TheConstants.{MAX_SCRIPT_BYTES};
 ghost use Rattle.edit_session.specs.Pairs.{pair_cap_for};
@@ -14,13 +15,14 @@ ghost use Rattle.sch_stops.specs.EditLines.{edit_line, refused_line};
 ghost use Rattle.sch_cli.specs.Following.{then_shown};
 ghost use Rattle.sch_stops.specs.Stops.{counted_if, ends_with};
 ghost use Rattle.sch_cli.specs.inner.Carried.{Carried, Concludes};
-ghost use Rattle.sch_cli.specs.inner.Counts.{CountsAlong, CountsOn, IsCosted, RoseFor};
+ghost use Rattle.sch_cli.specs.inner.Counts.{CountsAhead, CountsAlong, CountsOn, IsCosted, RoseFor};
 ghost use Rattle.sch_cli.specs.inner.Followers.{Beginning, Ending, Goes, IsReady, IsUndone, in_front_of, place_of, scripted_by};
-ghost use Rattle.sch_cli.specs.inner.Sessions.{IsEvaluated, IsUnevaluated, next_cost};
+ghost use Rattle.sch_cli.specs.inner.Sessions.{HasCost, IsEvaluated, IsUnevaluated, next_cost};
 ghost use Rattle.sch_cli.specs.inner.Writing.{IsOfWriting, WroteText};
 
 use crate::validation::{load_asked, write_state};
 use doc_tree::EditRefusal;
+use edit_command_laws::{edits_keep_trees, edits_make_trees, one_edit, scripts_are_well_formed};
 use edit_commands::ApplyError;
 use edit_script::{Command, ScriptReader};
 use edit_session::{Session, Shown};
@@ -82,6 +84,17 @@ pub(crate) fn load_scripted<S: Shelf>(
     }
 }
 
+/// The commands of a script that is not too long have their visits: an accepted one makes a document. Costs nothing.
+pub(crate) fn script_has_cost(session: &Session, script: &[u8])
+    requires { length script.now ≤ MAX_SCRIPT_BYTES }
+    ensures { HasCost session.now (script_of script.now) }
+{
+    session.laws();
+    edits_make_trees();
+    edits_keep_trees();
+    scripts_are_well_formed();
+}
+
 /// Writes the state of a document, and what comes of each command of a script; answers what the states show.
 fn write_states<O: Sink, L: Ledger>(
     alloc: Global,
@@ -100,6 +113,7 @@ fn write_states<O: Sink, L: Ledger>(
     ensures counted { CountsAlong (StatesCost session.plan session.tree.nodes script.now) steps.old steps.new result }
     ensures steps { steps.old ≤ steps.new }
 {
+    script_has_cost(&session, script);
     let mut session = session;
     let seen = write_state(&mut session, out, steps)?;
     let script = ScriptReader::new(alloc, script);
@@ -159,8 +173,10 @@ impl Follower<'_> {
         ensures ready { OnOk result (IsReady (place_of self.new)) }
         ensures script { self.new.script ≡ self.old.script }
         ensures costed { OnOk result (IsCosted (in_front_of command.now (place_of self.old)) (place_of self.new) steps.old steps.new) }
+        ensures at_most { CountsAhead (in_front_of command.now (place_of self.old)) steps.old steps.new }
         ensures steps { steps.old ≤ steps.new }
     {
+        one_edit();
         let number = self.number;
         self.number += 1;
         match self.session.apply(command) {
@@ -185,6 +201,7 @@ impl Follower<'_> {
         ensures fresh { OnOk result (IsEvaluated self.new.session) }
         ensures rose { OnOk result (RoseFor (next_cost self.old.session) steps.old steps.new
             (shows self.old.session.plan self.old.session.tree.nodes)) }
+        ensures at_most { steps.new ≤ steps.old + next_cost self.old.session }
         ensures steps { steps.old ≤ steps.new }
     {
         write_edit_line(number, out)?;

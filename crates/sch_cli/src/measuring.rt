@@ -1,8 +1,9 @@
 //! A measure: a document and a script that are made for a number of items, and what is counted of the first state and of the last one.
 
-ghost use Rattle.std.specs.Prelude.{◌≡◌, ◌≤◌, ◌||◌, ℕ, List, false, [], Some, is_some, IfErr, IfOk, OnOk, length, string_bytes};
+ghost use Rattle.std.specs.Prelude.{◌≡◌, ◌≤◌, ◌+◌, ◌||◌, ℕ, List, false, [], Some, is_some, IfErr, IfOk, OnOk, length, string_bytes};
 ghost use Rattle.sch_io.specs.ShelfState.{ShelfState};
 ghost use Rattle.sch_io.specs.Wrote.{Appends};
+ghost use Rattle.edit_script.specs.Script.{onto, script_left};
 ghost use Rattle.edit_script.specs.WellFormed.{WellFormedCommand};
 ghost use Rattle.edit_script.specs.declared.limits.TheConstants.{MAX_SCRIPT_BYTES};
 ghost use Rattle.sch_units.specs.Validity.{first_fault};
@@ -18,13 +19,15 @@ ghost use Rattle.sch_loading.specs.Reads.{Reads};
 ghost use Rattle.sch_loading.specs.Stages.{goes};
 ghost use Rattle.sch_cli.specs.Behaviours.{OpeningAll, Making, Measures, MeasuresText, StatesCost, behaviour};
 ghost use Rattle.sch_cli.specs.inner.Carried.{Carried, Concludes};
+ghost use Rattle.sch_cli.specs.Steps.{CountsAtMost};
 ghost use Rattle.sch_cli.specs.inner.Counts.{CountsAlong, RoseFor};
 ghost use Rattle.sch_cli.specs.inner.Followers.{in_front_of, scripted_by};
 ghost use Rattle.sch_cli.specs.inner.Measurers.{ConcludesMeasure, IsUnderWay, MovesTo, RestMeasured, is_fault, measured_of, place_at, text_of_both};
-ghost use Rattle.sch_cli.specs.inner.Sessions.{IsEvaluated, IsUnevaluated, next_cost};
+ghost use Rattle.sch_cli.specs.inner.Sessions.{HasCost, IsEvaluated, IsUnevaluated, ScriptCost, next_cost};
 ghost use Rattle.sch_cli.specs.inner.Writing.{IsOfWriting, WroteText};
 
-use crate::following::{Scripted, load_scripted};
+use crate::following::{Scripted, load_scripted, script_has_cost};
+use edit_command_laws::one_edit;
 use edit_commands::ApplyError;
 use edit_script::{Command, ScriptReader};
 use edit_session::{Counts, Session, Shown};
@@ -117,6 +120,7 @@ fn measure_states<O: Sink, L: Ledger>(
     ensures counted { CountsAlong (StatesCost session.plan session.tree.nodes script.now) steps.old steps.new result }
     ensures steps { steps.old ≤ steps.new }
 {
+    script_has_cost(&session, script);
     let mut session = session;
     let first = measure_state(&mut session, steps)?;
     let script = ScriptReader::new(alloc, script);
@@ -145,6 +149,7 @@ fn measure_state<L: Ledger>(session: &mut Session, steps: &mut Steps<L>) -> Resu
     ensures plan { session.new.plan ≡ session.old.plan }
     ensures fresh { OnOk result (IsEvaluated session.new) }
     ensures rose { OnOk result (RoseFor (next_cost session.old) steps.old steps.new (shows session.old.plan session.old.tree.nodes)) }
+    ensures at_most { steps.new ≤ steps.old + next_cost session.old }
     ensures memory { IfErr result (λ stop. stop ≡ stops.Memory) }
     ensures steps { steps.old ≤ steps.new }
 {
@@ -168,7 +173,8 @@ struct Measurer<'a> {
 impl Measurer<'_> {
     /// Does each command that is to come, and measures the document behind it.
     fn measure_rest<L: Ledger>(&mut self, steps: &mut Steps<L>) -> Result<(), Stop>
-        requires { IsUnderWay self.old }
+        requires ready { IsUnderWay self.old }
+        requires costs { HasCost self.old.session (script_left self.old.script) }
         ensures ends { (number : ℕ) (seen : Shown) → self.old.faulted ≡ is_fault seen →
             RestMeasured (place_at self.old number seen) self.new steps.old steps.new result }
         ensures ready { OnOk result (IsUnderWay self.new) }
@@ -191,14 +197,18 @@ impl Measurer<'_> {
     ) -> Result<(), Stop>
         requires formed { WellFormedCommand command.now }
         requires ready { IsUnderWay self.old }
+        requires costs { HasCost self.old.session (onto command.now (script_left self.old.script)) }
         ensures moves { OnOk result ((number : ℕ) (seen : Shown) → self.old.faulted ≡ is_fault seen →
             MovesTo (in_front_of command.now (place_at self.old number seen)) self.new steps.old steps.new) }
         ensures ready { OnOk result (IsUnderWay self.new) }
+        ensures costs { OnOk result (HasCost self.new.session (script_left self.new.script)) }
+        ensures at_most { CountsAtMost (ScriptCost self.old.session (onto command.now (script_left self.old.script))) steps.old steps.new }
         ensures plan { self.new.session.plan ≡ self.old.session.plan }
         ensures script { self.new.script ≡ self.old.script }
         ensures memory { IfErr result (λ stop. stop ≡ stops.Memory) }
         ensures steps { steps.old ≤ steps.new }
     {
+        one_edit();
         match self.session.apply(command) {
             Ok(()) => self.measure_edited(steps),
             Err(ApplyError::Refused(_)) => Ok(()),
@@ -216,6 +226,7 @@ impl Measurer<'_> {
         ensures fresh { OnOk result (IsEvaluated self.new.session) }
         ensures rose { OnOk result (RoseFor (next_cost self.old.session) steps.old steps.new
             (shows self.old.session.plan self.old.session.tree.nodes)) }
+        ensures at_most { steps.new ≤ steps.old + next_cost self.old.session }
         ensures memory { IfErr result (λ stop. stop ≡ stops.Memory) }
         ensures steps { steps.old ≤ steps.new }
     {

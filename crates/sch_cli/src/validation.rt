@@ -1,6 +1,6 @@
 //! A validation: the schema and the document read, then the state of the document by the schema.
 
-ghost use Rattle.std.specs.Prelude.{◌≡◌, ◌≤◌, false, [], ◌∷◌, Some, IfOk, OnOk};
+ghost use Rattle.std.specs.Prelude.{◌≡◌, ◌≤◌, ◌+◌, false, [], ◌∷◌, Some, IfOk, OnOk};
 ghost use Rattle.sch_compiled.specs.Soundness.{IsSound};
 ghost use Rattle.edit_session.specs.Pairs.{pair_cap_for};
 ghost use Rattle.edit_session.specs.State.{shows, state_text};
@@ -78,6 +78,7 @@ pub(crate) fn write_state<O: Sink, L: Ledger>(
     ensures plan { session.new.plan ≡ session.old.plan }
     ensures fresh { OnOk result (IsEvaluated session.new) }
     ensures rose { IfOk result (RoseFor (next_cost session.old) steps.old steps.new) }
+    ensures at_most { steps.new ≤ steps.old + next_cost session.old }
     ensures steps { steps.old ≤ steps.new }
 {
     match session.report(out, steps) {
@@ -95,6 +96,7 @@ fn write_once<O: Sink, L: Ledger>(
     ensures wrote { WroteText (O.log out.old) (O.log out.new) (state_text session.now.plan session.now.tree.nodes) result }
     ensures shown { IfOk result (λ last. last ≡ shows session.now.plan session.now.tree.nodes) }
     ensures rose { IfOk result (RoseFor (first_cost session.now.plan session.now.tree.nodes) steps.old steps.new) }
+    ensures at_most { steps.new ≤ steps.old + first_cost session.now.plan session.now.tree.nodes }
     ensures steps { steps.old ≤ steps.new }
 {
     match session.report_once(out, steps) {

@@ -22,7 +22,7 @@ use Rattle.sch_cli.specs.Following.{Begins, Follows, edited, nothing_yet, refuse
 use Rattle.sch_cli.specs.Output.{expanded, in_front, notice_output, state}
 use Rattle.sch_cli.proofs.OneOutput.{one-expanding, one-making, one-measures, one-opening, one-opening-all}
 use Rattle.sch_cli_laws.specs.Decided.{BegunIsFront}
-use Rattle.sch_cli_laws.proofs.ScriptCases.{WritesEdited, WritesRefused, follows-onto, refused-or-none, refused-same}
+use Rattle.sch_cli.proofs.ScriptCases.{WritesEdited, WritesRefused, follows-onto, refused-or-none, refused-same}
 
 -- the text is a front of the output's bytes
 abbrev IsFront : List ℕ → Output → Type 0

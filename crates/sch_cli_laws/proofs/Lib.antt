@@ -2,7 +2,6 @@ pub mod MadeLines
 pub mod PlainWalks
 pub mod FlatNames
 pub mod WholeSchemas
-pub mod ScriptCases
 pub mod Fronts
 pub mod OneCost
 pub mod Ways

@@ -20,7 +20,7 @@ use Rattle.sch_cli.specs.Output.{expanded, notice_output}
 use Rattle.sch_cli.specs.Steps.{EditsCost, at_a_fault, at_the_end, edit_cost, first_cost, of_edited, of_refused}
 use Rattle.sch_cli.proofs.OneOutput.{one-expanding, one-making, one-opening, one-opening-all}
 use Rattle.sch_cli_laws.specs.Decided.{OneCost}
-use Rattle.sch_cli_laws.proofs.ScriptCases.{CostsEdited, CostsRefused, costs-nothing, costs-onto, costs-stops, refused-or-none}
+use Rattle.sch_cli.proofs.ScriptCases.{CostsEdited, CostsRefused, costs-nothing, costs-onto, costs-stops, refused-or-none}
 
 module _ (one_edit : OneEdit) (plan : Plan) where
   -- the visits behind an edit that is done

@@ -22,7 +22,7 @@ use Rattle.edit_session.specs.Standing.{Standing}
 use Rattle.edit_session.specs.declared.state.Shown.{Shown}
 use Rattle.sch_cli.specs.declared.following.Scripted.{Scripted as Borrowed}
 use Rattle.sch_cli.specs.Behaviours.{Scripted, Treed, tree_under}
-use Rattle.sch_cli.specs.inner.Sessions.{IsEvaluated}
+use Rattle.sch_cli.specs.inner.Sessions.{HasCost, IsEvaluated}
 use Rattle.sch_cli.specs.inner.Writing.{IsOfWriting, WroteText}
 
 -- what a session is of a document, and with a script
@@ -60,10 +60,11 @@ pub record IsLed (earlier later : Place) (text : List ℕ) : Type 0 where
   pub ends : (output : Output) → Ending later output → Ending earlier (in_front text output)
   pub begins : (more : List ℕ) → Beginning later more → Beginning earlier (text ++ more)
 
--- the document has its plan's pair cap, the commands can be numbered, and all units were evaluated
+-- the document has its plan's pair cap, the commands can be numbered and have their visits, and all units were evaluated
 pub record IsReady (at : Place) : Type 0 where
   pub cap : at.session.tree.pair_cap ≡ pair_cap_for at.session.plan
   pub few : at.number + length at.script.commands < 2 ^ 64
+  pub costs : HasCost at.session at.script
   pub fresh : IsEvaluated at.session
 
 -- what is written leads to the later place, or a front was written of a text of the earlier one

@@ -17,7 +17,7 @@ use Rattle.sch_stops.specs.Stops.{of_script}
 use Rattle.sch_cli.specs.Measuring.{LeadsTo, counted_text}
 use Rattle.sch_cli.specs.declared.measuring.Measured.{Measured}
 use Rattle.sch_cli.specs.declared.measuring.Measurer.{Measurer}
-use Rattle.sch_cli.specs.inner.Counts.{IsCosted}
+use Rattle.sch_cli.specs.inner.Counts.{CountsAhead, IsCosted}
 use Rattle.sch_cli.specs.inner.Followers.{IsLed, Place}
 use Rattle.sch_cli.specs.inner.Sessions.{IsEvaluated}
 use Rattle.sch_cli.specs.inner.Writing.{WroteText}
@@ -69,11 +69,11 @@ pub record StopsAt (earlier : Place) (before after : ℕ) (fault : ScriptFault) 
   pub moved : Moved earlier later before after
   pub stopped : later.script ≡ stops fault
 
--- the script was gone through from a place on, or has a fault, or memory ran out
+-- the script was gone through from a place on, or has a fault, or memory ran out, which counts at most the visits of all
 abbrev pub RestMeasured : Place → Measurer → ℕ → ℕ → Result (Unit {0}) Stop → Type 0
 RestMeasured earlier at before after result = MatchResult result
     (λ _. MovesTo earlier at before after × (script_left at.script ≡ nothing))
-    (λ stop. (error : ScriptError) × (stop ≡ of_script error) × IfFault (StopsAt earlier before after) error)
+    (λ stop. (error : ScriptError) × (stop ≡ of_script error) × IfFault (StopsAt earlier before after) error × CountsAhead earlier before after)
 
 -- where a state is a fault nothing was written; else the text was, or a front of it
 abbrev pub ConcludesMeasure : Bool → SinkLog → SinkLog → List ℕ → Result Shown Stop → Type 0

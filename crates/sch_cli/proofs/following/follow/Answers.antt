@@ -34,7 +34,7 @@ returns-clause-carried g c =
       whole = rw c.as_slice.ensures at c.write_states.ensures.told;
       writing = c.write_states.ensures.writing;
       write_faults = c.write_states.ensures.write_faults;
-      counted = along_by (StatesCost opened.session.plan opened.session.tree.nodes opened.script) _ _ c.write_states.result
+      counted = along_by (StatesCost opened.session.plan opened.session.tree.nodes opened.script) _ _ c.write_states.result c.write_states.ensures.writing
           (rw c.as_slice.ensures at c.write_states.ensures.counted);
       unevaluated = λ idle. absurd (true≢false idle);
       rises = c.write_states.ensures.steps;

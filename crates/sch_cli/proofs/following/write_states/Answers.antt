@@ -6,9 +6,10 @@ use Rattle.edit_script.specs.Script.{LinesLeft, script_left, script_of}
 use Rattle.edit_session.specs.Pairs.{pair_cap_for}
 use Rattle.edit_session.specs.State.{state_text}
 use Rattle.sch_cli.specs.inner.Followers.{Place}
+use Rattle.sch_cli.proofs.CostLemmas.{costs_as}
 use Rattle.sch_cli.proofs.EndLemmas.{text_err}
 use Rattle.sch_cli.proofs.FollowLemmas.{few_commands, first_stops, first_then}
-use Rattle.sch_cli.proofs.StepLemmas.{first_unsaid, states_count}
+use Rattle.sch_cli.proofs.StepLemmas.{first_counts, states_count}
 use Rattle.sch_cli.proofs.following.write_states.Goals as goal
 
 pub returns-in_err-seen-clause-told : goal.returns-in_err-seen-clause-told
@@ -32,14 +33,15 @@ follow_rest-requires g c = record {
   few =
       let same : length (script_left c.new-script.result).commands ≡ length (script_of c.args.script.now).commands = ap (λ (left : LinesLeft). length (script_left left).commands) c.new-script.ensures in
       omega (arith, few_commands c.args.script.now c.requires.short, same);
+  costs = costs_as c.args.session c.write_state.new.session (script_of c.args.script.now) (script_left c.new-script.result) c.in_ok-seen.ensures.plan c.in_ok-seen.ensures.tree
+      (ap script_left c.new-script.ensures) c.script_has_cost.ensures;
   fresh = c.in_ok-seen.ensures.fresh;
 }
 
 pub returns-in_err-seen-clause-counted : goal.returns-in_err-seen-clause-counted
 returns-in_err-seen-clause-counted g c =
     let error = err_from_is_err_and c.from_residual.result c.from_residual.ensures.1 in
-    first_unsaid c.args.session.plan c.args.session.tree.nodes c.args.script.now (state_text c.args.session.plan c.args.session.tree.nodes) _ _ _ _ c.in_err-seen.field-0.0 c.from_residual.result
-    (error.1 ∙ ap Err error.2) c.in_err-seen.ensures.wrote
+    first_counts c.args.session c.args.script.now _ _ error.0 c.from_residual.result error.1 c.requires.unevaluated c.script_has_cost.ensures c.in_err-seen.ensures.at_most
 
 pub returns-clause-counted : goal.returns-clause-counted
 returns-clause-counted g c =

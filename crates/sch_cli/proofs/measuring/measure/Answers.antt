@@ -29,7 +29,7 @@ returns-clause-carried g c = λ state.
       whole = rw c.as_slice.ensures at c.measure_states.ensures.told;
       writing = c.measure_states.ensures.writing;
       write_faults = c.measure_states.ensures.write_faults;
-      counted = along_by (StatesCost opened.session.plan opened.session.tree.nodes opened.script) _ _ c.measure_states.result
+      counted = along_by (StatesCost opened.session.plan opened.session.tree.nodes opened.script) _ _ c.measure_states.result c.measure_states.ensures.writing
           (rw c.as_slice.ensures at c.measure_states.ensures.counted);
       unevaluated = λ idle. absurd (true≢false idle);
       rises = c.measure_states.ensures.steps;

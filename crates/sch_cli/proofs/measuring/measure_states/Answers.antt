@@ -2,7 +2,7 @@
 use Rattle.std.proofs.Common.{◌≡◌, ◌∙◌, Result, Ok, Err, ap, refl, sym}
 use Rattle.std.proofs.lemmas.Result.{err_from_is_err_and}
 use Rattle.doc_tree.specs.Table.{Contents}
-use Rattle.edit_script.specs.Script.{script_left}
+use Rattle.edit_script.specs.Script.{script_left, script_of}
 use Rattle.sch_compiled.specs.declared.plan.Plan.{Plan}
 use Rattle.edit_session.specs.Pairs.{pair_cap_for}
 use Rattle.edit_session.specs.State.{shows}
@@ -12,9 +12,10 @@ use Rattle.sch_cli.specs.Behaviours.{Measures, MeasuresText, StatesCost}
 use Rattle.sch_cli.specs.declared.measuring.Measured.{Measured}
 use Rattle.sch_cli.specs.declared.measuring.Measurer.{Measurer}
 use Rattle.sch_cli.specs.inner.Measurers.{is_fault, measured_of, place_at, text_of_both}
+use Rattle.sch_cli.proofs.CostLemmas.{costs_as}
 use Rattle.sch_cli.proofs.FollowLemmas.{script_faults, script_writing}
-use Rattle.sch_cli.proofs.MeasureLemmas.{concludes-faults, concludes-writing, counts-end, counts-stopped, measure-stopped, measure-told, shows-fault, uncounted-memory, without-memory}
-use Rattle.sch_cli.proofs.StepLemmas.{rest_counts, states_count}
+use Rattle.sch_cli.proofs.MeasureLemmas.{concludes-faults, concludes-writing, counts-end, measure-stopped, measure-told, shows-fault, without-memory}
+use Rattle.sch_cli.proofs.StepLemmas.{ahead_stops, first_counts, rest_counts, states_count}
 use Rattle.edit_script.specs.declared.fault.ScriptError.TheVariants as script
 use Rattle.sch_cli.proofs.measuring.measure_states.Goals as goal
 
@@ -37,10 +38,10 @@ returns-in_err-first-clause-write_faults g c =
 pub returns-in_err-first-clause-counted : goal.returns-in_err-first-clause-counted
 returns-in_err-first-clause-counted g c =
     let error = err_from_is_err_and c.from_residual.result c.from_residual.ensures.1 in
-    uncounted-memory (StatesCost c.args.session.plan c.args.session.tree.nodes c.args.script.now) _ _ error.0 c.from_residual.result error.1 (error.2 ∙ c.in_err-first.ensures.memory)
+    first_counts c.args.session c.args.script.now _ _ error.0 c.from_residual.result error.1 c.requires.unevaluated c.script_has_cost.ensures c.in_err-first.ensures.at_most
 
-pub measure_rest-requires : goal.measure_rest-requires
-measure_rest-requires g c =
+pub measure_rest-requires-clause-ready : goal.measure_rest-requires-clause-ready
+measure_rest-requires-clause-ready g c =
     let plans = c.in_ok-first.ensures.plan in
     let trees = c.in_ok-first.ensures.tree in
     record {
@@ -49,6 +50,11 @@ measure_rest-requires g c =
       last = c.in_ok-first.ensures.measured ∙ ap (λ (p : Plan). measured_of p c.args.session.tree.nodes) (sym plans)
           ∙ ap (λ (tree : Contents). measured_of c.measure_state.new.session.plan tree.nodes) (sym trees);
     }
+
+pub measure_rest-requires-clause-costs : goal.measure_rest-requires-clause-costs
+measure_rest-requires-clause-costs g c =
+    costs_as c.args.session c.measure_state.new.session (script_of c.args.script.now) (script_left c.new-script.result) c.in_ok-first.ensures.plan c.in_ok-first.ensures.tree (ap script_left c.new-script.ensures)
+    c.script_has_cost.ensures
 
 pub returns-in_err-measure_rest-clause-told : goal.returns-in_err-measure_rest-clause-told
 returns-in_err-measure_rest-clause-told g c =
@@ -88,7 +94,7 @@ returns-in_err-measure_rest-clause-counted g c =
     let ends = c.in_err-measure_rest.ensures.ends 1 (shows plan T) (ap (λ (m : Measured). m.counts.faulted) c.in_ok-first.ensures.measured ∙ sym (shows-fault plan T)) in
     states_count c.args.session c.args.script.now first c.args.steps.now c.measure_state.new.steps c.measure_rest.new.steps c.from_residual-in_err-measure_rest.result c.requires.unevaluated
     c.in_ok-first.ensures.plan c.in_ok-first.ensures.tree (ap script_left c.new-script.ensures) c.in_ok-first.ensures.rose
-    (counts-stopped first c.measure_state.new.steps c.measure_rest.new.steps ends.0 c.in_err-measure_rest.field-0.0 c.from_residual-in_err-measure_rest.result (error.1 ∙ ap Err error.2) ends.1 ends.2)
+    (ahead_stops first c.measure_state.new.steps c.measure_rest.new.steps error.0 c.from_residual-in_err-measure_rest.result error.1 ends.3)
 
 pub returns-clause-told : goal.returns-clause-told
 returns-clause-told g c =

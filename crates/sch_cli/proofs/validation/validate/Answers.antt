@@ -34,7 +34,7 @@ returns-clause-carried g c =
     session c.write_once-written.result c.in_ok-session.ensures.reads
     (text_behind (λ at output. output ≡ state at.plan at.tree) (λ at text. text ≡ state_text at.plan at.tree) (treed_by session) _ _ (state_text session.plan session.tree.nodes) (shows session.plan session.tree.nodes)
     refl refl c.write_once-written.result c.write_once-written.ensures.wrote c.write_once-written.ensures.shown (λ at cost. cost ≡ first_cost at.plan at.tree) true _ _
-    (state_counts session.plan session.tree.nodes (state_text session.plan session.tree.nodes) _ _ _ _ c.write_once-written.result c.write_once-written.ensures.rose c.write_once-written.ensures.wrote)
+    (state_counts session.plan session.tree.nodes _ _ c.write_once-written.result c.write_once-written.ensures.wrote.writing c.write_once-written.ensures.rose c.write_once-written.ensures.at_most)
     (λ idle. absurd (true≢false idle)) c.write_once-written.ensures.steps)
 
 pub returns-clause-accepted : goal.returns-clause-accepted

@@ -4,7 +4,7 @@ use Rattle.std.proofs.lemmas.Result.{err_from_is_err_and}
 use Rattle.edit_script.specs.Script.{script_left}
 use Rattle.sch_cli.specs.inner.Followers.{in_front_of, place_of}
 use Rattle.sch_cli.proofs.FollowLemmas.{come_on, come_to_next, command_stops, no_next, rest_ends, rest_stops}
-use Rattle.sch_cli.proofs.StepLemmas.{command_stops_counting, costed_on, costed_to_next, rest_counts, rest_stops_counting}
+use Rattle.sch_cli.proofs.StepLemmas.{ahead_none, ahead_on, ahead_stops, costed_on, costed_to_next, rest_counts}
 use Rattle.sch_cli.proofs.following.Follower.follow_rest.Goals as goal
 
 pub returns-in_err-command-clause-told : goal.returns-in_err-command-clause-told
@@ -16,15 +16,17 @@ returns-in_err-command-clause-told g c =
 pub returns-in_err-command-clause-counted : goal.returns-in_err-command-clause-counted
 returns-in_err-command-clause-counted g c =
     let error = err_from_is_err_and c.from_residual.result c.from_residual.ensures.1 in
-    rest_stops_counting (place_of c.args.self.now) (place_of c.loop-command.self) c.args.steps.now c.loop-command.steps c.loop-command.invariant.costed c.in_err-command.field-0.0
-    error.0 c.from_residual.result error.1 error.2 c.in_err-command.ensures.fault
+    ahead_stops (place_of c.args.self.now) c.args.steps.now c.loop-command.steps error.0 c.from_residual.result error.1
+    (ahead_on (place_of c.args.self.now) (place_of c.loop-command.self) c.args.steps.now c.loop-command.steps c.loop-command.steps c.loop-command.invariant.costed
+    (ahead_none (place_of c.loop-command.self) c.loop-command.steps c.loop-command.invariant.ready.costs))
 
 pub returns-in_err-done-clause-counted : goal.returns-in_err-done-clause-counted
 returns-in_err-done-clause-counted g c =
     let error = err_from_is_err_and c.from_residual-in_err-done.result c.from_residual-in_err-done.ensures.1 in
-    command_stops_counting {A = Unit {0}} (place_of c.args.self.now) (in_front_of c.in-Some.command (record (place_of c.loop-command.self) { script = script_left c.next.new.self })) (place_of c.follow_command-done.new.self)
-    (g.O.Sink.log c.loop-command.out) (g.O.Sink.log c.follow_command-done.new.out) c.args.steps.now c.follow_command-done.new.steps
-    c.in_err-done.field-0.0 c.from_residual-in_err-done.result (error.1 ∙ ap Err error.2) c.in_err-done.ensures.goes
+    ahead_stops (place_of c.args.self.now) c.args.steps.now c.follow_command-done.new.steps error.0 c.from_residual-in_err-done.result error.1
+    (ahead_on (place_of c.args.self.now) (in_front_of c.in-Some.command (record (place_of c.loop-command.self) { script = script_left c.next.new.self })) c.args.steps.now c.loop-command.steps c.follow_command-done.new.steps
+    (costed_to_next (place_of c.args.self.now) (place_of c.loop-command.self) (script_left c.next.new.self) c.in_ok-command.field-0 c.in-Some.command c.args.steps.now c.loop-command.steps
+    c.in-Some.is c.in_ok-command.ensures.command c.loop-command.invariant.costed) c.in_err-done.ensures.at_most)
 
 pub returns-in_err-done-clause-told : goal.returns-in_err-done-clause-told
 returns-in_err-done-clause-told g c =

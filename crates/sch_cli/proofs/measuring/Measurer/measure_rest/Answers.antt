@@ -3,12 +3,13 @@ use Rattle.std.proofs.Common.{◌∙◌, arith, refl}
 use Rattle.std.proofs.lemmas.Result.{err_from_is_err_and}
 use Rattle.edit_script.specs.Script.{script_left}
 use Rattle.sch_cli.specs.inner.Measurers.{place_at}
-use Rattle.sch_cli.proofs.MeasureLemmas.{begins-there, ends-there, moves-next, stops-for-memory, stops-there}
+use Rattle.sch_cli.proofs.MeasureLemmas.{begins-there, costs-next, ends-there, moves-next, stops-for-memory, stops-there}
 use Rattle.sch_cli.proofs.measuring.Measurer.measure_rest.Goals as goal
 
 pub loop-command-init : goal.loop-command-init
 loop-command-init g c = record {
-  ready = c.requires;
+  ready = c.requires.ready;
+  costs = c.requires.costs;
   come = λ number seen is. begins-there c.args.self.now _ number seen is;
   plan = refl;
   steps = omega arith;
@@ -18,16 +19,24 @@ pub returns-in_err-command-clause-ends : goal.returns-in_err-command-clause-ends
 returns-in_err-command-clause-ends g c = λ number seen is.
     let error = err_from_is_err_and c.from_residual.result c.from_residual.ensures.1 in
     stops-there c.args.self.now c.loop-command.self _ _ _ number seen c.in_err-command.field-0.0 error.0 c.from_residual.result error.1 error.2 c.in_err-command.ensures.fault
-    (c.loop-command.invariant.come number seen is)
+    c.loop-command.invariant.costs (c.loop-command.invariant.come number seen is)
 
 pub returns-in_err-done-clause-ends : goal.returns-in_err-done-clause-ends
 returns-in_err-done-clause-ends g c = λ number seen is.
     let error = err_from_is_err_and c.from_residual-in_err-done.result c.from_residual-in_err-done.ensures.1 in
-    stops-for-memory (place_at c.args.self.now number seen) _ _ _ error.0 c.from_residual-in_err-done.result error.1 (error.2 ∙ c.in_err-done.ensures.memory)
+    stops-for-memory c.args.self.now c.loop-command.self c.measure_command-done.new.self (script_left c.next.new.self) c.in_ok-command.field-0 c.in-Some.command
+    c.args.steps.now c.loop-command.steps c.measure_command-done.new.steps number seen error.0 c.from_residual-in_err-done.result error.1 (error.2 ∙ c.in_err-done.ensures.memory)
+    c.in-Some.is c.in_ok-command.ensures.command (c.loop-command.invariant.come number seen is) c.in_err-done.ensures.at_most
+
+pub measure_command-done-requires-clause-costs : goal.measure_command-done-requires-clause-costs
+measure_command-done-requires-clause-costs g c =
+    costs-next c.loop-command.self.session (script_left c.loop-command.self.script) (script_left c.next.new.self) c.in_ok-command.field-0 c.in-Some.command c.in-Some.is c.in_ok-command.ensures.command
+    c.loop-command.invariant.costs
 
 pub loop-command-preserved : goal.loop-command-preserved
 loop-command-preserved g c = record {
   ready = c.in_ok-done.ensures.ready;
+  costs = c.in_ok-done.ensures.costs;
   come = λ number seen is.
       moves-next c.args.self.now c.loop-command.self c.measure_command-done.new.self (script_left c.next.new.self) c.in_ok-command.field-0 c.in-Some.command
       c.args.steps.now c.loop-command.steps c.measure_command-done.new.steps number seen c.in-Some.is c.in_ok-command.ensures.command

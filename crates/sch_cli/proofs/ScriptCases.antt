@@ -16,16 +16,16 @@ use Rattle.sch_cli.specs.Output.{in_front}
 use Rattle.sch_cli.specs.Steps.{EditsCost, at_a_fault, at_the_end, edit_cost, of_edited, of_refused}
 
 -- a script is at its end, or has a fault, or a command comes first
-ends-or-stops : (fault : ScriptFault) → nothing ≡ stops fault → ⊥
+pub ends-or-stops : (fault : ScriptFault) → nothing ≡ stops fault → ⊥
 ends-or-stops fault same = let faults : None ≡ Some fault = ap (λ (s : Script). s.fault) same in cc
 
-ends-or-goes : (command : Command) (rest : Script) → nothing ≡ onto command rest → ⊥
+pub ends-or-goes : (command : Command) (rest : Script) → nothing ≡ onto command rest → ⊥
 ends-or-goes command rest same = let commands : [] ≡ command ∷ rest.commands = ap (λ (s : Script). s.commands) same in cc
 
-stops-or-goes : (fault : ScriptFault) (command : Command) (rest : Script) → stops fault ≡ onto command rest → ⊥
+pub stops-or-goes : (fault : ScriptFault) (command : Command) (rest : Script) → stops fault ≡ onto command rest → ⊥
 stops-or-goes fault command rest same = let commands : [] ≡ command ∷ rest.commands = ap (λ (s : Script). s.commands) same in cc
 
-command-same : (command other : Command) (rest more : Script) → onto command rest ≡ onto other more → (command ≡ other) × (rest ≡ more)
+pub command-same : (command other : Command) (rest more : Script) → onto command rest ≡ onto other more → (command ≡ other) × (rest ≡ more)
 command-same command other rest more same =
     let commands : command ∷ rest.commands ≡ other ∷ more.commands = ap (λ (s : Script). s.commands) same in
     let first : command ≡ other = cc in
