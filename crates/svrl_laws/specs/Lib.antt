@@ -1,0 +1,3 @@
+pub mod PlanReport
+pub mod ReadBack
+pub mod ReportEvents

@@ -1,0 +1,3 @@
+pub mod BuildingLemmas
+pub mod FaultLemmas
+pub mod TakingLemmas
