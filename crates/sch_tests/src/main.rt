@@ -1,8 +1,10 @@
-//! Outside examples of schemas, of single nodes under a schema's patterns, and of whole runs. The rows that do not hold are written.
+//! Outside examples of schemas, of single nodes under a schema's patterns, of reports that are read back, and of whole runs. The rows
+//! that do not hold are written.
 #![tactic(auto)]
 
 mod pairs;
 mod plans;
+mod reports;
 mod runs;
 mod schemas;
 mod settings;
@@ -10,6 +12,7 @@ mod sinks;
 mod turns;
 
 use pairs::Pairs;
+use reports::Reports;
 use runs::Runs;
 use schemas::Schemas;
 use std::alloc::Global;
@@ -29,6 +32,7 @@ fn main(rt: HostRuntime) -> Result<ExitCode, Fail> {
 struct Tables {
     schemas: Schemas,
     pairs: Pairs,
+    reports: Reports,
     runs: Runs,
 }
 
@@ -37,13 +41,15 @@ struct Tables {
 enum Subject {
     Schemas,
     Pairs,
+    Reports,
     Runs,
 }
 
 /// The subjects by their words.
-const SUBJECTS: [(&str, Subject); 3] = [
+const SUBJECTS: [(&str, Subject); 4] = [
     ("schemas", Subject::Schemas),
     ("pairs", Subject::Pairs),
+    ("reports", Subject::Reports),
     ("runs", Subject::Runs),
 ];
 
@@ -53,6 +59,7 @@ impl Tables {
         Tables {
             schemas: Schemas { alloc },
             pairs: Pairs::new(alloc),
+            reports: Reports { alloc },
             runs: Runs::new(alloc),
         }
     }
@@ -64,6 +71,7 @@ impl Answers for Tables {
         match named(&SUBJECTS, subject)? {
             Subject::Schemas => self.schemas.answer(kind, input),
             Subject::Pairs => self.pairs.answer(kind, input),
+            Subject::Reports => self.reports.answer(kind, input),
             Subject::Runs => self.runs.answer(kind, input),
         }
     }
