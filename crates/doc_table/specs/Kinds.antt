@@ -34,6 +34,16 @@ can_be_kid (Some Root) = false
 can_be_kid (Some Attribute) = false
 can_be_kid (Some kind) = true
 
+-- whether a node of the kind has a name that an edit may change: an element's or an attribute's, and no instruction's target
+abbrev pub has_own_name : Option Kind → Bool
+has_own_name None = false
+has_own_name (Some Root) = false
+has_own_name (Some Element) = true
+has_own_name (Some Attribute) = true
+has_own_name (Some Text) = false
+has_own_name (Some Comment) = false
+has_own_name (Some Pi) = false
+
 -- whether the root has exactly one element kid and no text kid
 abbrev pub is_document : Table → Bool
 is_document T =

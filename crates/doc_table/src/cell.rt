@@ -3,6 +3,7 @@
 use crate::ids::NodeId;
 
 /// A cell of a node. The root and elements have Kids, Shape and Text, elements also Attrs; the other kinds have Value.
+/// Elements and attributes have Name; the target of a processing instruction is no cell.
 #[derive(Clone, Copy, Debug, PartialEq, Eq, PartialOrd, Ord)]
 pub enum Cell {
     /// The list of kids.
@@ -15,4 +16,6 @@ pub enum Cell {
     Value(NodeId),
     /// The string-value.
     Text(NodeId),
+    /// The name: prefix, local part and namespace.
+    Name(NodeId),
 }
