@@ -12,7 +12,7 @@ use Rattle.doc_tree.specs.kind.Kind.TheVariants as kinds
 use Rattle.doc_tree.specs.Kinds.{can_be_kid, holds_kids, is_text}
 use Rattle.doc_tree.specs.Laws.{WellFormed, HasWaysUp}
 use Rattle.doc_tree.specs.Lists.{occurs}
-use Rattle.doc_tree.specs.Table.{Table, content_at, kids_above, kids_of, kind_of, name_at, parent_of, value_of}
+use Rattle.doc_tree.specs.Table.{Table, content_at, kids_above, kids_of, kind_of, parent_of, value_of}
 use Rattle.doc_tree.specs.Walks.{above, below}
 use Rattle.doc_tree.proofs.ListLemmas.{In, In-mem, mem-In, In-cons, occurs-append, occurs-head, occurs-same}
 use Rattle.doc_tree.proofs.OrderLemmas.{nested}
@@ -21,24 +21,24 @@ use Rattle.doc_edits.specs.Changes.{deleted, Meeting, deleted_by, meeting, remov
 use Rattle.doc_edits.specs.Keeping.{DeletionsKeepTrees}
 use Rattle.doc_edits.proofs.ClearLemmas.{cut}
 use Rattle.doc_edits.proofs.PruneLemmas.{cut_at, none-in}
-use Rattle.doc_edits.proofs.RecontentLemmas.{same-kind, same-links, same-live}
-use Rattle.doc_edits.proofs.TableLemmas.{changed-length, changed-other, changed-word}
+use Rattle.doc_edits.proofs.RecontentLemmas.{same-kind, same-links, same-live, same-name}
+use Rattle.doc_edits.proofs.SayingLemmas.{saying-kind, saying-name}
+use Rattle.doc_edits.proofs.TableLemmas.{changed-length, changed-other}
 use Rattle.doc_edit_laws.specs.Touching.{touched_kids, touched_meeting, touched_deletion}
 use Rattle.doc_edit_laws.specs.Leaving.{DeletionsLeave}
 use Rattle.doc_edit_laws.proofs.RemovalAgreement.{SameNode, Lost, none-lost, Covers, below-same, lost-agree, out-beside, lose}
-use Rattle.doc_edit_laws.proofs.SayingAgreement.{saying-keeps, saying-name}
 
 -- a kid that holds none says another text
 module _ (T U : Table) (p l : ℕ) (gone new : List ℕ) (lost : Lost T U p gone []) (under : parent_of T l ≡ Some p) (no_kids : holds_kids (kind_of T l) ≡ false) where
   same-told : (m : ℕ) → SameNode T U m → SameNode T (said U l new) m
   same-told m same =
-      let links = same-links (saying new) (saying-keeps new) U l m in
+      let links = same-links (saying new) (saying-kind new) U l m in
       record {
-        live = same-live (saying new) (saying-keeps new) U l m ∙ same.live;
+        live = same-live (saying new) (saying-kind new) U l m ∙ same.live;
         parent = links.parent ∙ same.parent;
         attributes = links.attributes ∙ same.attributes;
-        kind = same-kind (saying new) (saying-keeps new) U l m ∙ same.kind;
-        name = changed-word (λ o. name_at (content_at o)) (with_text new) (saying-name new) U l m ∙ same.name;
+        kind = same-kind (saying new) (saying-kind new) U l m ∙ same.kind;
+        name = same-name (saying new) (saying-name new) U l m ∙ same.name;
       }
 
   retell : Lost T (said U l new) p gone (l ∷ [])
@@ -49,9 +49,9 @@ module _ (T U : Table) (p l : ℕ) (gone new : List ℕ) (lost : Lost T U p gone
     down = lost.down;
     up = lost.up;
     attributes_stay = lost.attributes_stay;
-    dead = λ m h. same-live (saying new) (saying-keeps new) U l m ∙ lost.dead m h;
+    dead = λ m h. same-live (saying new) (saying-kind new) U l m ∙ lost.dead m h;
     same = λ m h. same-told m (lost.same m h);
-    kids = λ m h. (same-links (saying new) (saying-keeps new) U l m).kids ∙ lost.kids m h;
+    kids = λ m h. (same-links (saying new) (saying-kind new) U l m).kids ∙ lost.kids m h;
     content = λ m h out.
         ap content_at (changed-other U l (with_text new) m
         (λ e. absurd (let i : In m (l ∷ []) = subst (λ k. In m (k ∷ [])) e (occurs-head m []) in omega arith)))

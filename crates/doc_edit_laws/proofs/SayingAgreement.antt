@@ -5,34 +5,19 @@ use Rattle.doc_table.specs.inner.Sound.{Formed}
 use Rattle.doc_table.proofs.Paths.{SameLinks}
 use Rattle.doc_tree.specs.Kinds.{is_text}
 use Rattle.doc_tree.specs.Lists.{mem}
-use Rattle.doc_tree.specs.Table.{Table, Facts, Content, root, element, attribute, text, comment, instruction, content_at, kind_at, kind_in, name_at, name_in, value_at, content_of, is_live, kind_of, name_of}
+use Rattle.doc_tree.specs.Table.{Table, Content, root, element, attribute, text, comment, instruction, content_at, kind_at, value_at, content_of, is_live, kind_of, name_of}
 use Rattle.doc_tree.specs.Walks.{ancestors, characters_in, order}
 use Rattle.doc_tree.proofs.ListLemmas.{eq_or}
 use Rattle.doc_axes.specs.Axes.{is_descendant}
 use Rattle.doc_edit_laws.specs.Agreement.{Agree, lives_in_both}
 use Rattle.doc_edit_laws.proofs.Composing.{both}
 use Rattle.doc_edits.specs.Changes.{said, saying, with_text}
-use Rattle.doc_edits.proofs.RecontentLemmas.{KeepsLabel, same-kind, same-links, same-live}
-use Rattle.doc_edits.proofs.TableLemmas.{changed-length, changed-other, changed-word}
+use Rattle.doc_edits.proofs.RecontentLemmas.{same-kind, same-links, same-live, same-name}
+use Rattle.doc_edits.proofs.SayingLemmas.{saying-kind, saying-name}
+use Rattle.doc_edits.proofs.TableLemmas.{changed-length, changed-other}
 use Rattle.doc_edit_laws.specs.Touching.{touched_saying}
 use Rattle.doc_edit_laws.proofs.LinkLemmas.{order-alike}
 use Rattle.doc_edit_laws.proofs.TextLemmas.{says, shape-alike, text-alike}
-
--- saying another text keeps the kind and the name
-pub saying-label : (new : List ℕ) (c : Content) → (kind_in (saying new c) ≡ kind_in c) × (name_in (saying new c) ≡ name_in c)
-saying-label new root = (refl, refl)
-saying-label new (element _ _) = (refl, refl)
-saying-label new (attribute _ _) = (refl, refl)
-saying-label new (text _) = (refl, refl)
-saying-label new (comment _) = (refl, refl)
-saying-label new (instruction _ _) = (refl, refl)
-
-pub saying-keeps : (new : List ℕ) → KeepsLabel (saying new)
-saying-keeps new = record { kind = λ c. (saying-label new c).0; name = λ c. (saying-label new c).1 }
-
-pub saying-name : (new : List ℕ) (o : Option Facts) → name_at (content_at (with_text new o)) ≡ name_at (content_at o)
-saying-name new None = refl
-saying-name new (Some node) = (saying-label new node.content).1
 
 -- what is no text has no characters
 other-silent : (o : Option Content) → is_text (kind_at o) ≡ false → characters_in o ≡ []
@@ -49,16 +34,16 @@ module _ (T : Table) (n : ℕ) (new : List ℕ) (t : Formed T) (u : Formed (said
   after = said T n new
 
   live : (m : ℕ) → is_live after m ≡ is_live T m
-  live m = same-live (saying new) (saying-keeps new) T n m
+  live m = same-live (saying new) (saying-kind new) T n m
 
   links : (m : ℕ) → SameLinks T after m
-  links m = same-links (saying new) (saying-keeps new) T n m
+  links m = same-links (saying new) (saying-kind new) T n m
 
   kind : (m : ℕ) → kind_of T m ≡ kind_of after m
-  kind m = sym (same-kind (saying new) (saying-keeps new) T n m)
+  kind m = sym (same-kind (saying new) (saying-kind new) T n m)
 
   name : (m : ℕ) → name_of T m ≡ name_of after m
-  name m = sym (changed-word (λ o. name_at (content_at o)) (with_text new) (saying-name new) T n m)
+  name m = sym (same-name (saying new) (saying-name new) T n m)
 
   content : (m : ℕ) → m ≢ n → content_of T m ≡ content_of after m
   content m ne = ap content_at (sym (changed-other T n (with_text new) m ne))

@@ -16,13 +16,15 @@ use Rattle.doc_table.proofs.ListLemmas.{In, In-mem, eq_or, occurs-head}
 use Rattle.doc_table.proofs.TreeLaws.{ordered, ways-up, well-formed}
 use Rattle.doc_table.proofs.Forests.{formed-of}
 use Rattle.doc_table.proofs.Ways.{parent-has}
-use Rattle.doc_edits.specs.Changes.{Meeting, meeting, without, removed, deleted, deleted_by, said, gained, nodes_in, given_number, inserted}
+use Rattle.doc_edits.specs.Changes.{Meeting, meeting, without, removed, renamed, renaming, deleted, deleted_by, said, gained, nodes_in, given_number, inserted}
 use Rattle.doc_edits.specs.Fitting.{MayTake}
 use Rattle.doc_edits.specs.Keeping.{DeletionsKeepTrees}
 use Rattle.doc_edits.proofs.ClearLemmas.{without-head, without-tail}
 use Rattle.doc_edits.proofs.NumberingLemmas.{place-first}
 use Rattle.doc_edits.proofs.InsertionLemmas.{given-content, content-kept, kids-parent, links-kept, old-other, entry-new}
 use Rattle.doc_edits.specs.Documents.{EditsKeepDocuments}
+use Rattle.doc_edits.proofs.RecontentLemmas.{same-kind, same-links}
+use Rattle.doc_edits.proofs.RenamingLemmas.{renaming-kind}
 use Rattle.doc_edits.proofs.RemainderLemmas.{stays-removed, stays-both, kids-removed, said-live, said-kids, said-kind, before-new, gained-kids, gained-content}
 
 -- counts in lists
@@ -245,6 +247,8 @@ module _ (T P : Table) (p before : ℕ) (t : Formed T) (f : Formed P) (doc : is_
 pub edits-keep-documents : DeletionsKeepTrees → EditsKeepDocuments
 edits-keep-documents deletions = record {
   saying = λ T n new doc. document-same T (said T n new) (said-kids new T n 0) (λ k h. said-kind new T n k) doc;
+  renaming = λ T n name doc.
+      document-same T (renamed T n name) (same-links (renaming name) (renaming-kind name) T n 0).kids (λ k h. same-kind (renaming name) (renaming-kind name) T n k) doc;
   deletion = λ T n form doc other. document-deleted deletions T n (formed-of T form) doc other;
   gain = λ T n name value form doc. document-gained T n name value (formed-of T form) doc;
   insertion = λ T p before P form piece doc may none. document-inserted T P p before (formed-of T form) (formed-of P piece) doc may none;

@@ -115,7 +115,7 @@ module _ (T : Table) (n : ℕ) (name : Name) (value : List ℕ) (s : Formed T) (
         attributes = links.attributes;
         kid_kinds = λ k h. kind-kept k (kid-old m k h);
         attribute_kinds = λ a h. kind-kept a (attribute-old m a h);
-        attribute_names = λ a h. expanded-kept a (attribute-old m a h);
+        attribute_names = λ a b ha hb e. sym (expanded-kept a (attribute-old m a ha)) ∙ (e ∙ expanded-kept b (attribute-old m b hb));
         some_text = text-kept m ne;
         way = way-kept T n (attribute name value) s.forest live s.whole m;
       }) (s.fits m)

@@ -15,7 +15,10 @@ pub mod InsertionSumLemmas
 pub mod InsertionTreeLemmas
 pub mod RemainderLemmas
 pub mod DocumentLemmas
+pub mod RenamingLemmas
+pub mod KeptContentLemmas
 pub mod KeptSayingLemmas
+pub mod KeptNameLemmas
 pub mod KeptGainLemmas
 pub mod ClearingLemmas
 pub mod UnlinkingLemmas

@@ -1,31 +1,30 @@
--- A node with another content of the same kind and name: the table stays that of a tree.
-use Rattle.std.proofs.Common.{◌≡◌, ◌≢◌, ℕ, ◌≤◌, suc, zero, cond, [], ◌∷◌, length, Option, None, Some, is_some, refl, sym, ap, ap₂, ◌∙◌, ⊎_elim}
+-- A node with another content of the same kind: the table stays that of a tree, where the names of attributes go on differing.
+use Rattle.std.proofs.Common.{◌≡◌, ◌≢◌, ℕ, ◌≤◌, suc, zero, cond, [], ◌∷◌, length, Option, None, Some, is_some, refl, sym, ap, ap₂, ◌∙◌, ⊎_elim, arith}
 use Rattle.doc_table.specs.declared.kind.Kind.TheVariants.{Text}
 use Rattle.doc_table.specs.declared.limits.TheConstants.{MAX_LIVE_TEXT_BYTES}
-use Rattle.doc_table.specs.Table.{Table, Facts, Content, parent_at, kids_at, attrs_at, content_at, kind_at, name_at, value_at, expanded_in, kind_in, name_in, parent_of, kind_of, value_of, expanded_of, is_live}
+use Rattle.doc_table.specs.Table.{Table, Facts, Content, parent_at, kids_at, attrs_at, content_at, kind_at, name_at, value_at, expanded_in, kind_in, name_in, value_in, parent_of, kind_of, name_of, value_of, is_live}
 use Rattle.doc_table.specs.Walks.{climb, ancestors, order}
 use Rattle.doc_table.specs.inner.Forest.{Forest, Whole}
-use Rattle.doc_table.specs.inner.Sound.{Fits, Formed, count_live, text_held}
+use Rattle.doc_table.specs.inner.Sound.{Fits, Formed, count_live, text_in, text_held}
 use Rattle.doc_table.proofs.ListLemmas.{eq_or}
 use Rattle.doc_table.proofs.Paths.{SameLinks, shows-kept}
 use Rattle.doc_table.proofs.Counts.{sum-set}
 use Rattle.doc_table.proofs.Telling.{order-flat}
 use Rattle.doc_edits.specs.Changes.{changed_at}
-use Rattle.doc_edits.proofs.TableLemmas.{changed-length, changed-other, changed-word, fits-kept}
+use Rattle.doc_edits.proofs.TableLemmas.{NamesApart, changed-length, changed-other, changed-word, fits-kept}
 
 abbrev pub recontent : (Content → Content) → Option Facts → Option Facts
 recontent change None = None
 recontent change (Some node) = Some (record node { content = change node.content })
 
--- a change of content keeps the kind and the name
-pub record KeepsLabel (change : Content → Content) : Type 0 where
-  pub kind : (c : Content) → kind_in (change c) ≡ kind_in c
-  pub name : (c : Content) → name_in (change c) ≡ name_in c
+-- a change of content keeps the kind
+abbrev pub KeepsKind : (Content → Content) → Type 0
+KeepsKind change = (c : Content) → kind_in (change c) ≡ kind_in c
 
 abbrev pub recontented : (Content → Content) → Table → ℕ → Table
 recontented change T n = changed_at n (recontent change) T
 
-module _ (change : Content → Content) (keeps : KeepsLabel change) where
+module _ (change : Content → Content) (keeps : KeepsKind change) where
   recontent-live : (o : Option Facts) → is_some (recontent change o) ≡ is_some o
   recontent-live None = refl
   recontent-live (Some node) = refl
@@ -44,11 +43,7 @@ module _ (change : Content → Content) (keeps : KeepsLabel change) where
 
   recontent-kind : (o : Option Facts) → kind_at (content_at (recontent change o)) ≡ kind_at (content_at o)
   recontent-kind None = refl
-  recontent-kind (Some node) = ap Some (keeps.kind node.content)
-
-  recontent-name : (o : Option Facts) → name_at (content_at (recontent change o)) ≡ name_at (content_at o)
-  recontent-name None = refl
-  recontent-name (Some node) = keeps.name node.content
+  recontent-kind (Some node) = ap Some (keeps node.content)
 
   module _ (T : Table) (n : ℕ) where
     pub same-live : (m : ℕ) → is_live (recontented change T n) m ≡ is_live T m
@@ -63,9 +58,6 @@ module _ (change : Content → Content) (keeps : KeepsLabel change) where
 
     pub same-kind : (m : ℕ) → kind_of (recontented change T n) m ≡ kind_of T m
     same-kind m = changed-word (λ o. kind_at (content_at o)) (recontent change) recontent-kind T n m
-
-    pub same-expanded : (m : ℕ) → expanded_of (recontented change T n) m ≡ expanded_of T m
-    same-expanded m = ap expanded_in (changed-word (λ o. name_at (content_at o)) (recontent change) recontent-name T n m)
 
     same-climb : (steps : ℕ) (o : Option ℕ) → climb (recontented change T n) steps o ≡ climb T steps o
     same-climb zero o = refl
@@ -93,7 +85,7 @@ module _ (change : Content → Content) (keeps : KeepsLabel change) where
     pub same-order : (B : Forest) → Whole T B → order (recontented change T n) ≡ order T
     same-order B w = order-flat (recontented change T n) B (same-whole B w) ∙ sym (order-flat T B w)
 
-    module _ (some : kind_of T n ≡ Some Text → value_of (recontented change T n) n ≢ []) where
+    module _ (some : kind_of T n ≡ Some Text → value_of (recontented change T n) n ≢ []) (apart : (m : ℕ) → NamesApart T (recontented change T n) m) where
       text-kept : (m : ℕ) → Fits T m → kind_of T m ≡ Some Text → value_of (recontented change T n) m ≢ []
       text-kept m f h =
           ⊎_elim (λ (e : m ≡ n). λ empty. some (ap (kind_of T) (sym e) ∙ h) (ap (value_of (recontented change T n)) (sym e) ∙ empty))
@@ -108,7 +100,7 @@ module _ (change : Content → Content) (keeps : KeepsLabel change) where
             attributes = (same-links m).attributes;
             kid_kinds = λ k h. same-kind k;
             attribute_kinds = λ a h. same-kind a;
-            attribute_names = λ a h. same-expanded a;
+            attribute_names = apart m;
             some_text = text-kept m f;
             way = λ live. same-ancestors m;
           }) f
@@ -124,3 +116,27 @@ module _ (change : Content → Content) (keeps : KeepsLabel change) where
         few_numbers = rw (changed-length T n (recontent change)) s.few_numbers;
         little_text = little;
       }
+
+-- a change that keeps the name
+module _ (change : Content → Content) (keeps : (c : Content) → name_in (change c) ≡ name_in c) (T : Table) (n : ℕ) where
+  recontent-name : (o : Option Facts) → name_at (content_at (recontent change o)) ≡ name_at (content_at o)
+  recontent-name None = refl
+  recontent-name (Some node) = keeps node.content
+
+  pub same-name : (m : ℕ) → name_of (recontented change T n) m ≡ name_of T m
+  same-name m = changed-word (λ o. name_at (content_at o)) (recontent change) recontent-name T n m
+
+  pub names-apart : (m : ℕ) → NamesApart T (recontented change T n) m
+  names-apart m a b ha hb e = sym (ap expanded_in (same-name a)) ∙ (e ∙ ap expanded_in (same-name b))
+
+-- a change that keeps the value
+module _ (change : Content → Content) (keeps : (c : Content) → value_in (change c) ≡ value_in c) (T : Table) (n : ℕ) where
+  recontent-value : (o : Option Facts) → value_at (content_at (recontent change o)) ≡ value_at (content_at o)
+  recontent-value None = refl
+  recontent-value (Some node) = keeps node.content
+
+  pub same-value : (m : ℕ) → value_of (recontented change T n) m ≡ value_of T m
+  same-value m = changed-word (λ o. value_at (content_at o)) (recontent change) recontent-value T n m
+
+  pub same-held : text_held (recontented change T n) ≡ text_held T
+  same-held = sum-set text_in T n (recontent change) refl (λ node. omega (arith, ap length (keeps node.content)))

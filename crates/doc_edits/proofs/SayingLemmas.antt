@@ -8,10 +8,10 @@ use Rattle.doc_table.proofs.Ways.{live-below}
 use Rattle.doc_edits.specs.Changes.{saying, with_text, said}
 use Rattle.doc_edits.specs.Fitting.{MaySay}
 use Rattle.doc_edits.proofs.TableLemmas.{changed-here, sum-replaced}
-use Rattle.doc_edits.proofs.RecontentLemmas.{KeepsLabel, formed-recontented}
+use Rattle.doc_edits.proofs.RecontentLemmas.{formed-recontented, names-apart}
 
 -- saying another text keeps the kind and the name
-saying-kind : (new : List ℕ) (c : Content) → kind_in (saying new c) ≡ kind_in c
+pub saying-kind : (new : List ℕ) (c : Content) → kind_in (saying new c) ≡ kind_in c
 saying-kind new root = refl
 saying-kind new (element _ _) = refl
 saying-kind new (attribute _ _) = refl
@@ -19,16 +19,13 @@ saying-kind new (text _) = refl
 saying-kind new (comment _) = refl
 saying-kind new (instruction _ _) = refl
 
-saying-name : (new : List ℕ) (c : Content) → name_in (saying new c) ≡ name_in c
+pub saying-name : (new : List ℕ) (c : Content) → name_in (saying new c) ≡ name_in c
 saying-name new root = refl
 saying-name new (element _ _) = refl
 saying-name new (attribute _ _) = refl
 saying-name new (text _) = refl
 saying-name new (comment _) = refl
 saying-name new (instruction _ _) = refl
-
-pub saying-keeps : (new : List ℕ) → KeepsLabel (saying new)
-saying-keeps new = record { kind = saying-kind new; name = saying-name new }
 
 -- what has no kids but a text says the new one
 says-new : (new : List ℕ) (c : Content) → holds_kids (Some (kind_in c)) ≡ false → value_in (saying new c) ≡ new
@@ -67,6 +64,6 @@ module _ (T : Table) (n : ℕ) (new : List ℕ) (lives : is_live T n ≡ true) (
 
 pub sayings-keep-trees : (T : Table) (n : ℕ) (new : List ℕ) → Formed T → MaySay T n new → Formed (said T n new)
 sayings-keep-trees T n new s may =
-    formed-recontented (saying new) (saying-keeps new) T n
-    (λ h empty. may.some h (sym (value-said T n new may.lives may.has_text) ∙ empty)) s
+    formed-recontented (saying new) (saying-kind new) T n
+    (λ h empty. may.some h (sym (value-said T n new may.lives may.has_text) ∙ empty)) (names-apart (saying new) (saying-name new) T n) s
     (omega (arith, may.little, text-count T s.forest s.whole, held-said T n new may.lives may.has_text))

@@ -42,14 +42,18 @@ sum-replaced f (Some old ∷ T) zero (Some new) h = omega arith
 sum-replaced f (None ∷ T) (suc n) x h = sum-replaced f T n x (omega arith)
 sum-replaced f (Some old ∷ T) (suc n) x h = omega (arith, sum-replaced f T n x (omega arith))
 
--- a number keeps its kids and attributes, and these their kinds and names
+-- attributes of a node whose names differ have names that differ afterwards
+abbrev pub NamesApart : Table → Table → ℕ → Type 0
+NamesApart T U m = (a b : ℕ) → mem a (attrs_of T m) ≡ true → mem b (attrs_of T m) ≡ true → expanded_of U a ≡ expanded_of U b → expanded_of T a ≡ expanded_of T b
+
+-- a number keeps its kids and attributes, and these their kinds; names go on differing
 pub record KeepsFit (T U : Table) (m : ℕ) : Type 0 where
   pub kind : kind_of U m ≡ kind_of T m
   pub kids : kids_of U m ≡ kids_of T m
   pub attributes : attrs_of U m ≡ attrs_of T m
   pub kid_kinds : (k : ℕ) → mem k (kids_of T m) ≡ true → kind_of U k ≡ kind_of T k
   pub attribute_kinds : (a : ℕ) → mem a (attrs_of T m) ≡ true → kind_of U a ≡ kind_of T a
-  pub attribute_names : (a : ℕ) → mem a (attrs_of T m) ≡ true → expanded_of U a ≡ expanded_of T a
+  pub attribute_names : NamesApart T U m
   pub some_text : kind_of T m ≡ Some Text → value_of U m ≢ []
   pub way : is_live T m ≡ true → ancestors U m ≡ ancestors T m
 
@@ -64,8 +68,7 @@ fits-kept T U m same f =
       attribute_kind = λ a h. same.attribute_kinds a (at a h) ∙ f.attribute_kind a (at a h);
       holder_kind = λ k h. ap holds_kids same.kind ∙ f.holder_kind k (kid k h);
       owner_kind = λ a h. same.kind ∙ f.owner_kind a (at a h);
-      names_differ = λ a b ha hb e. f.names_differ a b (at a ha) (at b hb)
-          (sym (same.attribute_names a (at a ha)) ∙ (e ∙ same.attribute_names b (at b hb)));
+      names_differ = λ a b ha hb e. f.names_differ a b (at a ha) (at b hb) (same.attribute_names a b (at a ha) (at b hb) e);
       some_text = λ h. same.some_text (sym same.kind ∙ h);
       texts_apart = rw same.kids (texts-kept T U (kids_of T m) same.kid_kinds f.texts_apart);
       not_deep = λ h.

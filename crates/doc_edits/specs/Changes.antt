@@ -27,6 +27,23 @@ with_text new (Some node) = Some (record node { content = saying new node.conten
 abbrev pub said : Table → ℕ → List ℕ → Table
 said T n new = changed_at n (with_text new) T
 
+-- a content with another name; only elements and attributes have one that changes
+abbrev pub renaming : Name → Content → Content
+renaming new root = root
+renaming new (element name decls) = element new decls
+renaming new (attribute name value) = attribute new value
+renaming new (text characters) = text characters
+renaming new (comment characters) = comment characters
+renaming new (instruction name characters) = instruction name characters
+
+abbrev pub with_name : Name → Option Facts → Option Facts
+with_name new None = None
+with_name new (Some node) = Some (record node { content = renaming new node.content })
+
+-- a node gets another name
+abbrev pub renamed : Table → ℕ → Name → Table
+renamed T n new = changed_at n (with_name new) T
+
 -- a list without a number
 abbrev pub without : ℕ → List ℕ → List ℕ
 without n ms = filter (λ m. not (m == n)) ms

@@ -4,7 +4,7 @@ use Rattle.std.specs.List.{list_any}
 use Rattle.doc_table.specs.declared.kind.Kind.TheVariants.{Element, Text}
 use Rattle.doc_table.specs.declared.limits.TheConstants.{MAX_DEPTH, MAX_LIVE_NODES, MAX_LIVE_TEXT_BYTES, MAX_NODE_NUMBERS}
 use Rattle.doc_table.specs.Growth.{ends_in_text}
-use Rattle.doc_table.specs.Kinds.{holds_kids, is_text}
+use Rattle.doc_table.specs.Kinds.{has_own_name, holds_kids, is_text}
 use Rattle.doc_table.specs.Laws.{TextsApart}
 use Rattle.doc_table.specs.Lists.{mem}
 use Rattle.doc_table.specs.Table.{Name, Table, attrs_of, expanded, expanded_of, is_live, kids_of, kind_of, value_of}
@@ -17,6 +17,11 @@ pub record MaySay (T : Table) (n : ℕ) (new : List ℕ) : Type 0 where
   pub has_text : holds_kids (kind_of T n) ≡ false
   pub some : kind_of T n ≡ Some Text → new ≢ []
   pub little : text_bytes T + length new ≤ MAX_LIVE_TEXT_BYTES + length (value_of T n)
+
+-- an element or an attribute may get another name: one that no other attribute of the same element has
+pub record MayRename (T : Table) (n : ℕ) (name : Name) : Type 0 where
+  pub named : has_own_name (kind_of T n) ≡ true
+  pub is_new : (p a : ℕ) → mem n (attrs_of T p) ≡ true → mem a (attrs_of T p) ≡ true → expanded_of T a ≡ Some (expanded name) → a ≡ n
 
 -- a node, or an attribute, may be removed: it is not the root, and no two texts meet then
 pub record MayGo (T : Table) (n : ℕ) : Type 0 where

@@ -2,11 +2,14 @@
 use Rattle.std.specs.Prelude.{◌≡◌, ℕ, List, ◌++◌}
 use Rattle.doc_table.specs.Laws.{WellFormed}
 use Rattle.doc_table.specs.Table.{Name, Table}
-use Rattle.doc_edits.specs.Changes.{deleted, gained, inserted, removed, said}
-use Rattle.doc_edits.specs.Fitting.{MayGain, MayGo, MaySay, MayTake}
+use Rattle.doc_edits.specs.Changes.{deleted, gained, inserted, removed, renamed, said}
+use Rattle.doc_edits.specs.Fitting.{MayGain, MayGo, MayRename, MaySay, MayTake}
 
 abbrev pub SayingsKeepTrees : Type 0
 SayingsKeepTrees = (T : Table) (n : ℕ) (new : List ℕ) → WellFormed T → MaySay T n new → WellFormed (said T n new)
+
+abbrev pub RenamesKeepTrees : Type 0
+RenamesKeepTrees = (T : Table) (n : ℕ) (name : Name) → WellFormed T → MayRename T n name → WellFormed (renamed T n name)
 
 abbrev pub RemovalsKeepTrees : Type 0
 RemovalsKeepTrees = (T : Table) (n : ℕ) → WellFormed T → MayGo T n → WellFormed (removed T n)

@@ -1,4 +1,4 @@
-pub mod KeptSayings
+pub mod KeptContents
 pub mod Removing
 pub mod Copies
 pub mod Grafts

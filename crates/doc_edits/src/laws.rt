@@ -1,11 +1,16 @@
 //! Laws of changes: the table of a tree stays one.
 
 ghost use Rattle.doc_edits.specs.Documents.{EditsKeepDocuments};
-ghost use Rattle.doc_edits.specs.Keeping.{DeletionsKeepTrees, InsertionsKeepTrees, GainsKeepTrees, RemovalsKeepTrees, SayingsKeepTrees};
+ghost use Rattle.doc_edits.specs.Keeping.{DeletionsKeepTrees, InsertionsKeepTrees, GainsKeepTrees, RemovalsKeepTrees, RenamesKeepTrees, SayingsKeepTrees};
 
 /// A node with another text is a node of a tree.
 pub fn sayings_keep_trees()
     ensures { SayingsKeepTrees }
+{}
+
+/// A node with another name is a node of a tree, where no other attribute of its element has the name.
+pub fn renames_keep_trees()
+    ensures { RenamesKeepTrees }
 {}
 
 /// A tree without a node, and all below it, is a tree.

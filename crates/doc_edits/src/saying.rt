@@ -4,7 +4,7 @@ ghost use Rattle.std.specs.Prelude.{◌≡◌, ◌<◌, None, OnOk, OnErr, slice
 ghost use Rattle.doc_table.specs.inner.Parts.{IsSound, table_of};
 ghost use Rattle.doc_edits.specs.Changes.{said};
 ghost use Rattle.doc_edits.specs.Fitting.{MaySay};
-ghost use Rattle.doc_edits.specs.inner.KeptSayings.{content_saying, kept_saying_at};
+ghost use Rattle.doc_edits.specs.inner.KeptContents.{content_saying, kept_holding};
 
 use doc_table::{Bare, Node, NodeContent, NodeId};
 use sch_base::Text;
@@ -45,7 +45,7 @@ pub(crate) fn put_text(bare: &mut Bare, n: NodeId, text: Text)
 /// Replaces the text of a node among the nodes.
 fn replace_text(nodes: &mut Vec<Option<Node>>, n: NodeId, text: Text)
     requires { n < vec_len nodes.old }
-    ensures { nodes.new.items ≡ slice_set nodes.old.items n (kept_saying_at text (slice_index_or nodes.old.items n None)) }
+    ensures { nodes.new.items ≡ slice_set nodes.old.items n (kept_holding (content_saying text) (slice_index_or nodes.old.items n None)) }
 {
     let slot = &mut nodes[n.index()];
     match slot {

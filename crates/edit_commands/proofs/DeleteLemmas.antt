@@ -21,7 +21,7 @@ use Rattle.doc_edits.proofs.PruneLemmas.{cut_at}
 use Rattle.doc_edits.proofs.RecontentLemmas.{same-live}
 use Rattle.doc_edit_laws.specs.Along.{Edit, EditsLeave, Left, deletes, none, then}
 use Rattle.doc_edit_laws.specs.Touching.{touched_deletion, touched_kids, touched_meeting}
-use Rattle.doc_edit_laws.proofs.SayingAgreement.{saying-keeps}
+use Rattle.doc_edits.proofs.SayingLemmas.{saying-kind}
 use Rattle.doc_edit_laws.proofs.TextLemmas.{ways-alike}
 use Rattle.name_scopes.specs.Scoping.{InScope}
 use Rattle.name_scopes_laws.specs.Scopes.{DeletionsKeepScope}
@@ -47,7 +47,7 @@ parent-lives T n p formed up =
     by (Some texts) e =
         let m : Met T n (kids_of T p) texts = met T n (kids_of T p) texts e in
         let new : List ℕ = value_of T texts.left ++ value_of T texts.right in
-        same-live (saying new) (saying-keeps new) (removed (removed T texts.right) n) texts.left p
+        same-live (saying new) (saying-kind new) (removed (removed T texts.right) n) texts.left p
         ∙ (ap (λ V. is_live (removed V n) p) (is-first T n p texts.left texts.right m.front m.back formed up m.is m.left_text m.right_text)
         ∙ parent-stays (first T n p texts.left texts.right m.front m.back formed up m.is m.left_text m.right_text) n p
         (first-formed T n p texts.left texts.right m.front m.back formed up m.is m.left_text m.right_text)

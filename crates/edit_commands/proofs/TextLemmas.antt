@@ -21,7 +21,7 @@ use Rattle.doc_edits.specs.Fitting.{MaySay}
 use Rattle.doc_edits.proofs.RecontentLemmas.{same-ancestors}
 use Rattle.doc_edit_laws.specs.Along.{Edit, says}
 use Rattle.doc_edit_laws.specs.Touching.{touched_saying}
-use Rattle.doc_edit_laws.proofs.SayingAgreement.{saying-keeps}
+use Rattle.doc_edits.proofs.SayingLemmas.{saying-kind}
 use Rattle.name_scopes.specs.Scoping.{InScope}
 use Rattle.name_scopes_laws.specs.Scopes.{SayingsKeepScope}
 use Rattle.edit_script.specs.declared.command.Command.TheVariants.{SetText}
@@ -33,7 +33,7 @@ use Rattle.edit_commands.specs.inner.Done.{Done}
 -- what is kept of the edit holds the cells that it touches
 pub said-holds : (T : Table) (n : ℕ) (new : List ℕ) (is : Bool) → is ≡ is_text (kind_of T n) → (c : Cell) → holds_cell (said T n new) (Said n is) c ≡ touched_saying T n c
 said-holds T n new is e (Value m) = refl
-said-holds T n new is e (Text m) = ap₂ (λ (b : Bool) (l : List ℕ). b && mem m l) e (same-ancestors (saying new) (saying-keeps new) T n n)
+said-holds T n new is e (Text m) = ap₂ (λ (b : Bool) (l : List ℕ). b && mem m l) e (same-ancestors (saying new) (saying-kind new) T n n)
 said-holds T n new is e (Kids m) = refl
 said-holds T n new is e (Shape m) = refl
 said-holds T n new is e (Attrs m) = refl

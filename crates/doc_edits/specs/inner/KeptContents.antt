@@ -1,9 +1,14 @@
--- What is kept of a node that says another text.
+-- What is kept of a node that holds another content of the same kind.
 use Rattle.std.specs.Prelude.{ℕ, List, Option, None, Some}
 use Rattle.doc_table.specs.declared.node.Node.{Node}
 use Rattle.doc_table.specs.declared.node.NodeContent.{NodeContent}
 use Rattle.doc_table.specs.declared.node.NodeContent.TheVariants as kept
 
+abbrev pub kept_holding : (NodeContent → NodeContent) → Option Node → Option Node
+kept_holding change None = None
+kept_holding change (Some node) = Some (record node { content = change node.content })
+
+-- it says another text
 abbrev pub content_saying : List ℕ → NodeContent → NodeContent
 content_saying new kept.Root = kept.Root
 content_saying new (kept.Element id decls) = kept.Element id decls
@@ -12,9 +17,11 @@ content_saying new (kept.Text characters) = kept.Text new
 content_saying new (kept.Comment characters) = kept.Comment new
 content_saying new (kept.Pi id characters) = kept.Pi id new
 
-abbrev pub kept_saying : List ℕ → Node → Node
-kept_saying new node = record node { content = content_saying new node.content }
-
-abbrev pub kept_saying_at : List ℕ → Option Node → Option Node
-kept_saying_at new None = None
-kept_saying_at new (Some node) = Some (kept_saying new node)
+-- it has another name
+abbrev pub content_renaming : ℕ → NodeContent → NodeContent
+content_renaming new kept.Root = kept.Root
+content_renaming new (kept.Element id decls) = kept.Element new decls
+content_renaming new (kept.Attribute id value) = kept.Attribute new value
+content_renaming new (kept.Text characters) = kept.Text characters
+content_renaming new (kept.Comment characters) = kept.Comment characters
+content_renaming new (kept.Pi id characters) = kept.Pi id characters
