@@ -5,5 +5,6 @@ pub mod OrderLemmas
 pub mod RefusalLemmas
 pub mod InsertLemmas
 pub mod AttributeLemmas
+pub mod RenamingLemmas
 pub mod DeleteLemmas
 pub mod Outcomes

@@ -13,7 +13,7 @@ use Rattle.doc_table.specs.Table.{Contents, Table, is_root, kids_above, kids_of,
 use Rattle.doc_table.specs.Walks.{above, ancestors, order, text_bytes}
 use Rattle.doc_edits.specs.Changes.{meeting, nodes_in}
 use Rattle.doc_tree.specs.declared.refusal.EditRefusal.{EditRefusal}
-use Rattle.doc_tree.specs.declared.refusal.EditRefusal.TheVariants.{WrongKind, NotInRange, RootElement, TextBeside, EmptyText, NoPrefix, XmlnsName, NoAttribute, TooManyNodes, TooDeep, TooMuchText, IdsSpent, TooManyPairs}
+use Rattle.doc_tree.specs.declared.refusal.EditRefusal.TheVariants.{WrongKind, NotInRange, RootElement, TextBeside, EmptyText, NoPrefix, SameAttribute, XmlnsName, NoAttribute, TooManyNodes, TooDeep, TooMuchText, IdsSpent, TooManyPairs}
 use Rattle.doc_tree.specs.declared.refusal.EditError.{EditError}
 use Rattle.doc_tree.specs.declared.refusal.EditError.TheVariants.{Refused, Memory}
 use Rattle.doc_tree.specs.NameTests.{attribute_meant}
@@ -98,11 +98,15 @@ insertion_refusal tree p at P = option_or (place_refusal tree.nodes p at (kind_o
 abbrev pub declares_namespace : List ℕ → List ℕ → Bool
 declares_namespace prefix local = bytes_eq prefix xmlns_prefix || (is_nil prefix && bytes_eq local xmlns_prefix)
 
+-- a prefix is not in scope, `xmlns` apart
+abbrev pub is_unbound : Table → ℕ → List ℕ → Bool
+is_unbound T n prefix = not (bytes_eq prefix xmlns_prefix) && is_none (attribute_namespace (scope_at T n) prefix)
+
 -- an attribute of a name is set or unset
 abbrev pub name_refusal : Table → ℕ → List ℕ → List ℕ → Option EditRefusal
 name_refusal T n prefix local =
     if not (is_element (kind_of T n)) then Some WrongKind
-    else if not (bytes_eq prefix xmlns_prefix) && is_none (attribute_namespace (scope_at T n) prefix) then Some NoPrefix
+    else if is_unbound T n prefix then Some NoPrefix
     else if declares_namespace prefix local then Some XmlnsName
     else None
 
@@ -129,3 +133,31 @@ absence_refusal (Some a) = None
 abbrev pub unsetting_refusal : Table → ℕ → List ℕ → List ℕ → Option EditRefusal
 unsetting_refusal T n prefix local =
     option_or (name_refusal T n prefix local) (absence_refusal (attribute_meant T n prefix local))
+
+-- an element gets another name: it may be `xmlns`, and only that prefix is for declarations
+abbrev pub renaming_refusal : Table → ℕ → List ℕ → Option EditRefusal
+renaming_refusal T n prefix =
+    if not (is_element (kind_of T n)) then Some WrongKind
+    else if is_unbound T n prefix then Some NoPrefix
+    else if bytes_eq prefix xmlns_prefix then Some XmlnsName
+    else None
+
+-- two nodes were found, and not one
+abbrev pub are_two : Option ℕ → Option ℕ → Bool
+are_two None other = false
+are_two (Some a) None = false
+are_two (Some a) (Some b) = not (a == b)
+
+-- an attribute with one name gets another, which no other attribute of the element has
+abbrev pub name_pair_refusal : Table → ℕ → List ℕ → List ℕ → List ℕ → List ℕ → Option EditRefusal
+name_pair_refusal T n old_prefix old_local prefix local =
+    if not (is_element (kind_of T n)) then Some WrongKind
+    else if is_unbound T n old_prefix || is_unbound T n prefix then Some NoPrefix
+    else if are_two (attribute_meant T n old_prefix old_local) (attribute_meant T n prefix local) then Some SameAttribute
+    else if declares_namespace old_prefix old_local || declares_namespace prefix local then Some XmlnsName
+    else None
+
+-- and it is there
+abbrev pub attribute_renaming_refusal : Table → ℕ → List ℕ → List ℕ → List ℕ → List ℕ → Option EditRefusal
+attribute_renaming_refusal T n old_prefix old_local prefix local =
+    option_or (name_pair_refusal T n old_prefix old_local prefix local) (absence_refusal (attribute_meant T n old_prefix old_local))

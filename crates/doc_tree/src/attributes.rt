@@ -6,7 +6,7 @@ ghost use Rattle.doc_table.specs.Kinds.{is_document};
 ghost use Rattle.doc_edits.specs.Changes.{gained};
 ghost use Rattle.doc_tree.specs.Edited.{NamesGrow, attribute_name_at, attribute_set, attribute_unset};
 ghost use Rattle.doc_tree.specs.NameTests.{attribute_meant, attribute_named};
-ghost use Rattle.doc_tree.specs.Refusals.{RefusesFor, RefusesOnlyFor, declares_namespace, name_refusal, setting_refusal, unsetting_refusal, value_refusal};
+ghost use Rattle.doc_tree.specs.Refusals.{RefusesFor, RefusesOnlyFor, declares_namespace, is_unbound, name_refusal, setting_refusal, unsetting_refusal, value_refusal};
 ghost use Rattle.doc_tree.specs.Scope.{attribute_namespace, namespace_or_none, scope_at};
 
 use crate::declarations::is_xmlns;
@@ -122,7 +122,7 @@ impl Tree {
     }
 
     /// The namespace of an attribute's prefix at an element; empty where it has none, or isn't in scope.
-    fn attribute_uri(&self, n: NodeId, prefix: &str) -> &str
+    pub(crate) fn attribute_uri(&self, n: NodeId, prefix: &str) -> &str
         ensures { result.now ≡ namespace_or_none self.now.nodes n prefix.now }
     {
         match self.attribute_namespace(n, prefix) {
@@ -166,13 +166,20 @@ impl Tree {
         if !self.is_element(n) {
             return Some(EditRefusal::WrongKind);
         }
-        if !is_xmlns(prefix) && self.attribute_namespace(n, prefix).is_none() {
+        if self.is_unbound(n, prefix) {
             return Some(EditRefusal::NoPrefix);
         }
         if declares_namespace(prefix, local) {
             return Some(EditRefusal::XmlnsName);
         }
         None
+    }
+
+    /// Whether a prefix other than `xmlns` isn't in scope at a node.
+    pub(crate) fn is_unbound(&self, n: NodeId, prefix: &str) -> bool
+        ensures { result ≡ is_unbound self.now.nodes n prefix.now }
+    {
+        !is_xmlns(prefix) && self.attribute_namespace(n, prefix).is_none()
     }
 
     /// The first reason against a value of an attribute that is there, or of a new one.
@@ -212,7 +219,7 @@ impl Tree {
 
 /// Whether a name is that of a declaration: `xmlns`, or one with the prefix `xmlns`.
 #[tactic(auto, unfolding(crate::specs::Scope::xmlns_prefix))]
-fn declares_namespace(prefix: &str, local: &str) -> bool
+pub(crate) fn declares_namespace(prefix: &str, local: &str) -> bool
     ensures { result ≡ declares_namespace prefix.now local.now }
 {
     is_xmlns(prefix) || (prefix.is_empty() && is_xmlns(local))

@@ -10,6 +10,7 @@ mod edits;
 mod inserting;
 mod laws;
 mod refusal;
+mod renaming;
 mod room;
 mod string_values;
 mod tree;

@@ -24,7 +24,7 @@ pub enum EditRefusal {
     EmptyText,
     /// A prefix isn't in scope.
     NoPrefix,
-    /// The name is one of declarations, not of attributes.
+    /// The name is one of declarations, not of attributes, or has their prefix, as no element's does.
     XmlnsName,
     /// The element has no such attribute.
     NoAttribute,
