@@ -3,7 +3,7 @@ use Rattle.std.proofs.Common.{◌≡◌, ℕ, Bool, true, false, ◌⊎◌, ◌=
 use Rattle.std.proofs.lemmas.Bool.{and_from, and_parts, eqb-true, false_from_ne_true, false≢true, or_cases}
 use Rattle.std.specs.FinSet.{contains}
 use Rattle.doc_tree.specs.cell.Cell.{Cell}
-use Rattle.doc_tree.specs.cell.Cell.TheVariants.{Kids, Shape, Attrs, Value, Text}
+use Rattle.doc_tree.specs.cell.Cell.TheVariants.{Kids, Shape, Attrs, Value, Text, Name}
 use Rattle.doc_tree.specs.Kinds.{is_text}
 use Rattle.doc_tree.specs.Laws.{HasWaysUp}
 use Rattle.doc_tree.specs.Lists.{mem}
@@ -26,6 +26,7 @@ covers-wide T (Shape n) c e = absurd (false≢true (sym e))
 covers-wide T (Attrs n) c e = refl
 covers-wide T (Value n) c e = refl
 covers-wide T (Text n) c e = absurd (false≢true (sym e))
+covers-wide T (Name n) c e = refl
 
 module _ (T : Table) (ways : HasWaysUp T) (reads held : CellSet) (shapes texts : List ℕ)
     (stands : StandsFor reads shapes texts) (left : Leaves (is_covered T shapes texts) reads held) where
@@ -63,6 +64,7 @@ module _ (T : Table) (ways : HasWaysUp T) (reads held : CellSet) (shapes texts :
       let up : Higher T one.0 m = higher T ways m one.0 one.1 in
       (Shape top.0, top.1, inr (mem-behind top.0 m (ancestors T m) (up.over top.0 top.2)))
   over (Attrs m) e = absurd (false≢true e)
+  over (Name m) e = absurd (false≢true e)
   over (Value m) e =
       let parts = and_parts (is_text (kind_of T m)) (meets (ancestors T m) texts) e in
       let one = met (ancestors T m) texts parts.1 in

@@ -8,7 +8,7 @@ use Rattle.std.proofs.lemmas.Bool.{false≢true, or_cases}
 use Rattle.std.proofs.lemmas.List.{take_all}
 use Rattle.std.proofs.lemmas.List.Folds.{list_any-append, list_any_more}
 use Rattle.doc_tree.specs.cell.Cell.{Cell}
-use Rattle.doc_tree.specs.cell.Cell.TheVariants.{Kids, Shape, Attrs, Value, Text}
+use Rattle.doc_tree.specs.cell.Cell.TheVariants.{Kids, Shape, Attrs, Value, Text, Name}
 use Rattle.doc_tree.specs.Lists.{mem}
 use Rattle.xp_outcome.specs.Recorded.{CellSet, cell_cmp}
 use Rattle.xp_outcome.proofs.Sets.{cell_cmp_antisymmetric, cell_cmp_total}
@@ -33,6 +33,7 @@ shape_ties n (Shape m) = or_false (n == m) ∙ sym (unsigned_tied n m)
 shape_ties n (Attrs m) = refl
 shape_ties n (Value m) = refl
 shape_ties n (Text m) = refl
+shape_ties n (Name m) = refl
 
 text_ties : (n : ℕ) (c : Cell) → mem n (text_in c) ≡ eq_by_cmp cell_cmp (Text n) c
 text_ties n (Kids m) = refl
@@ -40,6 +41,7 @@ text_ties n (Shape m) = refl
 text_ties n (Attrs m) = refl
 text_ties n (Value m) = refl
 text_ties n (Text m) = or_false (n == m) ∙ sym (unsigned_tied n m)
+text_ties n (Name m) = refl
 
 module _ (n : ℕ) (f : Cell → List ℕ) (q : Cell) (ties : (c : Cell) → mem n (f c) ≡ eq_by_cmp cell_cmp q c) where
   listed : (cells : List Cell) → mem n (flat_map f cells) ≡ list_any (eq_by_cmp cell_cmp q) cells

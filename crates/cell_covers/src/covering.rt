@@ -42,7 +42,7 @@ impl Covering {
         match cell {
             Cell::Kids(n) => self.shapes.meets_above(tree, n),
             Cell::Shape(n) => self.shapes.meets_ancestors(tree, n),
-            Cell::Attrs(_) => false,
+            Cell::Attrs(_) | Cell::Name(_) => false,
             Cell::Value(n) => tree.is_kind(n, Kind::Text) && self.texts.meets_ancestors(tree, n),
             Cell::Text(n) => self.texts.meets_ancestors(tree, n),
         }
@@ -73,7 +73,7 @@ impl Wide {
         match cell {
             Cell::Shape(n) => self.shapes.push(n.index())?,
             Cell::Text(n) => self.texts.push(n.index())?,
-            Cell::Kids(_) | Cell::Attrs(_) | Cell::Value(_) => (),
+            Cell::Kids(_) | Cell::Attrs(_) | Cell::Value(_) | Cell::Name(_) => (),
         }
         Ok(())
     }

@@ -2,7 +2,7 @@
 use Rattle.std.proofs.Common.{◌≡◌, ◌∙◌, Bool, true, false, cond, ◌||◌, ◌&&◌, List, [], ◌∷◌, refl, sym, ap}
 use Rattle.std.proofs.lemmas.Bool.{eq-eqb, eqb-true, false≢true}
 use Rattle.doc_tree.specs.cell.Cell.{Cell}
-use Rattle.doc_tree.specs.cell.Cell.TheVariants.{Kids, Shape, Attrs, Value, Text}
+use Rattle.doc_tree.specs.cell.Cell.TheVariants.{Kids, Shape, Attrs, Value, Text, Name}
 use Rattle.std.proofs.lemmas.List.Sorted.{list_any-IsPermutation}
 use Rattle.std.specs.Bool.{OnTrue}
 use Rattle.std.specs.Cmp.Lexicographic.{pointwise}
@@ -17,6 +17,7 @@ is_cell-is (Shape n) (Shape m) same = ap Shape (eqb-true n m same)
 is_cell-is (Attrs n) (Attrs m) same = ap Attrs (eqb-true n m same)
 is_cell-is (Value n) (Value m) same = ap Value (eqb-true n m same)
 is_cell-is (Text n) (Text m) same = ap Text (eqb-true n m same)
+is_cell-is (Name n) (Name m) same = ap Name (eqb-true n m same)
 is_cell-is c d same = absurd (false≢true same)
 
 pub is_cell-self : (c : Cell) → is_cell c c ≡ true
@@ -25,6 +26,7 @@ is_cell-self (Shape n) = eq-eqb n n refl
 is_cell-self (Attrs n) = eq-eqb n n refl
 is_cell-self (Value n) = eq-eqb n n refl
 is_cell-self (Text n) = eq-eqb n n refl
+is_cell-self (Name n) = eq-eqb n n refl
 
 -- Cells in their order, each once
 

@@ -8,7 +8,7 @@ use Rattle.doc_table.proofs.Forests.{formed-of}
 use Rattle.doc_table.proofs.ListLemmas.{mem-In}
 use Rattle.doc_table.proofs.Ways.{above-live}
 use Rattle.doc_tree.specs.cell.Cell.{Cell}
-use Rattle.doc_tree.specs.cell.Cell.TheVariants.{Kids, Shape, Attrs, Value, Text}
+use Rattle.doc_tree.specs.cell.Cell.TheVariants.{Kids, Shape, Attrs, Value, Text, Name}
 use Rattle.doc_tree.specs.Kinds.{holds_kids, is_text}
 use Rattle.doc_tree.specs.Laws.{HasWaysUp, WellFormed}
 use Rattle.doc_tree.specs.Lists.{mem}
@@ -124,6 +124,7 @@ module _ (T : Table) (form : WellFormed T) (ways : HasWaysUp T) where
   kids-live p live (Text m) t = up-live p live m t
   kids-live p live (Attrs m) t = absurd (false≢true t)
   kids-live p live (Value m) t = absurd (false≢true t)
+  kids-live p live (Name m) t = absurd (false≢true t)
 
   attributes-live : (n : ℕ) → is_live T n ≡ true → (c : Cell) → touched_attributes n c ≡ true → is_live T (node_of c) ≡ true
   attributes-live n live (Attrs m) t = ap (is_live T) (eqb-true m n t) ∙ live
@@ -131,6 +132,7 @@ module _ (T : Table) (form : WellFormed T) (ways : HasWaysUp T) where
   attributes-live n live (Shape m) t = absurd (false≢true t)
   attributes-live n live (Text m) t = absurd (false≢true t)
   attributes-live n live (Value m) t = absurd (false≢true t)
+  attributes-live n live (Name m) t = absurd (false≢true t)
 
   saying-live : (n : ℕ) → is_live T n ≡ true → (c : Cell) → touched_saying T n c ≡ true → is_live T (node_of c) ≡ true
   saying-live n live (Value m) t = ap (is_live T) (eqb-true m n t) ∙ live
@@ -139,6 +141,7 @@ module _ (T : Table) (form : WellFormed T) (ways : HasWaysUp T) where
   saying-live n live (Kids m) t = absurd (false≢true t)
   saying-live n live (Shape m) t = absurd (false≢true t)
   saying-live n live (Attrs m) t = absurd (false≢true t)
+  saying-live n live (Name m) t = absurd (false≢true t)
 
   meeting-live : (o : Option Meeting) → ((texts : Meeting) → o ≡ Some texts → is_live T texts.left ≡ true) → (c : Cell) → touched_meeting o c ≡ true → is_live T (node_of c) ≡ true
   meeting-live None live c t = absurd (false≢true t)
@@ -147,6 +150,7 @@ module _ (T : Table) (form : WellFormed T) (ways : HasWaysUp T) where
   meeting-live (Some texts) live (Shape m) t = absurd (false≢true t)
   meeting-live (Some texts) live (Attrs m) t = absurd (false≢true t)
   meeting-live (Some texts) live (Text m) t = absurd (false≢true t)
+  meeting-live (Some texts) live (Name m) t = absurd (false≢true t)
 
   pub touched-live : (U : Table) (touched : Cell → Bool) → Edit T U touched → (c : Cell) → touched c ≡ true → is_live T (node_of c) ≡ true
   touched-live _ _ (says n new may) c t = saying-live n may.lives c t

@@ -1,7 +1,7 @@
 -- The cells that edits touch.
 use Rattle.std.specs.Prelude.{ℕ, ◌==◌, Bool, false, ◌&&◌, ◌||◌, Option, None, Some}
 use Rattle.doc_tree.specs.cell.Cell.{Cell}
-use Rattle.doc_tree.specs.cell.Cell.TheVariants.{Kids, Shape, Attrs, Value, Text}
+use Rattle.doc_tree.specs.cell.Cell.TheVariants.{Kids, Shape, Attrs, Value, Text, Name}
 use Rattle.doc_tree.specs.Kinds.{is_text}
 use Rattle.doc_tree.specs.Lists.{mem}
 use Rattle.doc_tree.specs.Table.{Table, kids_above, kind_of}
@@ -15,6 +15,7 @@ touched_saying T n (Text m) = is_text (kind_of T n) && mem m (ancestors T n)
 touched_saying T n (Kids m) = false
 touched_saying T n (Shape m) = false
 touched_saying T n (Attrs m) = false
+touched_saying T n (Name m) = false
 
 -- an attribute of an element comes or goes: its list of attributes
 abbrev pub touched_attributes : ℕ → Cell → Bool
@@ -23,6 +24,7 @@ touched_attributes n (Kids m) = false
 touched_attributes n (Shape m) = false
 touched_attributes n (Value m) = false
 touched_attributes n (Text m) = false
+touched_attributes n (Name m) = false
 
 -- nodes come or go under a node: its kids, and of it and all above it what stands below and the texts
 abbrev pub touched_kids : Table → ℕ → Cell → Bool
@@ -31,6 +33,7 @@ touched_kids T p (Shape m) = mem m (above T p)
 touched_kids T p (Text m) = mem m (above T p)
 touched_kids T p (Attrs m) = false
 touched_kids T p (Value m) = false
+touched_kids T p (Name m) = false
 
 -- two texts meet: the value of the left one
 abbrev pub touched_meeting : Option Meeting → Cell → Bool

@@ -5,7 +5,7 @@ use Rattle.doc_table.specs.inner.Sound.{Formed}
 use Rattle.doc_table.proofs.Forests.{formed-of}
 use Rattle.doc_table.proofs.TreeLaws.{ways-up}
 use Rattle.doc_tree.specs.cell.Cell.{Cell}
-use Rattle.doc_tree.specs.cell.Cell.TheVariants.{Kids, Shape, Attrs, Value, Text}
+use Rattle.doc_tree.specs.cell.Cell.TheVariants.{Kids, Shape, Attrs, Value, Text, Name}
 use Rattle.doc_tree.specs.declared.refusal.EditRefusal.TheVariants.{WrongKind, RootElement}
 use Rattle.doc_tree.specs.Kinds.{can_be_kid, is_element}
 use Rattle.doc_tree.specs.Lists.{mem}
@@ -60,6 +60,7 @@ kids-hold T U p same (Shape m) = ap (λ (l : List ℕ). mem m (p ∷ l)) same
 kids-hold T U p same (Text m) = ap (λ (l : List ℕ). mem m (p ∷ l)) same
 kids-hold T U p same (Attrs m) = refl
 kids-hold T U p same (Value m) = refl
+kids-hold T U p same (Name m) = refl
 
 -- the value of the left one of two texts that meet
 left-holds : (o : Option Meeting) (c : Cell) → left_cell (left_of o) c ≡ touched_meeting o c
@@ -69,6 +70,7 @@ left-holds (Some texts) (Kids m) = refl
 left-holds (Some texts) (Shape m) = refl
 left-holds (Some texts) (Attrs m) = refl
 left-holds (Some texts) (Text m) = refl
+left-holds (Some texts) (Name m) = refl
 
 module _ (scopes : DeletionsKeepScope) (leaves : EditsLeave) (before after : Contents) (n p : ℕ) (left : Option ℕ) (form : WellFormed before.nodes)
     (up : parent_of before.nodes n ≡ Some p) (is : left ≡ left_of (meeting before.nodes n (kids_of before.nodes p)))

@@ -6,7 +6,7 @@ use Rattle.pyx_core.specs.Nesting.{of_chars}
 use Rattle.doc_table.specs.Laws.{WellFormed}
 use Rattle.doc_table.specs.declared.limits.TheConstants.{MAX_LIVE_TEXT_BYTES}
 use Rattle.doc_tree.specs.cell.Cell.{Cell}
-use Rattle.doc_tree.specs.cell.Cell.TheVariants.{Kids, Shape, Attrs, Value, Text}
+use Rattle.doc_tree.specs.cell.Cell.TheVariants.{Kids, Shape, Attrs, Value, Text, Name}
 use Rattle.doc_tree.specs.declared.refusal.EditRefusal.TheVariants.{WrongKind, EmptyText, TooMuchText}
 use Rattle.doc_tree.specs.kind.Kind.{Kind}
 use Rattle.doc_tree.specs.kind.Kind.TheVariants as kinds
@@ -37,6 +37,7 @@ said-holds T n new is e (Text m) = ap₂ (λ (b : Bool) (l : List ℕ). b && mem
 said-holds T n new is e (Kids m) = refl
 said-holds T n new is e (Shape m) = refl
 said-holds T n new is e (Attrs m) = refl
+said-holds T n new is e (Name m) = refl
 
 own-text-live : (T : Table) (n : ℕ) → has_own_text (kind_of T n) ≡ true → is_live T n ≡ true
 own-text-live T n h = by (entry_at T n) h

@@ -1,7 +1,7 @@
 -- The cells that an accepted command touches: by the tree before it, and by the tree after it and what is kept of the command.
 use Rattle.std.specs.Prelude.{ℕ, Bool, false, ◌==◌, ◌&&◌, ◌||◌, Option, None, Some}
 use Rattle.doc_tree.specs.cell.Cell.{Cell}
-use Rattle.doc_tree.specs.cell.Cell.TheVariants.{Kids, Shape, Attrs, Value, Text}
+use Rattle.doc_tree.specs.cell.Cell.TheVariants.{Kids, Shape, Attrs, Value, Text, Name}
 use Rattle.doc_tree.specs.Changes.{Meeting}
 use Rattle.doc_tree.specs.Lists.{mem}
 use Rattle.doc_tree.specs.NameTests.{attribute_meant}
@@ -49,6 +49,7 @@ said_cell T n is_text (Text m) = is_text && mem m (ancestors T n)
 said_cell T n is_text (Kids m) = false
 said_cell T n is_text (Shape m) = false
 said_cell T n is_text (Attrs m) = false
+said_cell T n is_text (Name m) = false
 
 -- of two texts that meet the left one
 abbrev pub left_of : Option Meeting → Option ℕ
@@ -63,6 +64,7 @@ left_cell (Some left) (Kids m) = false
 left_cell (Some left) (Shape m) = false
 left_cell (Some left) (Attrs m) = false
 left_cell (Some left) (Text m) = false
+left_cell (Some left) (Name m) = false
 
 -- whether what was touched holds a cell, by the tree as the command left it
 abbrev pub holds_cell : Table → Touched → Cell → Bool

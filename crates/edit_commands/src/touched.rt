@@ -55,7 +55,7 @@ fn said_holds(tree: &Tree, node: NodeId, is_text: bool, cell: Cell) -> bool
     match cell {
         Cell::Value(n) => n == node,
         Cell::Text(n) => is_text && is_ancestor(tree, n, node),
-        Cell::Kids(_) | Cell::Shape(_) | Cell::Attrs(_) => false,
+        Cell::Kids(_) | Cell::Shape(_) | Cell::Attrs(_) | Cell::Name(_) => false,
     }
 }
 
@@ -65,7 +65,8 @@ fn attributes_hold(element: NodeId, cell: Cell) -> bool
 {
     match cell {
         Cell::Attrs(n) => n == element,
-        Cell::Kids(_) | Cell::Shape(_) | Cell::Value(_) | Cell::Text(_) => false,
+        Cell::Kids(_) | Cell::Shape(_) | Cell::Value(_) => false,
+        Cell::Text(_) | Cell::Name(_) => false,
     }
 }
 
@@ -76,7 +77,7 @@ fn kids_hold(tree: &Tree, parent: NodeId, cell: &Cell) -> bool
     match cell {
         Cell::Kids(n) => *n == parent,
         Cell::Shape(n) | Cell::Text(n) => is_above(tree, *n, parent),
-        Cell::Attrs(_) | Cell::Value(_) => false,
+        Cell::Attrs(_) | Cell::Value(_) | Cell::Name(_) => false,
     }
 }
 
@@ -96,7 +97,8 @@ fn is_value(cell: &Cell, node: NodeId) -> bool
 {
     match cell {
         Cell::Value(n) => *n == node,
-        Cell::Kids(_) | Cell::Shape(_) | Cell::Attrs(_) | Cell::Text(_) => false,
+        Cell::Kids(_) | Cell::Shape(_) | Cell::Attrs(_) => false,
+        Cell::Text(_) | Cell::Name(_) => false,
     }
 }
 

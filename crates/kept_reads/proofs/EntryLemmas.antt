@@ -9,7 +9,7 @@ use Rattle.std.specs.List.{list_any}
 use Rattle.std.specs.Option.{is_some, option_copied}
 use Rattle.std.specs.Ordering.{eq_by_cmp, is_eq}
 use Rattle.doc_tree.specs.cell.Cell.{Cell}
-use Rattle.doc_tree.specs.cell.Cell.TheVariants.{Kids, Shape, Attrs, Value, Text}
+use Rattle.doc_tree.specs.cell.Cell.TheVariants.{Kids, Shape, Attrs, Value, Text, Name}
 use Rattle.cell_index.specs.Cells.{is_among, is_cell}
 use Rattle.cell_index.specs.Index.{Adds, Removes, Stays, cells_of, has}
 use Rattle.xp_outcome.proofs.Sets.{cell_cmp_antisymmetric, cell_cmp_total}
@@ -29,6 +29,7 @@ is_cell-is (Shape n) (Shape m) same = ap Shape (eqb-true n m same)
 is_cell-is (Attrs n) (Attrs m) same = ap Attrs (eqb-true n m same)
 is_cell-is (Value n) (Value m) same = ap Value (eqb-true n m same)
 is_cell-is (Text n) (Text m) same = ap Text (eqb-true n m same)
+is_cell-is (Name n) (Name m) same = ap Name (eqb-true n m same)
 is_cell-is c d same = absurd (false≢true same)
 
 is_cell-self : (c : Cell) → is_cell c c ≡ true
@@ -37,6 +38,7 @@ is_cell-self (Shape n) = eq-eqb n n refl
 is_cell-self (Attrs n) = eq-eqb n n refl
 is_cell-self (Value n) = eq-eqb n n refl
 is_cell-self (Text n) = eq-eqb n n refl
+is_cell-self (Name n) = eq-eqb n n refl
 
 -- the order of cells ties those that are one
 same_test : (c d : Cell) → eq_by_cmp cell_cmp c d ≡ is_cell c d

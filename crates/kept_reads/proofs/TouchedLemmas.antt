@@ -2,7 +2,7 @@
 use Rattle.std.proofs.Common.{◌≡◌, ◌∙◌, ℕ, ◌==◌, Bool, true, false, ◌||◌, ◌&&◌, Option, None, Some, refl, sym, ap, subst, inl, inr, ◌⊎◌}
 use Rattle.std.proofs.lemmas.Bool.{and_from, eq-eqb, eqb-true, false≢true, or_cases, or_left, or_right}
 use Rattle.doc_tree.specs.cell.Cell.{Cell}
-use Rattle.doc_tree.specs.cell.Cell.TheVariants.{Kids, Shape, Attrs, Value, Text}
+use Rattle.doc_tree.specs.cell.Cell.TheVariants.{Kids, Shape, Attrs, Value, Text, Name}
 use Rattle.doc_tree.specs.Laws.{HasWaysUp}
 use Rattle.doc_tree.specs.Lists.{mem}
 use Rattle.doc_tree.specs.Table.{Table, parent_of}
@@ -60,6 +60,7 @@ said_covered T n is_text (Text m) hit = let parts = both_true is_text (mem m (an
 said_covered T n is_text (Kids m) hit = absurd (false≢true hit)
 said_covered T n is_text (Shape m) hit = absurd (false≢true hit)
 said_covered T n is_text (Attrs m) hit = absurd (false≢true hit)
+said_covered T n is_text (Name m) hit = absurd (false≢true hit)
 
 -- An attribute that comes or goes
 
@@ -72,6 +73,7 @@ attributes_covered n (Kids m) hit = absurd (false≢true hit)
 attributes_covered n (Shape m) hit = absurd (false≢true hit)
 attributes_covered n (Value m) hit = absurd (false≢true hit)
 attributes_covered n (Text m) hit = absurd (false≢true hit)
+attributes_covered n (Name m) hit = absurd (false≢true hit)
 
 -- Kids that come or go
 
@@ -108,6 +110,7 @@ kids_covered T p left (Shape m) hit = way_covered T p m left (Shape m) hit (inr 
 kids_covered T p left (Text m) hit = way_covered T p m left (Text m) hit (inl refl)
 kids_covered T p left (Attrs m) hit = absurd (false≢true hit)
 kids_covered T p left (Value m) hit = absurd (false≢true hit)
+kids_covered T p left (Name m) hit = absurd (false≢true hit)
 
 left_covered : (left : Option ℕ) (c : Cell) → left_cell left c ≡ true → IsLeft left c
 left_covered None c hit = absurd (false≢true hit)
@@ -116,6 +119,7 @@ left_covered (Some text) (Kids m) hit = absurd (false≢true hit)
 left_covered (Some text) (Shape m) hit = absurd (false≢true hit)
 left_covered (Some text) (Attrs m) hit = absurd (false≢true hit)
 left_covered (Some text) (Text m) hit = absurd (false≢true hit)
+left_covered (Some text) (Name m) hit = absurd (false≢true hit)
 
 pub below_covered : (T : Table) (p : ℕ) (left : Option ℕ) (c : Cell) → (touched_kids T p c || left_cell left c) ≡ true → IsBelow T p left c
 below_covered T p left c hit = by (or_cases (touched_kids T p c) (left_cell left c) hit)

@@ -5,7 +5,7 @@ use Rattle.std.specs.Ordering.{nat_cmp, on, then_cmp}
 use Rattle.std.specs.FinSet.{FinSet, empty, insert, contains}
 use Rattle.std.specs.FinSet as set
 use Rattle.doc_tree.specs.cell.Cell.{Cell}
-use Rattle.doc_tree.specs.cell.Cell.TheVariants.{Kids, Shape, Attrs, Value, Text}
+use Rattle.doc_tree.specs.cell.Cell.TheVariants.{Kids, Shape, Attrs, Value, Text, Name}
 use Rattle.xp_outcome.specs.Evaluation.{Read, cell, variable}
 
 -- the kind of a cell, as a number
@@ -15,6 +15,7 @@ kind_number (Shape _) = 1
 kind_number (Attrs _) = 2
 kind_number (Value _) = 3
 kind_number (Text _) = 4
+kind_number (Name _) = 5
 
 -- the node of a cell
 abbrev pub node_of : Cell → ℕ
@@ -23,6 +24,7 @@ node_of (Shape n) = n
 node_of (Attrs n) = n
 node_of (Value n) = n
 node_of (Text n) = n
+node_of (Name n) = n
 
 -- the order of cells in a set: by kind, then by node
 abbrev pub cell_cmp : Cell → Cell → Ordering

@@ -3,7 +3,7 @@ use Rattle.std.specs.Prelude.{◌≡◌, ℕ, Bool, true, false, ◌&&◌, not, 
 use Rattle.std.specs.FinSet.{contains}
 use Rattle.std.specs.List.{list_any}
 use Rattle.doc_tree.specs.cell.Cell.{Cell}
-use Rattle.doc_tree.specs.cell.Cell.TheVariants.{Kids, Shape, Attrs, Value, Text}
+use Rattle.doc_tree.specs.cell.Cell.TheVariants.{Kids, Shape, Attrs, Value, Text, Name}
 use Rattle.doc_tree.specs.Kinds.{is_text}
 use Rattle.doc_tree.specs.Lists.{mem}
 use Rattle.doc_tree.specs.Table.{Table, kind_of}
@@ -17,6 +17,7 @@ is_wide (Shape _) = true
 is_wide (Attrs _) = false
 is_wide (Value _) = false
 is_wide (Text _) = true
+is_wide (Name _) = false
 
 -- the node of a Shape, and of no other cell
 abbrev pub shape_in : Cell → List ℕ
@@ -25,6 +26,7 @@ shape_in (Shape n) = n ∷ []
 shape_in (Attrs _) = []
 shape_in (Value _) = []
 shape_in (Text _) = []
+shape_in (Name _) = []
 
 -- the node of a Text, and of no other cell
 abbrev pub text_in : Cell → List ℕ
@@ -33,6 +35,7 @@ text_in (Shape _) = []
 text_in (Attrs _) = []
 text_in (Value _) = []
 text_in (Text n) = n ∷ []
+text_in (Name _) = []
 
 -- whether one of some nodes is in a set
 abbrev pub meets : List ℕ → List ℕ → Bool
@@ -45,6 +48,7 @@ is_covered T shapes texts (Shape n) = meets (ancestors T n) shapes
 is_covered T shapes texts (Attrs n) = false
 is_covered T shapes texts (Value n) = is_text (kind_of T n) && meets (ancestors T n) texts
 is_covered T shapes texts (Text n) = meets (ancestors T n) texts
+is_covered T shapes texts (Name n) = false
 
 -- two sets hold the nodes of the Shapes and of the Texts among some cells
 pub record StandsFor (cells : CellSet) (shapes texts : List ℕ) : Type 0 where
