@@ -1,5 +1,6 @@
 -- Characters and their counterparts, and a text that grows up to its limit.
 use Rattle.std.proofs.Common.{◌≡◌, ℕ, ◌+◌, ◌<◌, ◌≤◌, Bool, true, false, cond, List, [], ◌∷◌, ◌++◌, length, drop, chars, slice_get, eqb, eqb-true, is_some, Option, None, Some, Ok, Err, refl, sym, ap, ◌∙◌, true≢false, arith, length-append, append-nil, append_assoc}
+use Rattle.std.specs.Option.{option_or}
 use Rattle.std.specs.Prelude.{encode_utf8_all, nat_le, IsUtf8}
 use Rattle.std.specs.Str.Iter.{chars_rest, chars_steps}
 use Rattle.std.specs.declared.str.Chars.{Chars}
@@ -11,30 +12,22 @@ use Rattle.sch_base.specs.declared.limits.TheConstants.{MAX_TEXT_BYTES}
 use Rattle.xp_values.specs.declared.values.EvalFault.TheVariants.{TextLimit}
 use Rattle.xp_values.specs.Texts.{counterpart, limited}
 
-abbrev or_else : Option (Option ℕ) → Option (Option ℕ) → Option (Option ℕ)
-or_else (Some x) other = Some x
-or_else None other = other
-
 -- one character more in `from`
-pub counterpart-push : (from to : List ℕ) (f q : ℕ) → counterpart (from ++ f ∷ []) to q ≡ or_else (counterpart from to q) (cond (eqb f q) (Some (slice_get to (length from))) None)
+pub counterpart-push : (from to : List ℕ) (f q : ℕ) → counterpart (from ++ f ∷ []) to q ≡ option_or (counterpart from to q) (cond (eqb f q) (Some (slice_get to (length from))) None)
 counterpart-push [] [] f q = refl
 counterpart-push [] (t ∷ to) f q = refl
 counterpart-push (x ∷ from) [] f q = by (eqb x q) (counterpart-push from [] f q)
   where
-    by : (b : Bool) → counterpart (from ++ f ∷ []) [] q ≡ or_else (counterpart from [] q) (cond (eqb f q) (Some None) None) →
-        cond b (Some None) (counterpart (from ++ f ∷ []) [] q) ≡ or_else (cond b (Some None) (counterpart from [] q)) (cond (eqb f q) (Some None) None)
+    by : (b : Bool) → counterpart (from ++ f ∷ []) [] q ≡ option_or (counterpart from [] q) (cond (eqb f q) (Some None) None) →
+        cond b (Some None) (counterpart (from ++ f ∷ []) [] q) ≡ option_or (cond b (Some None) (counterpart from [] q)) (cond (eqb f q) (Some None) None)
     by true e = refl
     by false e = e
 counterpart-push (x ∷ from) (t ∷ to) f q = by (eqb x q) (counterpart-push from to f q)
   where
-    by : (b : Bool) → counterpart (from ++ f ∷ []) to q ≡ or_else (counterpart from to q) (cond (eqb f q) (Some (slice_get to (length from))) None) →
-        cond b (Some (Some t)) (counterpart (from ++ f ∷ []) to q) ≡ or_else (cond b (Some (Some t)) (counterpart from to q)) (cond (eqb f q) (Some (slice_get to (length from))) None)
+    by : (b : Bool) → counterpart (from ++ f ∷ []) to q ≡ option_or (counterpart from to q) (cond (eqb f q) (Some (slice_get to (length from))) None) →
+        cond b (Some (Some t)) (counterpart (from ++ f ∷ []) to q) ≡ option_or (cond b (Some (Some t)) (counterpart from to q)) (cond (eqb f q) (Some (slice_get to (length from))) None)
     by true e = refl
     by false e = e
-
-or-else-none : (o : Option (Option ℕ)) → or_else o None ≡ o
-or-else-none None = refl
-or-else-none (Some x) = refl
 
 -- so many characters of `to` are passed over as there are in `from`, and the rest is a text
 pub record Beside (from to rest : List ℕ) : Type 0 where
@@ -73,33 +66,39 @@ pick_past (x ∷ from) (t ∷ to) = pick_past from to
 beside_here : (from to rest : List ℕ) → Beside from to rest → slice_get (chars rest) 0 ≡ slice_get to (length from)
 beside_here from to rest b = ap (λ l. slice_get l 0) b.left ∙ pick_past from to
 
-module _ (from to rest : List ℕ) (f : ℕ) (o : Option ℕ) (b : Beside from to rest) (here : o ≡ slice_get (chars rest) 0) where
-  next : (q : ℕ) → counterpart (from ++ f ∷ []) to q ≡ or_else (counterpart from to q) (cond (eqb f q) (Some o) None)
-  next q = counterpart-push from to f q ∙ ap (λ x. or_else (counterpart from to q) (cond (eqb f q) (Some x) None)) (sym (here ∙ beside_here from to rest b))
+-- a character takes the one beside it, unless it was there before
+pub one_counterpart : (from to rest : List ℕ) (f : ℕ) (o : Option ℕ) → Beside from to rest → o ≡ slice_get (chars rest) 0 → (q : ℕ) →
+    counterpart (from ++ f ∷ []) to q ≡ option_or (counterpart from to q) (cond (eqb f q) (Some o) None)
+one_counterpart from to rest f o b here q =
+    counterpart-push from to f q ∙ ap (λ x. option_or (counterpart from to q) (cond (eqb f q) (Some x) None)) (sym (here ∙ beside_here from to rest b))
 
-  -- a new character takes the one beside it
-  pub new_counterpart : is_some (counterpart from to f) ≡ false → (q : ℕ) → cond (eqb f q) (Some o) (counterpart from to q) ≡ counterpart (from ++ f ∷ []) to q
-  new_counterpart none q = by (eqb f q) refl ∙ sym (next q)
-    where
-      by : (b : Bool) → eqb f q ≡ b → cond b (Some o) (counterpart from to q) ≡ or_else (counterpart from to q) (cond b (Some o) None)
-      by true e = at (counterpart from to q) (ap (λ k. is_some (counterpart from to k)) (sym (eqb-true f q e)) ∙ none)
-        where
-          at : (p : Option (Option ℕ)) → is_some p ≡ false → Some o ≡ or_else p (Some o)
-          at None h = refl
-          at (Some x) h = absurd (true≢false h)
-      by false e = sym (or-else-none (counterpart from to q))
+or-none : (o : Option (Option ℕ)) → option_or o None ≡ o
+or-none None = refl
+or-none (Some x) = refl
 
-  -- a character that was there before changes nothing
-  pub old_counterpart : is_some (counterpart from to f) ≡ true → (q : ℕ) → counterpart from to q ≡ counterpart (from ++ f ∷ []) to q
-  old_counterpart some q = by (eqb f q) refl ∙ sym (next q)
+or-some : (o other : Option (Option ℕ)) → is_some o ≡ true → o ≡ option_or o other
+or-some None other h = absurd (true≢false (sym h))
+or-some (Some x) other h = refl
+
+or-other : (o other : Option (Option ℕ)) → is_some o ≡ false → other ≡ option_or o other
+or-other None other h = refl
+or-other (Some x) other h = absurd (true≢false h)
+
+-- what is kept of each character, where one is kept that was not kept before, and where one is kept already
+module _ (kept : ℕ → Option (Option ℕ)) (f : ℕ) (o : Option ℕ) where
+  pub kept_anew : is_some (kept f) ≡ false → (q : ℕ) → cond (eqb f q) (Some o) (kept q) ≡ option_or (kept q) (cond (eqb f q) (Some o) None)
+  kept_anew none q = by (eqb f q) refl
     where
-      by : (b : Bool) → eqb f q ≡ b → counterpart from to q ≡ or_else (counterpart from to q) (cond b (Some o) None)
-      by true e = at (counterpart from to q) (ap (λ k. is_some (counterpart from to k)) (sym (eqb-true f q e)) ∙ some)
-        where
-          at : (p : Option (Option ℕ)) → is_some p ≡ true → p ≡ or_else p (Some o)
-          at None h = absurd (true≢false (sym h))
-          at (Some x) h = refl
-      by false e = sym (or-else-none (counterpart from to q))
+      by : (b : Bool) → eqb f q ≡ b → cond b (Some o) (kept q) ≡ option_or (kept q) (cond b (Some o) None)
+      by true e = or-other (kept q) (Some o) (ap (λ k. is_some (kept k)) (sym (eqb-true f q e)) ∙ none)
+      by false e = sym (or-none (kept q))
+
+  pub kept_already : is_some (kept f) ≡ true → (q : ℕ) → kept q ≡ option_or (kept q) (cond (eqb f q) (Some o) None)
+  kept_already some q = by (eqb f q) refl
+    where
+      by : (b : Bool) → eqb f q ≡ b → kept q ≡ option_or (kept q) (cond b (Some o) None)
+      by true e = or-some (kept q) (Some o) (ap (λ k. is_some (kept k)) (sym (eqb-true f q e)) ∙ some)
+      by false e = sym (or-none (kept q))
 
 -- a text so far, which stays within its limit or was found to pass it
 pub record Limited (f : ℕ → List ℕ) (xs bytes : List ℕ) (fits : Bool) : Type 0 where

@@ -1,7 +1,8 @@
 //! Characters replaced one by one (XPath 1.0, section 4.2).
 
-ghost use Rattle.std.specs.Prelude.{◌≡◌, ◌<◌, ◌≤◌, ◌+◌, ◌++◌, ℕ, true, false, length, chars, nat_eq, encode_utf8_all, string_bytes, option_to_list, IfOk};
+ghost use Rattle.std.specs.Prelude.{◌≡◌, ◌<◌, ◌≤◌, ◌+◌, ◌++◌, ◌==◌, ℕ, true, false, None, Some, if◌then◌else◌, length, chars, nat_eq, encode_utf8_all, string_bytes, option_to_list, IfOk, OnOk};
 ghost use Rattle.std.specs.HashMap.{get};
+ghost use Rattle.std.specs.Option.{option_or};
 ghost use Rattle.xp_values.specs.Texts.{translate, replaced_by, counterpart};
 ghost use Rattle.xp_values.specs.inner.Replacing.{all_replaced};
 ghost use Rattle.xp_values.specs.Outcomes.{Gives};
@@ -81,10 +82,21 @@ fn counterparts(
     let mut counterparts = HashMap::new(alloc);
     let mut others = to.chars();
     for c in from.chars() {
-        let other = others.next();
-        if !counterparts.contains_key(&c) {
-            counterparts.insert(c, other)?;
-        }
+        put_first(&mut counterparts, c, others.next())?;
     }
     Ok(counterparts)
+}
+
+/// Keeps what a character is replaced by, unless that is kept already.
+fn put_first(
+    counterparts: &mut HashMap<char, Option<char>>,
+    c: char,
+    other: Option<char>,
+) -> Result<(), AllocError>
+    ensures { OnOk result ((q : ℕ) → get nat_eq counterparts.new q ≡ option_or (get nat_eq counterparts.old q) (if c == q then Some other else None)) }
+{
+    if !counterparts.contains_key(&c) {
+        counterparts.insert(c, other)?;
+    }
+    Ok(())
 }

@@ -1,10 +1,11 @@
 -- One character more, which counts where it is new.
-use Rattle.std.proofs.Common.{◌≡◌, is_some, chars, map-id, sym, ap, ◌∙◌, rules}
+use Rattle.std.proofs.Common.{◌≡◌, chars, cond, eqb, None, Some, map-id, sym, ap, ◌∙◌, rules}
+use Rattle.std.specs.Option.{option_or}
 use Rattle.std.specs.Str.Iter.{chars_rest}
 use Rattle.std.proofs.lemmas.Iterator.{YieldsList-from_chars}
 use Rattle.std.proofs.lemmas.Iterator.Consumers.{YieldsList-end}
 use Rattle.xp_values.specs.Texts.{counterpart}
-use Rattle.xp_values.proofs.ReplaceLemmas.{new_counterpart, old_counterpart, beside_start, beside_more}
+use Rattle.xp_values.proofs.ReplaceLemmas.{one_counterpart, beside_start, beside_more}
 use Rattle.xp_values.proofs.replacing.counterparts.Goals as goal
 
 pub loop-c-init : goal.loop-c-init
@@ -14,24 +15,12 @@ pub loop-c-preserved : goal.loop-c-preserved
 loop-c-preserved c =
     let to = chars c.args.to.now in
     let was = c.loop-c.invariant in
-    let known : is_some (counterpart c.loop-c.yielded to c.in-Some.c) ≡ c.contains_key.result = ap is_some (sym (was.map_so_far c.in-Some.c)) ∙ sym c.contains_key.ensures in
     record {
       map_so_far = λ q.
-          was.map_so_far q
-          ∙ old_counterpart c.loop-c.yielded to (chars_rest c.loop-c.others) c.in-Some.c c.next-other.result was.beside c.next-other.ensures.steps.2 (known ∙ c.if-not-contains_key.false) q;
-      beside = beside_more c.loop-c.yielded to c.in-Some.c c.loop-c.others c.next-other.new.self c.next-other.result was.beside c.next-other.ensures.steps;
-    }
-
-pub loop-c-preserved-in_ok-insert : goal.loop-c-preserved-in_ok-insert
-loop-c-preserved-in_ok-insert c =
-    let to = chars c.args.to.now in
-    let was = c.loop-c.invariant in
-    let known : is_some (counterpart c.loop-c.yielded to c.in-Some.c) ≡ c.contains_key.result = ap is_some (sym (was.map_so_far c.in-Some.c)) ∙ sym c.contains_key.ensures in
-    record {
-      map_so_far = λ q.
-          rw (c.in_ok-insert.ensures.updates.0 q, was.map_so_far q)
-          (new_counterpart c.loop-c.yielded to (chars_rest c.loop-c.others) c.in-Some.c c.next-other.result was.beside c.next-other.ensures.steps.2 (known ∙ c.if-not-contains_key.true) q);
-      beside = beside_more c.loop-c.yielded to c.in-Some.c c.loop-c.others c.next-other.new.self c.next-other.result was.beside c.next-other.ensures.steps;
+          c.in_ok-put_first.ensures q
+          ∙ ap (λ kept. option_or kept (cond (eqb c.in-Some.c q) (Some c.next-in-loop-c.result) None)) (was.map_so_far q)
+          ∙ sym (one_counterpart c.loop-c.yielded to (chars_rest c.loop-c.others) c.in-Some.c c.next-in-loop-c.result was.beside c.next-in-loop-c.ensures.steps.2 q);
+      beside = beside_more c.loop-c.yielded to c.in-Some.c c.loop-c.others c.next-in-loop-c.new.self c.next-in-loop-c.result was.beside c.next-in-loop-c.ensures.steps;
     }
 
 pub returns : goal.returns
