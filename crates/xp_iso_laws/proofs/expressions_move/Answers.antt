@@ -1,0 +1,10 @@
+-- What the root, the ways up and the texts follow gives axes and string-values, and these all expressions.
+use Rattle.xp_iso_laws.proofs.MeaningLemmas.{expressions-move, predicates-move, steps-move}
+use Rattle.xp_iso_laws.proofs.expressions_move.Goals as goal
+
+pub returns : goal.returns
+returns c = record {
+  expressions = expressions-move c.renumbered_trees_hang.ensures;
+  steps = steps-move c.renumbered_trees_hang.ensures;
+  predicates = predicates-move c.renumbered_trees_hang.ensures;
+}
