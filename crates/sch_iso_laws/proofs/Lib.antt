@@ -1,0 +1,3 @@
+pub mod LetLemmas
+pub mod UnitLemmas
+pub mod VerdictLemmas
