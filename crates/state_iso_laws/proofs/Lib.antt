@@ -1,0 +1,2 @@
+pub mod LocationLemmas
+pub mod ReportLemmas
