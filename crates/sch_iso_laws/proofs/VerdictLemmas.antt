@@ -1,5 +1,5 @@
 -- The first fault, and whether there is a finding, along document order and its renumbering.
-use Rattle.std.proofs.Common.{◌≡◌, ℕ, ◌+◌, Bool, List, [], ◌∷◌, map, Result, Ok, Err, Option, None, Some, refl, ap, ap₂, ◌∙◌, ◌||◌}
+use Rattle.std.proofs.Common.{◌≡◌, ℕ, ◌+◌, List, [], ◌∷◌, map, Result, Ok, Err, Option, None, Some, refl, ap, ap₂, ◌∙◌}
 use Rattle.std.specs.Prelude.{option_map}
 use Rattle.std.specs.List.{list_any}
 use Rattle.std.specs.Option.{option_or}
@@ -11,6 +11,7 @@ use Rattle.tree_iso.proofs.NumberLemmas.{any-moved}
 use Rattle.xp_meaning.specs.Evaluation.{Lets}
 use Rattle.xp_values.specs.declared.values.EvalFault.{EvalFault}
 use Rattle.xp_values.specs.declared.values.Value.{Value}
+use Rattle.xslt_match.proofs.Filters.{any-same}
 use Rattle.xp_iso_laws.specs.Moved.{moved_lets, moved_outcome}
 use Rattle.sch_compiled.specs.declared.findings.Outcome.{Outcome}
 use Rattle.sch_compiled.specs.declared.findings.Outcome.TheVariants.{Fault, Fired, NoRule}
@@ -37,10 +38,6 @@ first-same : {X A B : Type 0} (g : A → B) (p : X → Option A) (q : X → Opti
 first-same g p q agree [] = refl
 first-same {B = B} g p q agree (x ∷ xs) =
     ap₂ (λ (a b : Option B). option_or a b) (agree x) (first-same g p q agree xs) ∙ or-moved g (p x) (first_with p xs)
-
-any-same : {X : Type 0} (p q : X → Bool) → ((x : X) → q x ≡ p x) → (xs : List X) → list_any q xs ≡ list_any p xs
-any-same p q agree [] = refl
-any-same p q agree (x ∷ xs) = ap₂ (λ a b. a || b) (agree x) (any-same p q agree xs)
 
 module _ (f : ℕ → ℕ) where
   let-moved : (k : ℕ) (o : Option (Result Value EvalFault)) → let_fault k (option_map (moved_outcome f) o) ≡ option_map (moved_fault f) (let_fault k o)
@@ -82,8 +79,8 @@ module _ (own : OwnLetsMove) (f : ℕ → ℕ) (plan : Plan) (T U : Table) (one 
 
   finds-same : finds plan U ≡ finds plan T
   finds-same =
-      any-same (λ p. list_any (λ n. has_finding (pair_outcome plan T p n)) (order T)) (λ p. list_any (λ n. has_finding (pair_outcome plan U p n)) (order U))
-      found-moved (pattern_numbers plan)
+      any-same (λ p. list_any (λ n. has_finding (pair_outcome plan U p n)) (order U)) (λ p. list_any (λ n. has_finding (pair_outcome plan T p n)) (order T))
+      (pattern_numbers plan) found-moved
 
 pub verdicts-move : OwnLetsMove → VerdictsMove
 verdicts-move own = record {

@@ -1,5 +1,5 @@
 -- Lists of numbers under a map that keeps different numbers different: what is asked of a number is asked of its image.
-use Rattle.std.proofs.Common.{◌≡◌, ℕ, suc, Bool, true, false, cond, ◌||◌, eqb, List, [], ◌∷◌, ◌++◌, length, map, Option, Some, refl, sym, ap, ap₂, ◌∙◌, ⊎_elim, eq-eqb, ne_eqb, ◌≢◌}
+use Rattle.std.proofs.Common.{◌≡◌, ℕ, suc, Bool, true, false, cond, ◌||◌, eqb, List, [], ◌∷◌, ◌++◌, map, Option, Some, refl, sym, ap, ap₂, ◌∙◌, ⊎_elim, eq-eqb, ne_eqb, ◌≢◌}
 use Rattle.std.specs.Prelude.{filter, option_map}
 use Rattle.std.specs.List.{list_any, flat_map}
 use Rattle.doc_table.specs.Lists.{mem}
@@ -47,14 +47,6 @@ module _ (f : ℕ → ℕ) (p q : ℕ → Bool) where
   any-moved agree (n ∷ ns) = ap₂ (λ x y. x || y) (agree n) (any-moved agree ns)
 
 module _ (f : ℕ → ℕ) where
-  pub append-moved : (ns ms : List ℕ) → map f (ns ++ ms) ≡ map f ns ++ map f ms
-  append-moved [] ms = refl
-  append-moved (n ∷ ns) ms = ap (λ l. f n ∷ l) (append-moved ns ms)
-
-  pub length-moved : (ns : List ℕ) → length (map f ns) ≡ length ns
-  length-moved [] = refl
-  length-moved (n ∷ ns) = ap (λ k. suc k) (length-moved ns)
-
   -- what is told of numbers and of their images alike
   pub told-moved : {A : Type 0} (g h : ℕ → List A) (ns : List ℕ) → ((n : ℕ) → mem n ns ≡ true → h (f n) ≡ g n) → flat_map h (map f ns) ≡ flat_map g ns
   told-moved g h [] same = refl

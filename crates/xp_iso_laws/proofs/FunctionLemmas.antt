@@ -1,5 +1,6 @@
 -- What a function gives where the nodes of a tree are renumbered.
 use Rattle.std.proofs.Common.{◌≡◌, ℕ, Bool, true, false, not, cond, ◌&&◌, List, [], ◌∷◌, ◌++◌, length, map, Option, None, Some, Result, Ok, Err, refl, sym, ap, ap₂, ◌∙◌}
+use Rattle.std.proofs.lemmas.List.{length-map}
 use Rattle.std.proofs.lemmas.Option.{slice_get-map}
 use Rattle.std.specs.Prelude.{bytes_eq, codes, find, flat_map, option_map, slice_get}
 use Rattle.doc_tree.specs.QNames.{written_in}
@@ -11,7 +12,6 @@ use Rattle.doc_tree.specs.Scope.{xml_namespace}
 use Rattle.doc_tree.specs.Table.{Name, Table, attrs_of, kind_of, value_of}
 use Rattle.doc_tree.specs.Walks.{above}
 use Rattle.tree_iso.specs.Renumbering.{Hangs, Renumbers}
-use Rattle.tree_iso.proofs.NumberLemmas.{length-moved}
 use Rattle.xp_typed_tree.specs.declared.function.Function.{Function}
 use Rattle.xp_typed_tree.specs.declared.function.Function.TheVariants as functions
 use Rattle.xp_outcome.specs.Evaluation.{Evaluation, bind, cell, done, given, reading}
@@ -168,7 +168,7 @@ module _ (f : ℕ → ℕ) (T U : Table) (r : Renumbers f T U) (h : Hangs f T U)
   moves-applied functions.Current c vs = value_done (NodeSet (c.current ∷ [])) (NodeSet (f c.current ∷ [])) refl
   moves-applied functions.Count c vs =
       value_done (counted (length (nodes_at vs 0))) (counted (length (nodes_at (map (moved_value f) vs) 0)))
-      (ap counted (ap length (nodes_at-moved f vs 0) ∙ length-moved f (nodes_at vs 0)))
+      (ap counted (ap length (nodes_at-moved f vs 0) ∙ length-map (nodes_at vs 0) f))
   moves-applied functions.Sum c vs =
       made (λ n. Number n) (λ n. refl) (sum_in T (nodes_at vs 0)) (sum_in U (nodes_at (map (moved_value f) vs) 0))
       (moves-equal f as_is (sum_in T (nodes_at vs 0)) (sum_in U (map f (nodes_at vs 0))) (sum_in U (nodes_at (map (moved_value f) vs) 0))

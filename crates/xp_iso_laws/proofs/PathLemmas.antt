@@ -1,5 +1,6 @@
 -- Steps and predicates where the nodes of a tree are renumbered.
 use Rattle.std.proofs.Common.{◌≡◌, ℕ, ◌+◌, Bool, true, false, cond, List, [], ◌∷◌, length, map, refl, sym, ap, ◌∙◌}
+use Rattle.std.proofs.lemmas.List.{length-map}
 use Rattle.std.specs.Prelude.{filter}
 use Rattle.doc_tree.specs.declared.axes.Axis.{Axis}
 use Rattle.doc_tree.specs.declared.axes.NodeTest.{NodeTest}
@@ -8,7 +9,7 @@ use Rattle.doc_axes.specs.Axes.{axis_nodes}
 use Rattle.doc_axes.specs.NodeTests.{passes}
 use Rattle.doc_axes.specs.Sets.{in_order}
 use Rattle.tree_iso.specs.Renumbering.{Hangs, Renumbers}
-use Rattle.tree_iso.proofs.NumberLemmas.{filter-moved, length-moved}
+use Rattle.tree_iso.proofs.NumberLemmas.{filter-moved}
 use Rattle.xp_outcome.specs.Evaluation.{gather}
 use Rattle.xp_values.specs.declared.values.Value.{Value}
 use Rattle.xp_values.specs.declared.values.Value.TheVariants.{NodeSet, Truth, Number, Chars}
@@ -48,7 +49,7 @@ module _ (f : ℕ → ℕ) where
   moves-kept : (m w : Meaning) (current : ℕ) (ns : List ℕ) → MovesAlong f m w → Moves f (map f) (kept m current ns) (kept w (f current) (map f ns))
   moves-kept m w current ns along =
       moves-equal f (map f) (kept m current ns) (gather (λ position n. w (placed (f current) (length ns) position n)) chosen 1 (map f ns)) (kept w (f current) (map f ns))
-      (ap (λ size. gather (λ position n. w (placed (f current) size position n)) chosen 1 (map f ns)) (sym (length-moved f ns)))
+      (ap (λ size. gather (λ position n. w (placed (f current) size position n)) chosen 1 (map f ns)) (sym (length-map ns f)))
       (moves-gather f (moved_value f) (λ position n. m (placed current (length ns) position n)) (λ position n. w (placed (f current) (length ns) position n)) chosen chosen
       (λ position n. along.at (placed current (length ns) position n)) chosen-moved 1 ns)
 
@@ -67,7 +68,7 @@ module _ (f : ℕ → ℕ) (T U : Table) (r : Renumbers f T U) (h : Hangs f T U)
       let nodes : axis_nodes U axis (f n) ≡ map f (axis_nodes T axis n) = axis_nodes-moved f T U r h axis n in
       moves-all_reading f (map f) (axis_reads T axis n) (axis_reads U axis (f n)) _ _ (axis_reads-moved f T U r h axis n)
       (moves-visits f (map f) (1 + length (axis_nodes T axis n)) (1 + length (axis_nodes U axis (f n))) _ _
-      (ap (λ k. 1 + k) (ap length nodes ∙ length-moved f (axis_nodes T axis n)))
+      (ap (λ k. 1 + k) (ap length nodes ∙ length-map (axis_nodes T axis n) f))
       (moves-done f (map f) (filter (passes T axis node_test) (axis_nodes T axis n)) (filter (passes U axis node_test) (axis_nodes U axis (f n)))
       (ap (filter (passes U axis node_test)) nodes ∙ filter-moved f (passes T axis node_test) (passes U axis node_test) (passes-moved f T U r h axis node_test) (axis_nodes T axis n))))
 

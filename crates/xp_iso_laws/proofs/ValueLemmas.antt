@@ -1,6 +1,6 @@
 -- What conversions and comparisons make of values where the nodes of a tree are renumbered.
 use Rattle.std.proofs.Common.{◌≡◌, ℕ, Bool, true, false, cond, not, ◌&&◌, ◌||◌, List, [], ◌∷◌, ◌++◌, map, length, Result, Ok, Err, Option, None, Some, refl, sym, ap, ap₂, ◌∙◌}
-use Rattle.std.proofs.lemmas.List.{map-append}
+use Rattle.std.proofs.lemmas.List.{length-map, map-append}
 use Rattle.std.specs.Prelude.{◌==◌, pos, option_map}
 use Rattle.doc_tree.specs.cell.Cell.TheVariants.{Text as TextOf, Value as ValueOf}
 use Rattle.doc_tree.specs.kind.Kind.{Kind}
@@ -8,7 +8,6 @@ use Rattle.doc_tree.specs.Kinds.{holds_kids}
 use Rattle.doc_tree.specs.Table.{Table, Content, root, element, attribute, text, comment, instruction, content_of, kind_of}
 use Rattle.doc_tree.specs.Walks.{string_value_in, string_value_of}
 use Rattle.tree_iso.specs.Renumbering.{Hangs, Renumbers}
-use Rattle.tree_iso.proofs.NumberLemmas.{length-moved}
 use Rattle.xp_tree.specs.declared.operators.ArithOp.TheVariants as ops
 use Rattle.xp_tree.specs.declared.operators.Comparison.{Comparison}
 use Rattle.xp_outcome.specs.Evaluation.{Evaluation, Read, cell, done, given, visits}
@@ -51,7 +50,7 @@ first-moved f (Chars s) = refl
 
 pub truth-moved : (f : ℕ → ℕ) (v : Value) → to_truth (moved_value f v) ≡ to_truth v
 truth-moved f (NodeSet []) = refl
-truth-moved f (NodeSet (n ∷ ns)) = ap (λ (k : ℕ). not (k == 0)) (length-moved f (n ∷ ns))
+truth-moved f (NodeSet (n ∷ ns)) = ap (λ (k : ℕ). not (k == 0)) (length-map (n ∷ ns) f)
 truth-moved f (Truth b) = refl
 truth-moved f (Number n) = refl
 truth-moved f (Chars s) = refl
@@ -164,7 +163,7 @@ module _ (f : ℕ → ℕ) (T U : Table) (r : Renumbers f T U) (h : Hangs f T U)
   moves-taking change ns ms before after e m =
       moves-all_reading f change (map (text_read T) ns) (map (text_read U) ms) (visits (length ns) before) (visits (length ms) after)
       (ap (map (text_read U)) e ∙ text_reads-moved ns)
-      (moves-visits f change (length ns) (length ms) before after (ap length e ∙ length-moved f ns) m)
+      (moves-visits f change (length ns) (length ms) before after (ap length e ∙ length-map ns f) m)
 
   -- an answer that holds no nodes
   pub plain_given : {A : Type 0} (p q : Result A EvalFault) → q ≡ p → Moves f {A = A} as_is (given p) (given q)
