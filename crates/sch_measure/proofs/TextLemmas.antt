@@ -1,5 +1,5 @@
 -- Texts made of pieces, one for each number of a range.
-use Rattle.std.proofs.Common.{◌≡◌, ◌∙◌, ℕ, zero, suc, ◌+◌, List, [], ◌++◌, append_assoc, append-nil, refl, sym, ap, arith}
+use Rattle.std.proofs.Common.{◌≡◌, ◌∙◌, ℕ, zero, suc, ◌+◌, List, ◌++◌, append_assoc, append-nil, sym, ap, arith}
 use Rattle.std.specs.List.{flat_map, range_with_len}
 
 -- a range with one number more

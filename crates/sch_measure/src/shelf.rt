@@ -1,7 +1,9 @@
 //! The shelf on which the texts stand.
 
-ghost use Rattle.std.specs.Prelude.{◌≡◌, ◌<◌, IfOk};
+ghost use Rattle.std.specs.Prelude.{◌≡◌, ◌<◌, string_bytes, IfOk, OnOk};
+ghost use Rattle.std.specs.FinMap.{insert};
 ghost use Rattle.sch_measure.specs.Shelf.{measure_files};
+ghost use Rattle.sch_measure.specs.Texts.{document_text, schema_text, script_text};
 
 use crate::texts::{document_text, schema_text, script_text};
 use sch_io::MemoryShelf;
@@ -20,12 +22,37 @@ pub const SCRIPT_NAME: &str = "script";
 pub fn measure_shelf(alloc: Global, items: u32) -> Result<MemoryShelf, AllocError>
     ensures { IfOk result (λ shelf. shelf.files ≡ measure_files items) }
 {
-    let schema = schema_text(alloc)?;
-    let document = document_text(alloc, items)?;
-    let script = script_text(alloc, items)?;
     let mut shelf = MemoryShelf::new(alloc);
-    shelf.put(SCHEMA_NAME, schema.as_bytes())?;
-    shelf.put(DOCUMENT_NAME, document.as_bytes())?;
-    shelf.put(SCRIPT_NAME, script.as_bytes())?;
-    Ok(shelf)
+    match put_texts(&mut shelf, alloc, items) {
+        Ok(()) => Ok(shelf),
+        Err(error) => {
+            drop(shelf);
+            Err(error)
+        }
+    }
+}
+
+/// Puts the three texts on a shelf.
+fn put_texts(shelf: &mut MemoryShelf, alloc: Global, items: u32) -> Result<(), AllocError>
+    ensures { OnOk result (shelf.new.files ≡ insert (insert (insert shelf.old.files SCHEMA_NAME.now schema_text) DOCUMENT_NAME.now (document_text items)) SCRIPT_NAME.now (script_text items)) }
+{
+    put_text(shelf, SCHEMA_NAME, schema_text(alloc)?)?;
+    put_counted(shelf, alloc, items)
+}
+
+/// Puts the texts that grow with the number of items on a shelf: the document and the script.
+fn put_counted(shelf: &mut MemoryShelf, alloc: Global, items: u32) -> Result<(), AllocError>
+    ensures { OnOk result (shelf.new.files ≡ insert (insert shelf.old.files DOCUMENT_NAME.now (document_text items)) SCRIPT_NAME.now (script_text items)) }
+{
+    put_text(shelf, DOCUMENT_NAME, document_text(alloc, items)?)?;
+    put_text(shelf, SCRIPT_NAME, script_text(alloc, items)?)
+}
+
+/// Puts a text on a shelf, under a name.
+fn put_text(shelf: &mut MemoryShelf, name: &str, text: String) -> Result<(), AllocError>
+    ensures { OnOk result (shelf.new.files ≡ insert shelf.old.files name.now (string_bytes text)) }
+{
+    let put = shelf.put(name, text.as_bytes());
+    drop(text);
+    put
 }

@@ -1,5 +1,5 @@
 -- One item more, and the end behind the last one.
-use Rattle.std.proofs.Common.{◌≡◌, ◌∙◌, ◌++◌, List, ℕ, append_assoc, append-nil, codes, string_bytes, ap, arith}
+use Rattle.std.proofs.Common.{◌≡◌, ◌∙◌, ◌++◌, List, ℕ, append_assoc, codes, ap, arith}
 use Rattle.std.specs.List.{flat_map, range_with_len}
 use Rattle.sch_measure.specs.Texts.{item_lines}
 use Rattle.sch_measure.proofs.TextLemmas.{pieces-all, pieces-next}

@@ -1,5 +1,5 @@
 -- One command more.
-use Rattle.std.proofs.Common.{◌≡◌, ◌∙◌, [], arith}
+use Rattle.std.proofs.Common.{◌≡◌, [], arith}
 use Rattle.sch_measure.specs.Texts.{command_lines}
 use Rattle.sch_measure.proofs.TextLemmas.{pieces-all, pieces-next}
 use Rattle.sch_measure.proofs.texts.script_text.Goals as goal
