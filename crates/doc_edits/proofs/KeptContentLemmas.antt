@@ -8,7 +8,7 @@ use Rattle.doc_table.specs.Table.{Table, Content, Name, is_live}
 use Rattle.doc_table.specs.Walks.{ancestors, order}
 use Rattle.doc_table.specs.declared.ranks.TheConstants.{RANK_STEP}
 use Rattle.doc_table.specs.inner.Kept.{depth_at, rank_at, ranks_of, NameIsBelow, NamesAreBelow}
-use Rattle.doc_table.specs.inner.Sound.{Formed, Sound, count_live, text_held}
+use Rattle.doc_table.specs.inner.Sound.{Formed, Sound, text_held}
 use Rattle.doc_table.specs.inner.Views.{content_seen, node_seen, table_seen}
 use Rattle.doc_table.proofs.Counts.{sum-set}
 use Rattle.doc_table.proofs.SoundLemmas.{seen-entry, number-set, ranks-same}

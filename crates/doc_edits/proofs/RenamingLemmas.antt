@@ -1,7 +1,7 @@
 -- A node with another name.
-use Rattle.std.proofs.Common.{◌≡◌, ◌≢◌, ℕ, true, false, List, Option, None, Some, is_some, refl, sym, ap, ◌∙◌, ⊎_elim, true≢false}
+use Rattle.std.proofs.Common.{◌≡◌, ◌≢◌, ℕ, true, Option, None, Some, is_some, refl, sym, ap, ◌∙◌, ⊎_elim, true≢false}
 use Rattle.doc_table.specs.Lists.{mem}
-use Rattle.doc_table.specs.Table.{Table, Facts, Name, Content, root, element, attribute, text, comment, instruction, entry_at, content_at, kind_at, name_at, expanded, expanded_in, kind_in, name_in, value_in, kind_of, name_of, expanded_of, attrs_of, is_live}
+use Rattle.doc_table.specs.Table.{Table, Facts, Name, Content, root, element, attribute, text, comment, instruction, entry_at, content_at, kind_at, name_at, expanded_in, kind_in, name_in, value_in, kind_of, name_of, expanded_of, attrs_of, is_live}
 use Rattle.doc_table.specs.Kinds.{has_own_name}
 use Rattle.doc_table.specs.inner.Sound.{Formed}
 use Rattle.doc_table.proofs.ListLemmas.{eq_or}

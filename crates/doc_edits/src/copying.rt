@@ -3,7 +3,7 @@
 ghost use Rattle.std.specs.Prelude.{◌≡◌, ◌+◌, ◌<◌, ◌≤◌, ◌^◌, ℕ, None, Some, IfOk, length, map, slice_index_or, true};
 ghost use Rattle.doc_names.specs.Name.{numbered};
 ghost use Rattle.doc_table.specs.Lists.{mem, place_in};
-ghost use Rattle.doc_table.specs.declared.node.NodeContent.TheVariants.{Element};
+ghost use Rattle.doc_table.specs.declared.node.NodeContent.TheVariants.{Attribute, Element, Pi};
 ghost use Rattle.doc_table.specs.inner.Kept.{NameIsBelow, depth_at};
 ghost use Rattle.doc_table.specs.inner.Views.{content_seen};
 ghost use Rattle.doc_edits.specs.Changes.{given_parent};
@@ -136,6 +136,38 @@ fn copy_element(
     Ok(NodeContent::Element(id, list))
 }
 
+/// Copies what an attribute holds; its name is numbered anew.
+fn copy_attribute(
+    names: &mut NameTable,
+    alloc: Global,
+    from: &NameTable,
+    name: NameId,
+    value: &Text,
+) -> Result<NodeContent, AllocError>
+    ensures seen { IfOk result (λ copy. content_seen names.new copy ≡ content_seen from.now (Attribute name value.now)) }
+    ensures known { IfOk result (λ copy. NameIsBelow (length names.new) copy) }
+    ensures grown { NamesGrow names.old names.new }
+{
+    let (id, text) = copy_named(names, alloc, from, name, value)?;
+    Ok(NodeContent::Attribute(id, text))
+}
+
+/// Copies what a processing instruction holds; its target is numbered anew.
+fn copy_instruction(
+    names: &mut NameTable,
+    alloc: Global,
+    from: &NameTable,
+    target: NameId,
+    text: &Text,
+) -> Result<NodeContent, AllocError>
+    ensures seen { IfOk result (λ copy. content_seen names.new copy ≡ content_seen from.now (Pi target text.now)) }
+    ensures known { IfOk result (λ copy. NameIsBelow (length names.new) copy) }
+    ensures grown { NamesGrow names.old names.new }
+{
+    let (id, data) = copy_named(names, alloc, from, target, text)?;
+    Ok(NodeContent::Pi(id, data))
+}
+
 /// Copies what a node holds; its name is numbered anew.
 fn copy_content(
     names: &mut NameTable,
@@ -150,10 +182,7 @@ fn copy_content(
     match content {
         NodeContent::Root => Ok(NodeContent::Root),
         NodeContent::Element(name, decls) => copy_element(names, alloc, from, *name, decls),
-        NodeContent::Attribute(name, value) => {
-            let (id, text) = copy_named(names, alloc, from, *name, value)?;
-            Ok(NodeContent::Attribute(id, text))
-        }
+        NodeContent::Attribute(name, value) => copy_attribute(names, alloc, from, *name, value),
         NodeContent::Text(characters) => {
             let text = Text::copy(alloc, characters.as_str())?;
             Ok(NodeContent::Text(text))
@@ -162,10 +191,7 @@ fn copy_content(
             let text = Text::copy(alloc, characters.as_str())?;
             Ok(NodeContent::Comment(text))
         }
-        NodeContent::Pi(name, data) => {
-            let (id, text) = copy_named(names, alloc, from, *name, data)?;
-            Ok(NodeContent::Pi(id, text))
-        }
+        NodeContent::Pi(name, data) => copy_instruction(names, alloc, from, *name, data),
     }
 }
 
