@@ -12,18 +12,20 @@ use Rattle.sch_base.specs.Named.{named}
 use Rattle.doc_tree.specs.kind.Kind.{Kind}
 use Rattle.edit_script.specs.declared.command.PathStep.{PathStep}
 use Rattle.edit_script.specs.Paths.{bracketed, is_close, is_open, kind_of, number_of, onto_steps, path_of, step_names, step_of, step_with, steps_behind, steps_of}
+use Rattle.edit_script.specs.inner.Steps.{before_steps}
 use Rattle.edit_script.specs.WellFormed.{IsPath, IsStep, is_kid}
 use Rattle.edit_script.proofs.NumberLemmas.{IfPlace, number_made}
 
--- steps that were read, in front of those that are left
-abbrev pub before_steps : List PathStep → Option (List PathStep) → Option (List PathStep)
-before_steps read None = None
-before_steps read (Some steps) = Some (read ++ steps)
-
+-- one step more was read
 pub steps_next : (read : List PathStep) (step : PathStep) (steps : Option (List PathStep)) →
     before_steps read (onto_steps (Some step) steps) ≡ before_steps (read ++ step ∷ []) steps
 steps_next read step None = refl
 steps_next read step (Some steps) = ap (λ l. Some l) (sym (append_assoc read (step ∷ []) steps))
+
+-- no step was read
+pub steps_first : (read : List PathStep) (steps : Option (List PathStep)) → read ≡ [] → before_steps read steps ≡ steps
+steps_first read None none = refl
+steps_first read (Some steps) none = ap (λ l. Some (l ++ steps)) none
 
 -- what is read is well formed
 abbrev pub IfKid : Option Kind → Type 0

@@ -5,6 +5,7 @@ ghost use Rattle.std.specs.List.{slice_split};
 ghost use Rattle.sch_base.specs.Characters.{is_slash};
 ghost use Rattle.edit_script.specs.Paths.{bracketed, is_close, is_open, kind_of, path_of, step_of, steps_of};
 ghost use Rattle.edit_script.specs.inner.Parts.{Parted, Whole};
+ghost use Rattle.edit_script.specs.inner.Steps.{before_steps, steps_if};
 
 use crate::command::{Path, PathStep};
 use crate::fields::read_number;
@@ -29,19 +30,36 @@ fn read_steps(alloc: Global, text: &str) -> Result<Option<Path>, AllocError>
     ensures { IfOk result (λ path. path ≡ steps_of (slice_split is_slash text.now)) }
 {
     let mut path = Path::new(alloc);
+    match push_steps(&mut path, text) {
+        Ok(true) => Ok(Some(path)),
+        Ok(false) => {
+            drop(path);
+            Ok(None)
+        }
+        Err(error) => {
+            drop(path);
+            Err(error)
+        }
+    }
+}
+
+/// Puts the steps that a text is, parted by `/`, at the end of a path; false where some part is no step.
+fn push_steps(path: &mut Path, text: &str) -> Result<bool, AllocError>
+    ensures { IfOk result (λ are_steps. steps_if are_steps path.new ≡ before_steps path.old (steps_of (slice_split is_slash text.now))) }
+{
     let mut rest = text;
     while let Some((front, back)) = split_slash(rest) {
         let Some(step) = read_step(front) else {
-            return Ok(None);
+            return Ok(false);
         };
         path.push(step)?;
         rest = back;
     }
     let Some(step) = read_step(rest) else {
-        return Ok(None);
+        return Ok(false);
     };
     path.push(step)?;
-    Ok(Some(path))
+    Ok(true)
 }
 
 /// What stands in front of the first `/` and behind it; None where there is no `/`.
