@@ -9,7 +9,7 @@ ghost use Rattle.xp_meaning.specs.Results.{shown};
 ghost use Rattle.xp_values.specs.Outcomes.{Gives};
 ghost use Rattle.xp_values.specs.declared.values.Value.TheVariants as values;
 ghost use Rattle.xp_values.specs.Texts.{normalize_space, string_length};
-ghost use Rattle.xp_meaning.specs.Conversions.{sum_in};
+ghost use Rattle.xp_meaning.specs.Conversions.{number_in, sum_in, text_in};
 ghost use Rattle.xp_meaning.specs.Functions.{applied, as_number, as_text, as_truth, counted, nodes_at, number_or_own, text_at, text_or_own};
 ghost use Rattle.xp_meaning.specs.Language.{in_language};
 
@@ -178,10 +178,22 @@ impl Caller<'_> {
     {
         match args.first() {
             Some(value) => allocated(Text::copy(self.alloc, text_of(value))),
-            None => match node_set_of(self.alloc, at.node) {
-                Ok(own) => self.text_in(&own, reads, steps),
-                Err(error) => Err(error),
-            },
+            None => self.own_text(at.node, reads, steps),
+        }
+    }
+
+    /// The string-value of a node.
+    fn own_text<L: Ledger>(
+        &self,
+        n: NodeId,
+        reads: &mut Recorder,
+        steps: &mut Steps<L>,
+    ) -> Result<Text, EvalError>
+        ensures { Ran (text_in self.now.tree.now.nodes (values.NodeSet (n ∷ []))) (shown result) reads.old reads.new steps.old steps.new }
+    {
+        match node_set_of(self.alloc, n) {
+            Ok(own) => self.text_in(&own, reads, steps),
+            Err(error) => Err(error),
         }
     }
 
@@ -197,10 +209,22 @@ impl Caller<'_> {
     {
         match args.first() {
             Some(value) => Ok(number_of(value)),
-            None => match node_set_of(self.alloc, at.node) {
-                Ok(own) => self.number_in(&own, reads, steps),
-                Err(error) => Err(error),
-            },
+            None => self.own_number(at.node, reads, steps),
+        }
+    }
+
+    /// The number that a node's string-value is.
+    fn own_number<L: Ledger>(
+        &self,
+        n: NodeId,
+        reads: &mut Recorder,
+        steps: &mut Steps<L>,
+    ) -> Result<Num, EvalError>
+        ensures { Ran (number_in self.now.tree.now.nodes (values.NodeSet (n ∷ []))) (shown result) reads.old reads.new steps.old steps.new }
+    {
+        match node_set_of(self.alloc, n) {
+            Ok(own) => self.number_in(&own, reads, steps),
+            Err(error) => Err(error),
         }
     }
 

@@ -1,6 +1,7 @@
 //! Conversions and comparisons that record what they take (XPath 1.0, sections 3.4, 3.5 and 4).
 
 ghost use Rattle.std.specs.Prelude.{◌≡◌, ℕ, List, pos, Ok, IfOk};
+ghost use Rattle.doc_tree.specs.Walks.{string_value_of};
 ghost use Rattle.xp_outcome.specs.Recorded.{Recorded};
 ghost use Rattle.xp_outcome.specs.Running.{Ran};
 ghost use Rattle.xp_meaning.specs.Conversions.{as_wanted, compare_in, compared_nodes, first_of, nodes_of, number_in, sum_from, sum_in, text_in};
@@ -10,6 +11,7 @@ ghost use Rattle.xp_values.specs.declared.numbers.Num.{Num};
 ghost use Rattle.xp_values.specs.declared.values.EvalFault.{EvalFault};
 ghost use Rattle.xp_values.specs.declared.values.Value.TheVariants as value_kinds;
 ghost use Rattle.xp_values.specs.Comparisons.{is_truth};
+ghost use Rattle.xp_values.specs.Numerals.{text_to_number};
 ghost use Rattle.xp_meaning.specs.Functions.{as_number, as_text};
 ghost use Rattle.xp_meaning.specs.Results.{shown, shown_alloc};
 ghost use Rattle.xp_meaning.specs.Reads.{taking};
@@ -71,14 +73,21 @@ fn take_compared<L: Ledger>(
     }
 }
 
+/// The number that a node's string-value is.
+fn number_of_node(alloc: Global, tree: &Tree, n: NodeId) -> Result<Num, EvalError>
+    ensures { Gives result (text_to_number (string_value_of tree.now.nodes n)) }
+{
+    let text = tree.string_value(alloc, n)?;
+    Ok(text_to_number(text.as_str())?)
+}
+
 /// The numbers of some nodes added in turn, each sum in range.
 fn sum_of(alloc: Global, tree: &Tree, nodes: &[NodeId]) -> Result<Num, EvalError>
     ensures { Gives result (sum_from tree.now.nodes (Whole (pos 0)) nodes.now) }
 {
     let mut sum = Num::Whole(0);
     for n in nodes {
-        let text = tree.string_value(alloc, *n)?;
-        let number = text_to_number(text.as_str())?;
+        let number = number_of_node(alloc, tree, *n)?;
         sum = arith(ArithOp::Add, sum, number)?;
     }
     Ok(sum)
@@ -226,8 +235,36 @@ impl Caller<'_> {
     {
         match want {
             Want::AsItIs => Ok(value),
-            Want::AsText => text_value(self.text_in(&value, reads, steps)),
-            Want::AsNumber => number_value(self.number_in(&value, reads, steps)),
+            Want::AsText => self.text_wanted(value, reads, steps),
+            Want::AsNumber => self.number_wanted(value, reads, steps),
         }
+    }
+
+    /// The text of a value, as a value.
+    fn text_wanted<L: Ledger>(
+        &self,
+        value: Value,
+        reads: &mut Recorder,
+        steps: &mut Steps<L>,
+    ) -> Result<Value, EvalError>
+        ensures { Ran (as_text (text_in self.now.tree.now.nodes value)) (shown result) reads.old reads.new steps.old steps.new }
+    {
+        let text = self.text_in(&value, reads, steps);
+        drop(value);
+        text_value(text)
+    }
+
+    /// The number of a value, as a value.
+    fn number_wanted<L: Ledger>(
+        &self,
+        value: Value,
+        reads: &mut Recorder,
+        steps: &mut Steps<L>,
+    ) -> Result<Value, EvalError>
+        ensures { Ran (as_number (number_in self.now.tree.now.nodes value)) (shown result) reads.old reads.new steps.old steps.new }
+    {
+        let number = self.number_in(&value, reads, steps);
+        drop(value);
+        number_value(number)
     }
 }
