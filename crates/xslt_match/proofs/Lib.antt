@@ -7,3 +7,4 @@ pub mod JoinedReads
 pub mod Repeating
 pub mod Keeping
 pub mod Indexed
+pub mod Gathered

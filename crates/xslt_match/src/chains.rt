@@ -1,12 +1,13 @@
 //! The chains of a path pattern's steps to a node, and the tests of the nodes in them (XSLT 1.0, section 5.2).
 
-ghost use Rattle.std.specs.Prelude.{◌≡◌, true, false, map};
+ghost use Rattle.std.specs.Prelude.{◌≡◌, ◌∷◌, true, false, map};
 ghost use Rattle.doc_tree.specs.Table.{is_live};
 ghost use Rattle.xp_outcome.specs.Running.{Ran};
 ghost use Rattle.xp_meaning.specs.Results.{shown};
 ghost use Rattle.xp_typed_tree.specs.TypedView.{path_seen, pattern_step_seen};
 ghost use Rattle.xslt_match.specs.inner.Ends.{ends_elsewhere};
 ghost use Rattle.xslt_match.specs.inner.Keeping.{IsFrontIn, IsPathIn};
+ghost use Rattle.xslt_match.specs.inner.OneChain.{all_from_parents};
 ghost use Rattle.xslt_match.specs.Kept.{IsKeptFor};
 ghost use Rattle.xslt_match.specs.Matching.{chains, path_matches, starts};
 
@@ -84,18 +85,40 @@ impl Matcher<'_> {
         ensures kept { IsKeptFor self.now.evaluator.caller.tree.now.nodes self.now.evaluator.lets.now self.now.pattern.now kept.new }
     {
         let path = at.path;
-        let tree = self.evaluator.caller.tree;
-        tree.laws();
         match path.steps.split_first() {
-            None => Ok(is_start(tree, path.from_root, self.node)),
+            None => Ok(is_start(self.evaluator.caller.tree, path.from_root, self.node)),
             Some((first, later)) if all_from_parents(later) => {
-                if has_chain(tree, path.from_root, first, later, self.node) {
-                    return self.tests(at, kept, reads, steps);
-                }
-                Ok(false)
+                self.one_chain_matches(at, first, later, kept, reads, steps)
             }
             Some(_) => self.chains_on_way(at, kept, reads, steps),
         }
+    }
+
+    /// `path_matches` where each step but the first is one from parents, so that there is one chain at most.
+    fn one_chain_matches<L: Ledger>(
+        &self,
+        at: &PlacedPath<'_>,
+        first: &TypedPatternStep,
+        later: &[TypedPatternStep],
+        kept: &mut KeptSteps,
+        reads: &mut Recorder,
+        steps: &mut Steps<L>,
+    ) -> Result<bool, EvalError>
+        requires lives { is_live self.now.evaluator.caller.tree.now.nodes self.now.node ≡ true }
+        requires placed { IsPathIn self.now.pattern.now at.now }
+        requires parted { at.now.path.now.steps.items ≡ first.now ∷ later.now }
+        requires from_parents { all_from_parents (map pattern_step_seen later.now) ≡ true }
+        requires kept { IsKeptFor self.now.evaluator.caller.tree.now.nodes self.now.evaluator.lets.now self.now.pattern.now kept.old }
+        ensures ran { Ran (path_matches self.now.evaluator.caller.tree.now.nodes self.now.evaluator.lets.now self.now.node (path_seen at.now.path.now))
+            (shown result) reads.old reads.new steps.old steps.new }
+        ensures kept { IsKeptFor self.now.evaluator.caller.tree.now.nodes self.now.evaluator.lets.now self.now.pattern.now kept.new }
+    {
+        let tree = self.evaluator.caller.tree;
+        tree.laws();
+        if has_chain(tree, at.path.from_root, first, later, self.node) {
+            return self.tests(at, kept, reads, steps);
+        }
+        Ok(false)
     }
 
     /// `path_matches` by the way from the root to the node, on which all nodes of chains stand.
@@ -122,7 +145,9 @@ impl Matcher<'_> {
             nodes: first,
             alive: first,
         };
-        self.chains(&front, way.as_slice(), kept, reads, steps)
+        let has_chain = self.chains(&front, way.as_slice(), kept, reads, steps);
+        drop(way);
+        has_chain
     }
 
     /// Whether all nodes of some chain of a path to a live node survive their tests, step by step from the left. Where no

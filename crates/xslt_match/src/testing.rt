@@ -1,16 +1,18 @@
 //! The tests of the nodes that stand at a step of a path pattern, by the step's predicates.
 
-ghost use Rattle.std.specs.Prelude.{◌≡◌, ◌+◌, ◌<◌, ℕ, Bool, IfSome};
+ghost use Rattle.std.specs.Prelude.{◌≡◌, ◌+◌, ◌++◌, ◌∷◌, [], ◌<◌, ℕ, Bool, List, IfSome, if◌then◌else◌};
 ghost use Rattle.doc_tree.specs.Lists.{mem};
-ghost use Rattle.doc_tree.specs.Table.{parent_of};
-ghost use Rattle.xp_outcome.specs.Evaluation.{Evaluation};
+ghost use Rattle.doc_tree.specs.Table.{Table, parent_of};
+ghost use Rattle.xp_outcome.specs.Evaluation.{Evaluation, bind, done};
 ghost use Rattle.xp_outcome.specs.Recorded.{nothing_read};
 ghost use Rattle.xp_outcome.specs.Running.{Ran};
 ghost use Rattle.xp_values.specs.declared.values.EvalFault.{EvalFault};
+ghost use Rattle.xp_meaning.specs.Evaluation.{Lets};
 ghost use Rattle.xp_meaning.specs.Results.{shown};
+ghost use Rattle.xp_typed_tree.specs.TypedTree.{TypedPathTree};
 ghost use Rattle.xp_typed_tree.specs.TypedView.{pattern_step_seen};
-ghost use Rattle.xslt_match.specs.Kept.{IsKeptFor, told};
-ghost use Rattle.xslt_match.specs.inner.Keeping.{IsPlacedIn, nodes_told, reads_of, told_of};
+ghost use Rattle.xslt_match.specs.Kept.{IsKeptFor, IsOutcomeAt, told};
+ghost use Rattle.xslt_match.specs.inner.Keeping.{IsPlacedIn, nodes_told, reads_of, told_of, with_list};
 ghost use Rattle.xslt_match.specs.Matching.{is_left, step_of, survives, survivors};
 
 use crate::joining::join;
@@ -54,10 +56,31 @@ impl Matcher<'_> {
     {
         let mut left = ItemList::new(self.evaluator.caller.alloc);
         for k in nodes {
-            let stays = self.survives(at, *k, kept, reads, steps)?;
-            left.push_if(*k, stays)?;
+            self.push_survivor(&mut left, at, *k, kept, reads, steps)?;
         }
         Ok(left)
+    }
+
+    /// Puts a node that survives a step's test at the end of a list.
+    fn push_survivor<L: Ledger>(
+        &self,
+        left: &mut NodeList,
+        at: &PlacedStep<'_>,
+        k: NodeId,
+        kept: &mut KeptSteps,
+        reads: &mut Recorder,
+        steps: &mut Steps<L>,
+    ) -> Result<(), EvalError>
+        requires placed { IsPlacedIn self.now.pattern.now at.now }
+        requires kept { IsKeptFor self.now.evaluator.caller.tree.now.nodes self.now.evaluator.lets.now self.now.pattern.now kept.old }
+        ensures ran { Ran (bind (survives self.now.evaluator.caller.tree.now.nodes self.now.evaluator.lets.now (pattern_step_seen at.now.step.now) self.now.node k)
+            (λ stays. done (left.old ++ (if stays then k ∷ [] else []))))
+            (with_list (shown result) left.new) reads.old reads.new steps.old steps.new }
+        ensures kept { IsKeptFor self.now.evaluator.caller.tree.now.nodes self.now.evaluator.lets.now self.now.pattern.now kept.new }
+    {
+        let stays = self.survives(at, k, kept, reads, steps)?;
+        left.push_if(k, stays)?;
+        Ok(())
     }
 
     /// Whether a node survives a step's test: by its place among the step's nodes at its parent where a predicate is
@@ -157,9 +180,8 @@ impl Matcher<'_> {
         let before = steps.taken();
         let selected = self.select(at.step, parent, steps)?;
         let visits = visits_between(before, steps.taken());
-        let told = selected.tell(self.evaluator.caller.alloc, k, reads);
-        kept.keep(key_at(at, parent), selected, visits)?;
-        told
+        let key = key_at(at, parent);
+        selected.tell_and_keep(self.evaluator.caller.alloc, k, reads, kept, key, visits)
     }
 
     /// What a step selects at a node, with what is read for it.
@@ -230,6 +252,26 @@ impl Selected {
             Ok(nodes) => Ok(nodes.has(k)),
             Err(fault) => Err(EvalError::Fault(*fault)),
         }
+    }
+
+    /// `tell`, and keeps by a key what was selected, where its visits are known.
+    fn tell_and_keep(
+        self,
+        alloc: Global,
+        k: NodeId,
+        reads: &mut Recorder,
+        kept: &mut KeptSteps,
+        key: StepKey,
+        visits: Option<usize>,
+    ) -> Result<bool, EvalError>
+        ensures told { (m : Evaluation EvalFault Bool) (before after : ℕ) →
+            Ran m (told self.nodes k) nothing_read self.reads before after → Ran m (shown result) reads.old reads.new before after }
+        ensures kept { (T : Table) (L : Lets) (pattern : List TypedPathTree) → IsKeptFor T L pattern kept.old →
+            IfSome visits (λ count. IsOutcomeAt T L pattern key (record { selected = self; visits = count })) → IsKeptFor T L pattern kept.new }
+    {
+        let told = self.tell(alloc, k, reads);
+        kept.keep(key, self, visits)?;
+        told
     }
 }
 

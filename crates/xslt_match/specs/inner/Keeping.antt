@@ -43,3 +43,8 @@ told_of (Err _) k = Err no_memory
 abbrev pub reads_of : Result Selected AllocError → Recorded
 reads_of (Ok selected) = selected.reads
 reads_of (Err _) = nothing_read
+
+-- the list that a call left, where it did not stop
+abbrev pub with_list : Result (Unit {0}) (Stop EvalFault) → List ℕ → Result (List ℕ) (Stop EvalFault)
+with_list (Ok done) nodes = Ok nodes
+with_list (Err e) nodes = Err e
