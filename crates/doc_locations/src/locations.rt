@@ -44,8 +44,8 @@ impl<'a> Model for Locator<'a> {
 }
 
 impl<'a> Locator<'a> {
-    /// A locator of the nodes of the tree, for use with some of them. The time grows with their number and that of the
-    /// siblings on the ways up from them.
+    /// A locator of the nodes of the tree, for use with some of them. The time grows with their number and depth; where these
+    /// have many siblings on their ways up, also with the number of these siblings and that of the tree's nodes.
     pub fn new(alloc: Global, tree: &'a Tree, nodes: &[NodeId]) -> Result<Locator<'a>, AllocError>
         ensures { IfOk result (λ locator. locator ≡ tree.now.nodes) }
     {
@@ -53,8 +53,8 @@ impl<'a> Locator<'a> {
         Ok(Locator { tree, places })
     }
 
-    /// The expression that finds the node from the root. The time grows with the depth of one of the nodes that were given,
-    /// and for another one besides with the number of siblings on the way up.
+    /// The expression that finds the node from the root. The time grows with the depth of the node, and with the number of
+    /// siblings on the way up where it is none of the nodes that were given, or these have few.
     pub fn location(&self, alloc: Global, n: NodeId) -> Result<Text, AllocError>
         requires live { is_live self.now n ≡ true }
         ensures { IfOk result (λ location. location ≡ location_of self.now n) }

@@ -17,7 +17,8 @@ const KINDS: usize = 6;
 /// The places of nodes and their siblings, by node number: those of the given nodes and of all above them. A place is
 /// that among the siblings of a kind, counted from 1; 0 stands for those that were not counted.
 ///
-/// The kids of each parent on the ways up are looked at once.
+/// The kids of each parent on the ways up are looked at once. Where the nodes have few siblings on their ways up, none is
+/// counted: it costs less to count them when a place is asked for than to make a table as long as the tree.
 pub(crate) fn places_on_ways(
     alloc: Global,
     tree: &Tree,
@@ -25,12 +26,39 @@ pub(crate) fn places_on_ways(
 ) -> Result<Vec<usize>, AllocError>
     ensures { IfOk result (λ places. HoldsSome tree.now.nodes places.items) }
 {
-    if nodes.is_empty() {
+    if have_few_siblings(tree, nodes) {
         return Ok(Vec::new(alloc));
     }
     let mut places = vec![in alloc; 0; tree.numbers_made() as usize]?;
     count_ways(places.as_mut_slice(), tree, nodes);
     Ok(places)
+}
+
+/// Whether the siblings on the ways up from the nodes, counted for each of them, are fewer than the tree has numbers.
+///
+/// Costs a look at each node on these ways, as far as they are few.
+fn have_few_siblings(tree: &Tree, nodes: &[NodeId]) -> bool {
+    let mut left = tree.numbers_made() as usize;
+    for n in nodes {
+        let siblings = siblings_on_way(tree, *n);
+        if siblings >= left {
+            return false;
+        }
+        left -= siblings;
+    }
+    true
+}
+
+/// How many siblings stand on the way up from a node, itself and those above it among them.
+fn siblings_on_way(tree: &Tree, n: NodeId) -> usize {
+    tree.laws();
+    match tree.parent(n) {
+        Some(parent) => tree
+            .kids(parent)
+            .len()
+            .saturating_add(siblings_on_way(tree, parent)),
+        None => 0,
+    }
 }
 
 /// Counts the places on the ways up from the nodes.
