@@ -1,3 +1,4 @@
+pub mod LaidLemmas
 pub mod PageLemmas
 pub mod ReportLemmas
 pub mod ToldLemmas

@@ -2,10 +2,12 @@
 #![tactic(auto)]
 
 mod fault_line;
+mod found;
+mod laid;
 mod page;
 mod parts;
 mod report;
 
 pub use doc_locations::{location, locations_are_told_apart};
 pub use fault_line::write_fault;
-pub use report::{OutError, write_report};
+pub use report::{OutError, write_report, write_report_among};

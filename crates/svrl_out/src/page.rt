@@ -1,6 +1,6 @@
 //! Pages of a report: lines that are put together in memory, so that the sink is asked seldom.
 
-ghost use Rattle.std.specs.Prelude.{◌≡◌, [], OnOk};
+ghost use Rattle.std.specs.Prelude.{◌≡◌, [], ◌++◌, OnOk};
 ghost use Rattle.sch_io.specs.Wrote.{Wrote};
 ghost use Rattle.svrl_out.specs.inner.Pages.{Turned};
 
@@ -25,6 +25,20 @@ impl Page {
             bytes: Vec::new(alloc),
             faults: 0,
         }
+    }
+
+    /// What stands on the page.
+    pub(crate) fn as_slice(&self) -> &[u8]
+        ensures { result.now ≡ self.now.bytes.items }
+    {
+        self.bytes.as_slice()
+    }
+
+    /// Puts bytes on the page, behind what stands there.
+    pub(crate) fn put(&mut self, piece: &[u8]) -> Result<(), AllocError>
+        ensures { OnOk result (self.new.bytes.items ≡ self.old.bytes.items ++ piece.now) }
+    {
+        self.bytes.extend_from_slice(piece)
     }
 
     /// Writes what stands on the page, and empties it.

@@ -1,26 +1,31 @@
 //! Writing the report.
 
-ghost use Rattle.std.specs.Prelude.{◌≡◌, ℕ, ◌<◌, ◌++◌, All, IfErr, OnOk, true, length};
+ghost use Rattle.std.specs.Prelude.{◌≡◌, ℕ, ◌<◌, ◌++◌, All, IfOk, OnOk, Some, true, length};
 ghost use Rattle.std.specs.List.{flat_map, enumerate_from};
-ghost use Rattle.sch_compiled.specs.Findings.{outcome_at};
+ghost use Rattle.sch_compiled.specs.Findings.{ToldInOrder, outcome_at};
+ghost use Rattle.sch_compiled.specs.declared.findings.Outcome.TheVariants.{Fired};
 ghost use Rattle.svrl_out.specs.declared.report.OutError.TheVariants as errors;
 ghost use Rattle.doc_tree.specs.Table.{is_live};
 ghost use Rattle.doc_tree.specs.Walks.{order};
 ghost use Rattle.doc_locations.specs.Locations.{location_of};
-ghost use Rattle.svrl_out.specs.Report.{IsFindingOf, IsOutcomeOf, IsReportable, Reported, ns_lines, pattern_lines, report, rule_lines};
+ghost use Rattle.svrl_out.specs.Report.{IsFindingOf, IsOutcomeOf, IsReportable, Reported, finding_lines, ns_lines, outcome_lines, pattern_lines, report};
+ghost use Rattle.svrl_out.specs.inner.Laid.{AreLaid};
 ghost use Rattle.svrl_out.specs.inner.Printer.{HasOutcomes, IsReady, held_lines, held_and_end, node_text, printed};
 
+use crate::found::nodes_with_findings;
+use crate::laid::put_fired_rule;
 use crate::page::Page;
-use crate::parts::{
-    write_active_pattern, write_findings, write_fired_rule, write_namespaces, write_output_opening,
-};
+use crate::parts::{write_active_pattern, write_findings, write_namespaces, write_output_opening};
 use doc_locations::Locator;
 use doc_tree::{NodeId, Tree};
 use pyx_write::write_end;
-use sch_compiled::{FindingList, Findings, Outcome, Plan, PlanPattern, PlanRule, PlanRuleList};
+use sch_compiled::{
+    FindingList, Findings, Outcome, Plan, PlanAssertList, PlanPattern, PlanRuleList,
+};
 use sch_io::{Failed, Sink};
 use std::alloc::{AllocError, Global};
 use thiserror::Error;
+use xp_outcome::Slots;
 
 /// Why a report was not written whole.
 #[derive(Clone, Copy, Debug, PartialEq, Eq, Error)]
@@ -51,10 +56,8 @@ impl From<Failed> for OutError {
 
 /// Writes the report: each active pattern, and what it found at each node in document order.
 ///
-/// After an error a front of the report was written. The time grows with the number of nodes that fire a rule, for each
-/// pattern, and for a node with findings with its depth and theirs; besides, the siblings of what fires and of what stands
-/// above it are looked at once, and a byte for each node and pattern. Of the report one location is kept, and one page of
-/// lines, so that the sink is asked once for many lines.
+/// After an error a front of the report was written. What it costs is what it costs to find the nodes at which a rule fired
+/// or a fault was met, and what `write_report_among` costs.
 pub fn write_report<O: Sink>(
     alloc: Global,
     plan: &Plan,
@@ -66,17 +69,51 @@ pub fn write_report<O: Sink>(
     ensures { Reported (O.log sink.old) (O.log sink.new) (report plan.now tree.now.nodes (outcome_at found.now)) result }
 {
     let nodes = found.told_in_order(alloc, tree)?;
-    let locator = Locator::new(alloc, tree, nodes.as_slice())?;
+    write_report_among(alloc, plan, tree, found, nodes.as_slice(), sink)
+}
+
+/// The same for a caller who has the nodes of which something is told.
+///
+/// The lines of a rule are laid out once for a pattern, and copied for each node that fires it. Besides, the time grows with the
+/// nodes, for each pattern, and for a node with findings with its depth and theirs; the siblings of nodes with findings and of
+/// what stands above them are looked at once, or for each where they are few. Of the report one location is kept, the lines of
+/// the rules that fire, and one page of lines, so that the sink is asked once for many lines.
+pub fn write_report_among<O: Sink>(
+    alloc: Global,
+    plan: &Plan,
+    tree: &Tree,
+    found: &Findings,
+    nodes: &[NodeId],
+    sink: &mut O,
+) -> Result<(), OutError>
+    requires reportable { IsReportable plan.now tree.now.nodes found.now }
+    requires told { ToldInOrder tree.now.nodes found.now nodes.now }
+    ensures { Reported (O.log sink.old) (O.log sink.new) (report plan.now tree.now.nodes (outcome_at found.now)) result }
+{
+    let locator = locator_for(alloc, tree, found, nodes)?;
     tree.laws();
     let printer = Printer {
         alloc,
         plan,
         tree,
         found,
-        nodes: nodes.as_slice(),
+        nodes,
         locator: &locator,
     };
     printer.write_all(sink)
+}
+
+/// What finds those of the nodes that have findings.
+fn locator_for<'a>(
+    alloc: Global,
+    tree: &'a Tree,
+    found: &Findings,
+    nodes: &[NodeId],
+) -> Result<Locator<'a>, AllocError>
+    ensures { IfOk result (λ locator. locator ≡ tree.now.nodes) }
+{
+    let some = nodes_with_findings(alloc, found, nodes)?;
+    Locator::new(alloc, tree, some.as_slice())
 }
 
 /// What a report is written from.
@@ -164,78 +201,84 @@ impl Printer<'_> {
             (flat_map (node_text self.now p rules.now) (order self.now.tree.now.nodes)) result }
     {
         let mut page = Page::new(self.alloc);
+        let mut laid = Slots::new(self.alloc);
         for n in self.nodes {
-            self.put_node(p, rules, *n, &mut page)?;
+            self.put_node(p, rules, *n, &mut laid, &mut page)?;
             page.turn_if_full(sink)?;
         }
         page.turn(sink)?;
         Ok(())
     }
 
-    /// Puts on the page what a pattern with these rules found at a node.
+    /// Puts on the page what a pattern with these rules found at a node: the rule that fired, if one did, and its findings.
     fn put_node(
         &self,
         p: u32,
         rules: &PlanRuleList,
         n: NodeId,
+        laid: &mut Slots<Page>,
         page: &mut Page,
-    ) -> Result<(), OutError>
+    ) -> Result<(), AllocError>
         requires ready { IsReady self.now }
         requires counted { p < self.now.found.now.patterns }
         requires live { is_live self.now.tree.now.nodes n ≡ true }
         requires outcome { IsOutcomeOf rules.now (outcome_at self.now.found.now p n) }
+        requires laid { AreLaid rules.now laid.old }
         ensures put { OnOk result (page.new.bytes.items ≡ page.old.bytes.items ++ node_text self.now p rules.now n) }
-        ensures refused { IfErr result (λ error. error ≡ errors.Memory) }
-    {
-        match self.write_node(p, rules, n, page) {
-            Ok(()) => Ok(()),
-            Err(_) => Err(OutError::Memory),
-        }
-    }
-
-    /// Writes what a pattern with these rules found at a node: the rule that fired, if one did, and its findings.
-    fn write_node<O: Sink>(
-        &self,
-        p: u32,
-        rules: &PlanRuleList,
-        n: NodeId,
-        sink: &mut O,
-    ) -> Result<(), OutError>
-        requires ready { IsReady self.now }
-        requires counted { p < self.now.found.now.patterns }
-        requires live { is_live self.now.tree.now.nodes n ≡ true }
-        requires outcome { IsOutcomeOf rules.now (outcome_at self.now.found.now p n) }
-        ensures { Reported (O.log sink.old) (O.log sink.new) (node_text self.now p rules.now n) result }
+        ensures laid { OnOk result (AreLaid rules.now laid.new) }
     {
         match self.found.get(p, n) {
             Some(Outcome::Fired { rule, findings }) => {
-                let rule = &rules.as_slice()[*rule as usize];
-                self.write_fired(n, rule, findings, sink)
+                self.put_fired(n, rules, *rule, findings, laid, page)
             }
             _ => Ok(()),
         }
     }
 
-    /// Writes the rule that a node fired, and its findings.
-    fn write_fired<O: Sink>(
+    /// Puts on the page the rule that a node fired, and its findings.
+    fn put_fired(
         &self,
         n: NodeId,
-        rule: &PlanRule,
+        rules: &PlanRuleList,
+        rule: u32,
         findings: &FindingList,
-        sink: &mut O,
-    ) -> Result<(), OutError>
+        laid: &mut Slots<Page>,
+        page: &mut Page,
+    ) -> Result<(), AllocError>
         requires ready { IsReady self.now }
         requires live { is_live self.now.tree.now.nodes n ≡ true }
-        requires named { All (IsFindingOf rule.now.assertions) findings.now }
-        ensures { Reported (O.log sink.old) (O.log sink.new)
-            (rule_lines (location_of self.now.tree.now.nodes n) findings.now rule.now) result }
+        requires outcome { IsOutcomeOf rules.now (Some (Fired rule findings.now)) }
+        requires laid { AreLaid rules.now laid.old }
+        ensures put { OnOk result (page.new.bytes.items ≡ page.old.bytes.items
+            ++ outcome_lines rules.now (location_of self.now.tree.now.nodes n) (Some (Fired rule findings.now))) }
+        ensures laid { OnOk result (AreLaid rules.now laid.new) }
     {
-        write_fired_rule(sink, rule)?;
+        put_fired_rule(self.alloc, rules, rule, laid, page)?;
+        let fired = &rules.as_slice()[rule as usize];
+        self.put_findings(n, &fired.assertions, findings, page)
+    }
+
+    /// Puts on the page the findings at a node, of a rule with these assertions.
+    fn put_findings(
+        &self,
+        n: NodeId,
+        assertions: &PlanAssertList,
+        findings: &FindingList,
+        page: &mut Page,
+    ) -> Result<(), AllocError>
+        requires ready { IsReady self.now }
+        requires live { is_live self.now.tree.now.nodes n ≡ true }
+        requires named { All (IsFindingOf assertions.now) findings.now }
+        ensures { OnOk result (page.new.bytes.items ≡ page.old.bytes.items
+            ++ flat_map (finding_lines (location_of self.now.tree.now.nodes n) assertions.now) findings.now) }
+    {
         if findings.is_empty() {
             return Ok(());
         }
         let location = self.locator.location(self.alloc, n)?;
-        write_findings(sink, &location, &rule.assertions, findings)?;
-        Ok(())
+        match write_findings(page, &location, assertions, findings) {
+            Ok(()) => Ok(()),
+            Err(_) => Err(AllocError),
+        }
     }
 }
