@@ -1,0 +1,3 @@
+pub mod MovedLemmas
+pub mod ChangesMoved
+pub mod AdditionsMoved
