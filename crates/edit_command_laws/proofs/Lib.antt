@@ -1,5 +1,5 @@
-mod OnePiece
+pub mod OnePiece
 mod OneEdit
-mod TreesKept
+pub mod TreesKept
 mod ScriptsFormed
 mod SomeEdit

@@ -57,7 +57,7 @@ module _ (before : Contents) (n at : ℕ) (events : List Event) (P : Table) (for
   brought : length (nodes_in P) ≡ sum_by event_nodes events
   brought = omega (arith, nodes-brought P form (ordered P piece), piece-nodes P form events scoped.lines_are)
 
-  one : length (kids_of P 0) ≡ 1
+  pub one : length (kids_of P 0) ≡ 1
   one = ap length scoped.one
 
   top-is : top_of P ≡ scoped.top
@@ -78,7 +78,7 @@ module _ (before : Contents) (n at : ℕ) (events : List Event) (P : Table) (for
       ∙ ap₂ (λ (b c : Bool). if b then Some TooManyNodes else if c then Some TooDeep else size_refusal before events) parts.2
       (none-too-deep P form (ordered P piece) (ways-up P piece) (walks P piece) events scoped.lines_are T n parts.3)
 
-  fits : tree.insertion_refusal before n at P ≡ None
+  pub fits : tree.insertion_refusal before n at P ≡ None
   fits = ap₂ option_or (ap (place_refusal T n at) kind-is ∙ first.0) (room ∙ second.1)
 
   insertion-kept : InsertionsKeepTrees → EditsKeepDocuments → WellFormed T → is_document T ≡ true → WellFormed (inserted T n (at - 1) P) × (is_document (inserted T n (at - 1) P) ≡ true)
