@@ -1,1 +1,2 @@
 pub mod PathsMove
+pub mod CommandsMove
