@@ -34,7 +34,7 @@ use Rattle.edit_iso_laws.specs.CommandsMove.{CommandsMove, ScriptsMove, none, th
 use Rattle.edit_iso_laws.specs.PathsMove.{PathsMove}
 
 -- the piece that a fragment is may come where nothing speaks against the fragment
-piece-may : (before : Contents) (n at : ℕ) (events : List Event) (P : Table) → WellFormed P → ScopedPiece (scope_at before.nodes n) events P → insertion_refusal before n at events ≡ None →
+pub piece-may : (before : Contents) (n at : ℕ) (events : List Event) (P : Table) → WellFormed P → ScopedPiece (scope_at before.nodes n) events P → insertion_refusal before n at events ≡ None →
     MayTake before.nodes n (at - 1) P
 piece-may before n at events P form scoped free =
     let piece : Formed P = formed-of P form in
@@ -135,7 +135,7 @@ commands-move laws one_table changes additions paths same renumber before other 
 
 pub scripts-move : EditsKeepTrees → CommandsMove → ScriptsMove
 scripts-move keeps move _ _ _ _ _ form form-other document document-other alike (none before) (none other) = alike
-scripts-move keeps move _ _ _ _ _ form form-other document document-other alike (then before next after command commands free edited rest) (then other next2 after2 _ _ free2 edited2 rest2) =
+scripts-move keeps move _ _ _ _ _ form form-other document document-other alike (then before next after command commands free edited cap rest) (then other next2 after2 _ _ free2 edited2 cap2 rest2) =
     let kept : WellFormed next.nodes × (is_document next.nodes ≡ true) = keeps before command next.nodes form document free edited in
     let kept2 : WellFormed next2.nodes × (is_document next2.nodes ≡ true) = keeps other command next2.nodes form-other document-other free2 edited2 in
     scripts-move keeps move next next2 after after2 commands kept.0 kept2.0 kept.1 kept2.1

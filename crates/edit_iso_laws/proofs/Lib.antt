@@ -1,3 +1,4 @@
 pub mod PathLemmas
 pub mod CommandLemmas
 pub mod RefusalLemmas
+pub mod GoingOnLemmas

@@ -2,12 +2,12 @@
 //! nothing.
 #![tactic(auto)]
 
-ghost use Rattle.edit_iso_laws.specs.CommandsMove.{CommandsMove, RefusalsMove, ScriptsMove};
+ghost use Rattle.edit_iso_laws.specs.CommandsMove.{CommandsMove, RefusalsMove, ScriptsGoOn, ScriptsMove};
 ghost use Rattle.edit_iso_laws.specs.PathsMove.{PathsMove};
 
 use doc_iso_laws::{additions_move, changes_move};
 use doc_tree::{one_table, well_formed_is_enough};
-use edit_command_laws::edits_keep_trees;
+use edit_command_laws::{edits_keep_trees, edits_make_trees};
 use tree_iso::{renumbered_trees_are_same, renumbered_trees_hang, same_trees_are_renumbered};
 
 /// Paths, scopes and attributes by name.
@@ -45,4 +45,14 @@ pub fn refusals_move()
     renumbered_trees_hang();
     same_trees_are_renumbered();
     paths_move();
+}
+
+/// Commands that were done on one of them are done on the other, to the same end, where enough numbers are left.
+pub fn scripts_go_on()
+    ensures { ScriptsGoOn }
+{
+    edits_keep_trees();
+    edits_make_trees();
+    commands_move();
+    refusals_move();
 }

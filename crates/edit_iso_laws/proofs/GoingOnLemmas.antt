@@ -1,0 +1,105 @@
+-- Commands that were done on a tree are done on another that is the same.
+use Rattle.std.proofs.Common.{◌≡◌, ℕ, ◌+◌, ◌-◌, ◌≤◌, true, List, [], ◌∷◌, length, sum_by, Option, None, Some, refl, sym, ap, ◌∙◌, arith, length-append}
+use Rattle.std.proofs.lemmas.List.Elements.{All-head, All-tail}
+use Rattle.std.proofs.lemmas.List.Sums.{sum_by-cons}
+use Rattle.doc_table.proofs.Appending.{holder-live}
+use Rattle.doc_table.proofs.Forests.{formed-of}
+use Rattle.doc_table.proofs.TreeLaws.{ordered}
+use Rattle.doc_edits.specs.Changes.{changed_at, Meeting, deleted, deleted_by, meeting, removed, removed_from, said, with_attribute, with_text}
+use Rattle.doc_edits.specs.Fitting.{MayTake}
+use Rattle.doc_edits.proofs.ClearLemmas.{cut-length}
+use Rattle.doc_edits.proofs.InsertionLemmas.{length-inserted}
+use Rattle.doc_edits.proofs.TableLemmas.{changed-length}
+use Rattle.doc_tree.specs.Edited.{attribute_name_at, with_value, without_attribute}
+use Rattle.doc_tree.specs.Kinds.{is_document}
+use Rattle.doc_tree.specs.Laws.{WellFormed}
+use Rattle.doc_tree.specs.NameTests.{attribute_meant}
+use Rattle.doc_tree.specs.Table.{Contents, Facts, Name, Table, attribute, kids_above, parent_of}
+use Rattle.doc_tree.specs.Walks.{below}
+use Rattle.doc_tree.proofs.InsertLemmas.{nodes-brought}
+use Rattle.name_scopes.specs.QNames.{local_part, prefix_part}
+use Rattle.name_scopes_laws.proofs.PieceSizes.{piece-nodes}
+use Rattle.edit_script.specs.WellFormed.{WellFormedCommand}
+use Rattle.edit_script.specs.declared.command.Command.{Command}
+use Rattle.edit_script.specs.declared.command.Command.TheVariants.{Insert, Delete, SetText, SetAttr, UnsetAttr}
+use Rattle.edit_commands.specs.Commands.{EditedAt, IsEdited, command_refusal, refusal_at, refusal_where}
+use Rattle.edit_command_laws.specs.SomeEdit.{EditsMakeTrees}
+use Rattle.edit_command_laws.specs.TreesKept.{EditsKeepTrees}
+use Rattle.edit_iso_laws.specs.CommandsMove.{CommandsMove, GoesOn, RefusalsMove, ScriptsGoOn, none, numbers_asked, then}
+use Rattle.edit_iso_laws.proofs.CommandLemmas.{piece-may}
+
+-- no edit but one that adds makes numbers
+said-length : (T : Table) (n : ℕ) (new : List ℕ) → length (said T n new) ≡ length T
+said-length T n new = changed-length T n (with_text new)
+
+removed-length : (T : Table) (n : ℕ) → length (removed T n) ≡ length T
+removed-length T n = by (parent_of T n)
+  where
+    by : (o : Option ℕ) → length (removed_from T n o) ≡ length T
+    by None = refl
+    by (Some p) = cut-length T n p (below T n)
+
+deleted-length : (T : Table) (n : ℕ) → length (deleted T n) ≡ length T
+deleted-length T n = by (meeting T n (kids_above T (parent_of T n)))
+  where
+    by : (o : Option Meeting) → length (deleted_by T n o) ≡ length T
+    by None = removed-length T n
+    by (Some texts) =
+        said-length (removed (removed T texts.right) n) texts.left _ ∙ (removed-length (removed T texts.right) n ∙ removed-length T texts.right)
+
+set-length : (T : Table) (n : ℕ) (name : Name) (value : List ℕ) (o : Option ℕ) → length (with_value T n name o value) ≤ length T + 1
+set-length T n name value None =
+    let one : Option Facts = Some (record { parent = Some n; kids = []; attributes = []; content = attribute name value }) in
+    omega (arith, changed-length T n (with_attribute (length T)), length-append (changed_at n (with_attribute (length T)) T) (one ∷ []))
+set-length T n name value (Some a) = omega (arith, said-length T a value)
+
+unset-length : (T : Table) (o : Option ℕ) → length (without_attribute T o) ≡ length T
+unset-length T None = refl
+unset-length T (Some a) = removed-length T a
+
+module _ (before : Contents) (form : WellFormed before.nodes) where
+  at-length : (command : Command) (n : ℕ) (U : Table) → refusal_at before command n ≡ None → EditedAt before.nodes command n U → length U ≤ length before.nodes + numbers_asked command
+  at-length (Insert path at events) n U free edited =
+      let may : MayTake before.nodes n (at - 1) edited.piece = piece-may before n at events edited.piece edited.well_formed edited.scoped free in
+      omega (
+        arith,
+        ap length edited.is,
+        length-inserted before.nodes edited.piece n (at - 1) (holder-live before.nodes n may.under),
+        nodes-brought edited.piece edited.well_formed (ordered edited.piece (formed-of edited.piece edited.well_formed)),
+        piece-nodes edited.piece edited.well_formed events edited.scoped.lines_are,
+      )
+  at-length (Delete path) n U free edited = omega (arith, ap length edited, deleted-length before.nodes n)
+  at-length (SetText path text) n U free edited = omega (arith, ap length edited, said-length before.nodes n text)
+  at-length (SetAttr path name value) n U free edited =
+      omega (
+        arith,
+        ap length edited,
+        set-length before.nodes n (attribute_name_at before.nodes n (prefix_part name) (local_part name)) value (attribute_meant before.nodes n (prefix_part name) (local_part name)),
+      )
+  at-length (UnsetAttr path name) n U free edited =
+      omega (arith, ap length edited, unset-length before.nodes (attribute_meant before.nodes n (prefix_part name) (local_part name)))
+
+  edited-length : (command : Command) (U : Table) → command_refusal before command ≡ None → IsEdited before.nodes command U → length U ≤ length before.nodes + numbers_asked command
+  edited-length command U free edited = at-length command edited.node U (ap (refusal_where before command) (sym edited.named) ∙ free) edited.edited
+
+pub scripts-go-on : EditsKeepTrees → EditsMakeTrees → CommandsMove → RefusalsMove → ScriptsGoOn
+scripts-go-on keeps makes move refusals _ other _ _ form form-other document document-other alike cap formed (none before) room =
+    record { end = other; done = none other; same = alike; numbers = omega arith }
+scripts-go-on keeps makes move refusals _ other _ _ form form-other document document-other alike cap formed (then before next after command commands free edited kept rest) room =
+    let total : sum_by numbers_asked (command ∷ commands) ≡ numbers_asked command + sum_by numbers_asked commands = sum_by-cons numbers_asked command commands in
+    let free2 : command_refusal other command ≡ None = refusals before other command form form-other alike cap free (omega (arith, room, total)) in
+    let made = makes other command form-other (All-head WellFormedCommand command commands formed) free2 in
+    let next2 : Contents = record other { nodes = made.0 } in
+    let here : WellFormed next.nodes × (is_document next.nodes ≡ true) = keeps before command next.nodes form document free edited in
+    let there : WellFormed made.0 × (is_document made.0 ≡ true) = keeps other command made.0 form-other document-other free2 made.1 in
+    let grown : length made.0 ≤ length other.nodes + numbers_asked command = edited-length other form-other command made.0 free2 made.1 in
+    let more : GoesOn next2 commands after =
+    scripts-go-on keeps makes move refusals next next2 after commands here.0 there.0 here.1 there.1
+    (move before other command next.nodes made.0 form form-other alike free free2 edited made.1) (cap ∙ sym kept) (All-tail WellFormedCommand command commands formed) rest
+    (omega (arith, room, total, grown)) in
+    record {
+      end = more.end;
+      done = then other next2 more.end command commands free2 made.1 refl more.done;
+      same = more.same;
+      numbers = omega (arith, more.numbers, total, grown);
+    }
