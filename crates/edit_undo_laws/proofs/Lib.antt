@@ -1,0 +1,2 @@
+pub mod InsertUndone
+pub mod TextUndone
