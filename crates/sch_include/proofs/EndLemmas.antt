@@ -1,13 +1,15 @@
 -- Ends of the steps of a walk.
-use Rattle.std.proofs.Common.{◌≡◌, ℕ, List, [], refl, sym, subst}
-use Rattle.std.specs.Prelude.{Result, Ok, Err, IsErrAnd, OnOk}
+use Rattle.std.proofs.Common.{◌≡◌, ℕ, List, [], ◌∷◌, ◌++◌, refl, sym, ap, ◌∙◌, subst, append_assoc}
+use Rattle.std.specs.Prelude.{Result, Ok, Err, IfErr, IsErrAnd, OnOk}
 use Rattle.sch_io.specs.Files.{Files}
+use Rattle.sch_io.specs.ReadThrough.{ReadsThrough}
 use Rattle.sch_io.specs.ShelfState.{ShelfState}
 use Rattle.doc_tree.specs.Table.{Contents}
 use Rattle.sch_include.specs.declared.fault.IncludeError.{IncludeError}
 use Rattle.sch_include.specs.declared.fault.IncludeError.TheVariants as error
 use Rattle.sch_include.specs.declared.joiner.Joiner.{Joiner}
 use Rattle.sch_include.specs.declared.source.OpenFile.{OpenFile}
+use Rattle.sch_include.specs.Ends.{NamesLast, extent_of_including, faults_of_including, misses_of_including}
 use Rattle.sch_include.specs.inner.Joining.{Shows, TakesFile, Walks, WalksFile, WalksKids}
 use Rattle.sch_include.proofs.KidLemmas.{shows-memory}
 use Rattle.sch_include.proofs.NodeLemmas.{walks-memory}
@@ -20,6 +22,21 @@ pub shows-unopened : (s : ShelfState) (a b : List (List ℕ)) (r : Result Conten
 shows-unopened s a b (Ok tree) same h = absurd h
 shows-unopened s a b (Err x) same h =
     subst (λ (names : List (List ℕ)). Shows {T = Contents} s s a names (Err x)) (sym same) (subst (λ (e : IncludeError). Shows {T = Contents} s s a a (Err e)) (sym h) (shows-memory s a))
+
+-- and of one that was
+pub shows-opened : (s t : ShelfState) (old new : List (List ℕ)) (name : List ℕ) (r : Result Contents IncludeError) → new ≡ old ++ name ∷ [] → t.files ≡ s.files → t.opened ≡ s.opened ++ name ∷ [] →
+    t.misses ≡ misses_of_including r s.misses → t.faults ≡ faults_of_including r s.faults → IfErr r (NamesLast (s.opened ++ name ∷ [])) → ReadsThrough (extent_of_including r) s t →
+    Shows {T = Contents} s t old new r
+shows-opened s t old new name r more held opened misses faults named through = record {
+  held = held;
+  noted = λ base is.
+      opened ∙ (ap (λ (names : List (List ℕ)). names ++ name ∷ []) is ∙ (append_assoc base old (name ∷ []) ∙ ap (λ (names : List (List ℕ)). base ++ names) (sym more)));
+  later = (name ∷ [], more);
+  misses = misses;
+  faults = faults;
+  last = subst (λ (names : List (List ℕ)). IfErr r (NamesLast names)) (sym opened) named;
+  through = through;
+}
 
 pub walks-end : (old new : Joiner) (file : OpenFile) (n p : ℕ) (F : Files → Type 0) (r : Result (Unit {0}) IncludeError) → r ≡ Err error.Memory → Walks old new file n p r F
 walks-end old new file n p F r is = subst (λ (o : Result (Unit {0}) IncludeError). Walks old new file n p o F) (sym is) (walks-memory old new file n p F)

@@ -207,8 +207,8 @@ is-unread (Ok tree) e h = absurd h
 is-unread (Err x) e h = ap Unread h
 
 -- how far the files of a call that failed were read
-pub through-passed : (s u : ShelfState) (result : Result Contents IncludeError) (e : IncludeError) → result ≡ Err e → ReadsThrough (extent_of_including {T = Contents} (Err e)) s u → ReadsThrough (extent_of_including result) s u
-through-passed s u result e is h = subst (λ (r : Result Contents IncludeError). ReadsThrough (extent_of_including r) s u) (sym is) h
+pub through-passed : {T : Type 0} (s u : ShelfState) (result : Result T IncludeError) (e : IncludeError) → result ≡ Err e → ReadsThrough (extent_of_including {T = T} (Err e)) s u → ReadsThrough (extent_of_including result) s u
+through-passed {T} s u result e is h = subst (λ (r : Result T IncludeError). ReadsThrough (extent_of_including r) s u) (sym is) h
 
 pub through-memory : (s : ShelfState) (result : Result Contents IncludeError) → result ≡ Err error.Memory → ReadsThrough (extent_of_including result) s s
 through-memory s result is = through-passed s s result error.Memory is (one_of_both all_files s s (nothing_through s))
@@ -259,11 +259,11 @@ module _ (s t : ShelfState) (name : List ℕ) (start : List (List ℕ)) (none : 
     whole-file : (files : Files) (result : Result (List Line) IncludeFault) → WholeFile files name tree.nodes (standing_of old) (standing_of new) result → WholeFile files name tree.nodes (record nothing { opened = name ∷ [] }) (standing_of new) result
     whole-file files result h = subst (λ (names : List (List ℕ)). WholeFile files name tree.nodes (record nothing { opened = names }) (standing_of new) result) (one-opened old.opened opened) h
 
-    pub counted-stopped : (e : IncludeError) → Shows {T = Unit {0}} t u old.opened new.opened (Err e) → (result : Result Contents IncludeError) → result ≡ Err e →
+    pub counted-stopped : (e : IncludeError) → Shows {T = Unit {0}} t u old.opened new.opened (Err e) → (result : Result (Unit {0}) IncludeError) → result ≡ Err e →
         (u.misses ≡ misses_of_including result s.misses) × (u.faults ≡ faults_of_including result s.faults) × ReadsThrough (extent_of_including result) s u
     counted-stopped e two result is =
         let both : Shows {T = Unit {0}} s u start new.opened (Err e) = shows-then s t u start old.opened new.opened tree (Err e) one two in
-        subst (λ (r : Result Contents IncludeError). (u.misses ≡ misses_of_including r s.misses) × (u.faults ≡ faults_of_including r s.faults) × ReadsThrough (extent_of_including r) s u) (sym is)
+        subst (λ (r : Result (Unit {0}) IncludeError). (u.misses ≡ misses_of_including r s.misses) × (u.faults ≡ faults_of_including r s.faults) × ReadsThrough (extent_of_including r) s u) (sym is)
         (both.misses, both.faults, both.through)
 
     module _ (loads : (files : Files) → s.files ≡ Some files → LoadsFile files name (Ok tree)) where

@@ -6,7 +6,7 @@ ghost use Rattle.doc_tree.specs.Table.{root_alone};
 ghost use Rattle.doc_tree.specs.limits.TheConstants.{MAX_LIVE_NODES};
 ghost use Rattle.sch_include.specs.Ends.{IsRead, extent_of_including, faults_of_including, misses_of_including};
 ghost use Rattle.sch_include.specs.Included.{IsNumberedDocument};
-ghost use Rattle.sch_include.specs.inner.Joining.{IsFile, ReadsWhole, Shows};
+ghost use Rattle.sch_include.specs.inner.Joining.{IsFile, ReadsWhole, Shows, with_tree};
 
 use crate::fault::IncludeError;
 use crate::joiner::Joiner;
@@ -37,12 +37,34 @@ pub fn include_all<S: Shelf>(alloc: Global, shelf: &mut S, name: &str) -> Result
     ensures through { ReadsThrough (extent_of_including result) (S.state shelf.old) (S.state shelf.new) }
 {
     let mut joiner = Joiner::new(alloc)?;
-    let tree = joiner.open(shelf, name)?;
-    joiner.read_whole(shelf, &tree, name)?;
-    Ok(joiner.tree)
+    match joiner.read_own(shelf, name) {
+        Ok(()) => Ok(joiner.into_tree()),
+        Err(error) => {
+            drop(joiner);
+            Err(error)
+        }
+    }
 }
 
 impl Joiner {
+    /// Opens the schema's own file, and puts the whole of it under the root.
+    fn read_own<S: Shelf>(&mut self, shelf: &mut S, name: &str) -> Result<(), IncludeError>
+        requires alone { self.old.tree ≡ root_alone }
+        requires unopened { self.old.opened ≡ [] }
+        requires unread { self.old.reading.items ≡ [] }
+        ensures read { IsRead (S.state shelf.old).files name.now (S.state shelf.old).opened (S.state shelf.new).opened (with_tree result self.new.tree) }
+        ensures document { OnOk result (IsNumberedDocument self.new.tree.nodes) }
+        ensures cap { OnOk result (self.new.tree.pair_cap ≡ MAX_LIVE_NODES) }
+        ensures held { (S.state shelf.new).files ≡ (S.state shelf.old).files }
+        ensures misses { (S.state shelf.new).misses ≡ misses_of_including result (S.state shelf.old).misses }
+        ensures faults { (S.state shelf.new).faults ≡ faults_of_including result (S.state shelf.old).faults }
+        ensures through { ReadsThrough (extent_of_including result) (S.state shelf.old) (S.state shelf.new) }
+    {
+        let tree = self.open(shelf, name)?;
+        self.read_whole(shelf, &tree, name)?;
+        Ok(())
+    }
+
     /// Puts the whole of the schema's own file, which was opened, under the root.
     fn read_whole<'file, S: Shelf>(
         &mut self,

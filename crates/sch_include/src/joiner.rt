@@ -12,6 +12,7 @@ ghost use Rattle.doc_tree.specs.Table.{is_live, kids_of, root_alone};
 ghost use Rattle.doc_tree.specs.Walks.{below};
 ghost use Rattle.sch_rules.specs.Attributes.{said};
 ghost use Rattle.sch_rules.specs.Elements.{document_element};
+ghost use Rattle.sch_include.specs.Ends.{NamesLast, extent_of_including, faults_of_including, misses_of_including};
 ghost use Rattle.sch_include.specs.Includes.{is_include};
 ghost use Rattle.sch_include.specs.Taking.{fault_of, included_name, text_below};
 ghost use Rattle.sch_include.specs.inner.Joining.{IsFault, IsFile, IsJudged, IsNamed, Loads, LoadsFile, Shows, extent_of_loading, faults_of_loading, fit_fault, misses_of_loading, refused_kind, source_of, standing_of};
@@ -69,6 +70,36 @@ fn load<S: Shelf>(alloc: Global, shelf: &mut S, name: &str) -> Result<Tree, Refu
     }
 }
 
+/// The tree of a file, or what is wrong with it; a copy of its name is there for the fault.
+fn tree_of<S: Shelf>(
+    alloc: Global,
+    shelf: &mut S,
+    name: &str,
+    copied: Text,
+) -> Result<Tree, IncludeError>
+    requires { copied ≡ name.now }
+    ensures told { (files : Files) → (S.state shelf.old).files ≡ Some files → LoadsFile files name.now result }
+    ensures is_file { IfOk result (λ tree. IsFile tree.nodes) }
+    ensures held { (S.state shelf.new).files ≡ (S.state shelf.old).files }
+    ensures noted { (S.state shelf.new).opened ≡ (S.state shelf.old).opened ++ name.now ∷ [] }
+    ensures misses { (S.state shelf.new).misses ≡ misses_of_including result (S.state shelf.old).misses }
+    ensures faults { (S.state shelf.new).faults ≡ faults_of_including result (S.state shelf.old).faults }
+    ensures named { IfErr result (NamesLast ((S.state shelf.old).opened ++ name.now ∷ [])) }
+    ensures through { ReadsThrough (extent_of_including result) (S.state shelf.old) (S.state shelf.new) }
+{
+    match load(alloc, shelf, name) {
+        Ok(tree) => {
+            drop(copied);
+            Ok(tree)
+        }
+        Err(Refusal::Kind(kind)) => Err(IncludeError::Fault(IncludeFault { kind, name: copied })),
+        Err(Refusal::Memory) => {
+            drop(copied);
+            Err(IncludeError::Memory)
+        }
+    }
+}
+
 impl Joiner {
     /// The root alone, and no file opened.
     pub(crate) fn new(alloc: Global) -> Result<Joiner, AllocError>
@@ -88,6 +119,13 @@ impl Joiner {
         })
     }
 
+    /// The tree that was put together.
+    pub(crate) fn into_tree(self) -> Tree
+        ensures { result ≡ self.tree }
+    {
+        self.tree
+    }
+
     /// Opens a file and reads its tree.
     pub(crate) fn open<S: Shelf>(&mut self, shelf: &mut S, name: &str) -> Result<Tree, IncludeError>
         ensures shows { Shows (S.state shelf.old) (S.state shelf.new) self.old.opened self.new.opened result }
@@ -98,13 +136,23 @@ impl Joiner {
         ensures once { (self.new.opened ≡ self.old.opened) ⊎ (self.new.opened ≡ self.old.opened ++ name.now ∷ []) }
         ensures same { self.new ≡ record self.old { opened = self.new.opened } }
     {
-        let told = Text::copy(self.alloc, name)?;
-        self.opened.push(Text::copy(self.alloc, name)?)?;
-        match load(self.alloc, shelf, name) {
-            Ok(tree) => Ok(tree),
-            Err(Refusal::Kind(kind)) => Err(IncludeError::Fault(IncludeFault { kind, name: told })),
-            Err(Refusal::Memory) => Err(IncludeError::Memory),
+        let copied = Text::copy(self.alloc, name)?;
+        match self.note_opened(name) {
+            Ok(()) => tree_of(self.alloc, shelf, name, copied),
+            Err(_) => {
+                drop(copied);
+                Err(IncludeError::Memory)
+            }
         }
+    }
+
+    /// Notes the name of a file that is opened.
+    fn note_opened(&mut self, name: &str) -> Result<(), AllocError>
+        ensures noted { OnOk result (self.new.opened ≡ self.old.opened ++ name.now ∷ []) }
+        ensures unchanged { OnErr result (self.new.opened ≡ self.old.opened) }
+        ensures same { self.new ≡ record self.old { opened = self.new.opened } }
+    {
+        self.opened.push(Text::copy(self.alloc, name)?)
     }
 
     /// Notes that a file is being read.

@@ -66,6 +66,11 @@ LoadsFile files name (Ok tree) = Loading files name (Ok tree.nodes)
 LoadsFile files name (Err (error.Fault fault)) = Loading files name (Err fault)
 LoadsFile files name (Err error.Memory) = Unit {0}
 
+-- the tree that a call left, where it has no error
+abbrev pub with_tree : Result (Unit {0}) IncludeError → Contents → Result Contents IncludeError
+with_tree (Ok done) tree = Ok tree
+with_tree (Err refused) tree = Err refused
+
 -- what a call shows of the outside, where these names were noted before it and after it
 pub record Shows {T : Type 0} (before after : ShelfState) (old new : List (List ℕ)) (result : Result T IncludeError) : Type 0 where
   pub held : after.files ≡ before.files
