@@ -16,7 +16,7 @@ use Rattle.doc_edits.specs.Fitting.{MayGain, MayGo, MaySay}
 use Rattle.doc_edits.specs.Changes.{deleted, deleted_by, meeting, removed}
 use Rattle.doc_edits.specs.Documents.{EditsKeepDocuments}
 use Rattle.doc_tree.specs.declared.refusal.EditRefusal.TheVariants.{WrongKind, NoPrefix, XmlnsName, TooManyNodes, TooMuchText, IdsSpent, TooManyPairs}
-use Rattle.doc_tree.specs.Edited.{attribute_name_at}
+use Rattle.doc_tree.specs.Edited.{attribute_name_at, attribute_set, with_value}
 use Rattle.doc_tree.specs.NameTests.{attribute_in, attribute_meant, has_name, named}
 use Rattle.doc_tree.specs.Refusals.{declares_namespace, name_refusal, setting_refusal, value_refusal}
 use Rattle.doc_tree.specs.Scope.{attribute_namespace, namespace_or_none, scope_at, xmlns_prefix}
@@ -160,3 +160,11 @@ module _ (T : Table) (wf : WellFormed T) (ways : HasWaysUp T) (n a : ℕ) (membe
 
   pub document-stays : EditsKeepDocuments → is_document T ≡ true → is_document (removed T a) ≡ true
   document-stays keeps document = ap is_document (sym gone) ∙ keeps.deletion T a wf document (λ _. ap is_element kind)
+
+-- a document in which an attribute is set is one
+pub set-document : EditsKeepDocuments → (T : Table) (n : ℕ) (prefix local value : List ℕ) → WellFormed T → is_document T ≡ true → is_document (attribute_set T n prefix local value) ≡ true
+set-document keep T n prefix local value formed document = by (attribute_meant T n prefix local)
+  where
+    by : (found : Option ℕ) → is_document (with_value T n (attribute_name_at T n prefix local) found value) ≡ true
+    by None = keep.gain T n (attribute_name_at T n prefix local) value formed document
+    by (Some a) = keep.saying T a value document

@@ -45,10 +45,7 @@ impl Tree {
         }
         self.laws();
         edits_keep_documents();
-        match &found {
-            Some(a) => doc_edits::say(&mut self.bare, *a, value)?,
-            None => self.gain(n, prefix, local, value)?,
-        }
+        self.put_attribute(n, prefix, local, &found, value)?;
         Ok(())
     }
 
@@ -77,6 +74,29 @@ impl Tree {
                 Ok(())
             }
             None => Err(EditError::Refused(EditRefusal::NoAttribute)),
+        }
+    }
+
+    /// Gives the attribute that a name means the value, or the element one attribute more.
+    fn put_attribute(
+        &mut self,
+        n: NodeId,
+        prefix: &str,
+        local: &str,
+        found: &Option<NodeId>,
+        value: &str,
+    ) -> Result<(), AllocError>
+        requires free { setting_refusal self.old n prefix.now local.now value.now ≡ None }
+        requires found { found.now ≡ attribute_meant self.old.nodes n prefix.now local.now }
+        ensures put { OnOk result (self.new.nodes ≡ attribute_set self.old.nodes n prefix.now local.now value.now) }
+        ensures names { NamesGrow self.old.names self.new.names }
+        ensures cap { self.new.pair_cap ≡ self.old.pair_cap }
+        ensures unchanged { OnErr result (self.new ≡ self.old) }
+    {
+        self.laws();
+        match found {
+            Some(a) => doc_edits::say(&mut self.bare, *a, value),
+            None => self.gain(n, prefix, local, value),
         }
     }
 
