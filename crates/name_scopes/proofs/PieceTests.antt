@@ -75,14 +75,6 @@ tested-all around events doubled tags was =
     or-no true = refl
     or-no false = refl
 
-pub or-same : (b : Bool) → (b || false) ≡ b
-or-same true = refl
-or-same false = refl
-
-pub or-some : (b : Bool) → (b || true) ≡ true
-or-some true = refl
-or-some false = refl
-
 -- open start tags
 module _ (scopes : List (List Decl)) (old new : OpenTags) (was : Stands scopes old) where
   pub stands-start : (decls : List Decl) (count : ℕ) → new.scope ≡ decls ++ old.scope → new.counts.items ≡ old.counts.items ++ count ∷ [] → count ≡ length decls → Stands (decls ∷ scopes) new

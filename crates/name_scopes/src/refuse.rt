@@ -88,9 +88,8 @@ fn refuse_tags(
         if lacks_prefix(&tags.scope, event) {
             return Ok(Some(EditRefusal::NoPrefix));
         }
-        if doubles(alloc, &tags.scope, event)? {
-            doubled = true;
-        }
+        let twice = doubles(alloc, &tags.scope, event)?;
+        doubled |= twice;
     }
     if doubled {
         return Ok(Some(EditRefusal::SameAttribute));

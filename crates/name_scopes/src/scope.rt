@@ -1,6 +1,6 @@
 //! The declarations in scope at a place of a document.
 
-ghost use Rattle.std.specs.Prelude.{◌≡◌, ◌∷◌, ◌<◌, [], List, ℕ, None, drop, length, vec_len, OnOk, slice_get, slice_index_or, slice_set};
+ghost use Rattle.std.specs.Prelude.{◌≡◌, ◌∷◌, ◌++◌, ◌<◌, [], List, ℕ, None, drop, length, vec_len, OnErr, OnOk, slice_get, slice_index_or, slice_set};
 ghost use Rattle.std.specs.Option.{option_copied, option_map};
 ghost use Rattle.doc_tree.specs.Scope.{first_declared, namespace_in};
 ghost use Rattle.name_scopes.specs.inner.Scope.{uri_of};
@@ -64,12 +64,7 @@ impl Scope {
         extend(&mut self.latest, number)?;
         let shadowed = place_at(&self.latest, number);
         let place = self.bindings.len();
-        let uri = Text::copy(self.alloc, uri)?;
-        self.bindings.push(Binding {
-            number,
-            uri,
-            shadowed,
-        })?;
+        push_binding(&mut self.bindings, self.alloc, number, uri, shadowed)?;
         put_place(&mut self.latest, number, Some(place));
         Ok(())
     }
@@ -131,6 +126,26 @@ impl Scope {
             put_place(&mut self.latest, binding.number, binding.shadowed);
         }
     }
+}
+
+/// Puts a declaration behind the others, with a copy of its namespace.
+fn push_binding(
+    bindings: &mut Vec<Binding>,
+    alloc: Global,
+    number: usize,
+    uri: &str,
+    shadowed: Option<usize>,
+) -> Result<(), AllocError>
+    ensures pushed { OnOk result (bindings.new.items ≡ bindings.old.items ++ record { number = number; uri = uri.now; shadowed = shadowed } ∷ []) }
+    ensures unchanged { OnErr result (bindings.new.items ≡ bindings.old.items) }
+{
+    let uri = Text::copy(alloc, uri)?;
+    bindings.push(Binding {
+        number,
+        uri,
+        shadowed,
+    })?;
+    Ok(())
 }
 
 /// The namespace of the declaration at a place.

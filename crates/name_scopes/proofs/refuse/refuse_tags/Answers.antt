@@ -1,13 +1,12 @@
 -- One event after the other.
-use Rattle.std.proofs.Common.{◌+◌, ◌∷◌, [], ℕ, Bool, true, false, List, drop, subst, sym, ap, ◌∙◌}
+use Rattle.std.proofs.Common.{◌+◌, ◌∷◌, [], ℕ, Bool, List, drop, subst, sym, ap, ◌∙◌}
 use Rattle.std.proofs.lemmas.List.{drop_all}
 use Rattle.std.specs.Prelude.{if◌then◌else◌, None, Some}
 use Rattle.pyx_core.specs.declared.event.Event.{Event}
 use Rattle.doc_tree.specs.declared.refusal.EditRefusal.TheVariants as refusal
 use Rattle.doc_tree.specs.Scope.{scope_at}
-use Rattle.name_scopes.proofs.PieceTests.{Tested, rest-at, tested-first, tested-lacks, tested-more, tested-all, or-same, or-some}
+use Rattle.name_scopes.proofs.PieceTests.{Tested, rest-at, tested-first, tested-lacks, tested-more, tested-all}
 use Rattle.name_scopes.proofs.refuse.refuse_tags.Goals as goal
-use Rattle.name_scopes.proofs.refuse.refuse_tags.Goals.{then-branch, else-branch}
 
 pub loop-event-init : goal.loop-event-init
 loop-event-init c = tested-first (scope_at c.args.tree.now.nodes c.args.parent) c.args.events.now c.stand_under.new.self c.in_ok-stand_under.ensures
@@ -26,11 +25,8 @@ loop-event-preserved c =
     let xs : List Event = c.args.events.now in
     let was : Tested (scope_at c.args.tree.now.nodes c.args.parent) xs (c.event-item.result ∷ drop (i + 1) xs) c.loop-event.doubled c.loop-event.tags =
     subst (λ (l : List Event). Tested (scope_at c.args.tree.now.nodes c.args.parent) xs l c.loop-event.doubled c.loop-event.tags) (rest-at xs i c.event-item.result c.loop-event-test.true c.event-item.is) c.loop-event.invariant in
-    let more = λ (twice : Bool). tested-more (scope_at c.args.tree.now.nodes c.args.parent) xs (drop (i + 1) xs) c.event-item.result c.loop-event.doubled c.loop-event.tags c.take.new.self c.in_ok-take.ensures was twice (sym c.lacks_prefix.ensures ∙ c.if-lacks_prefix.false) in
-    elim c.if-branch.branch [
-      | then-branch w ↦ subst (λ (b : Bool). Tested (scope_at c.args.tree.now.nodes c.args.parent) xs (drop (i + 1) xs) b c.take.new.self) (or-some c.loop-event.doubled ∙ sym w.doubled-is) (more true (sym c.in_ok-doubles.ensures ∙ w.if-branch.true))
-      | else-branch w ↦ subst (λ (b : Bool). Tested (scope_at c.args.tree.now.nodes c.args.parent) xs (drop (i + 1) xs) b c.take.new.self) (or-same c.loop-event.doubled ∙ sym w.doubled-is) (more false (sym c.in_ok-doubles.ensures ∙ w.if-branch.false))
-    ]
+    tested-more (scope_at c.args.tree.now.nodes c.args.parent) xs (drop (i + 1) xs) c.event-item.result c.loop-event.doubled c.loop-event.tags c.take.new.self c.in_ok-take.ensures was
+    c.in_ok-twice.twice (sym c.lacks_prefix.ensures ∙ c.if-lacks_prefix.false) (sym c.in_ok-twice.ensures)
 
 pub returns-then-doubled : goal.returns-then-doubled
 returns-then-doubled c =
