@@ -1,4 +1,5 @@
 pub mod CutReads
+pub mod Findings
 pub mod Keeps
 pub mod Texts
 pub mod RuleLets

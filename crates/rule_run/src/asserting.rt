@@ -2,9 +2,13 @@
 
 ghost use Rattle.std.specs.Prelude.{◌≡◌, ◌<◌, ◌≤◌, ◌++◌, ◌^◌, length, OnOk, OnErr};
 ghost use Rattle.std.specs.Option.{option_to_list};
+ghost use Rattle.xp_outcome.specs.Evaluation.{bind, done};
 ghost use Rattle.xp_outcome.specs.Running.{Ran};
+ghost use Rattle.xp_values.specs.Conversions.{to_truth};
+ghost use Rattle.xp_meaning.specs.Evaluation.{meaning};
 ghost use Rattle.xp_meaning.specs.Results.{shown};
 ghost use Rattle.sch_units.specs.Firing.{all_asserted, asserted, found, is_found};
+ghost use Rattle.sch_units.specs.Messages.{alone};
 
 use crate::validator::Validator;
 use sch_base::ItemList;
@@ -48,12 +52,28 @@ impl Validator<'_> {
         ensures { Ran (asserted self.now.caller.tree.now.nodes lets.now self.now.node i assertion.now)
             (shown result) reads.old reads.new steps.old steps.new }
     {
-        let value = self.value(&assertion.test, lets, reads, steps)?;
-        if is_found(assertion.report, to_truth(&value)) {
+        if self.is_finding(assertion, lets, reads, steps)? {
             let finding = self.found(i, assertion, lets, reads, steps)?;
             return Ok(Some(finding));
         }
         Ok(None)
+    }
+
+    /// Whether an assertion has a finding: the truth of its test.
+    fn is_finding<L: Ledger>(
+        &self,
+        assertion: &PlanAssert,
+        lets: &Lets,
+        reads: &mut Recorder,
+        steps: &mut Steps<L>,
+    ) -> Result<bool, EvalError>
+        ensures { Ran (bind (meaning self.now.caller.tree.now.nodes lets.now assertion.now.test (alone self.now.node)) (λ v. done (is_found assertion.now.report (to_truth v))))
+            (shown result) reads.old reads.new steps.old steps.new }
+    {
+        let value = self.value(&assertion.test, lets, reads, steps)?;
+        let truth = to_truth(&value);
+        drop(value);
+        Ok(is_found(assertion.report, truth))
     }
 
     /// The finding of an assertion: the texts of its diagnostics, then its message.
@@ -74,12 +94,17 @@ impl Validator<'_> {
             reads,
             steps,
         )?;
-        let message = self.message(assertion.message.as_slice(), lets, reads, steps)?;
-        Ok(Finding {
-            assertion: i,
-            diagnostics,
-            message,
-        })
+        match self.message(assertion.message.as_slice(), lets, reads, steps) {
+            Ok(message) => Ok(Finding {
+                assertion: i,
+                diagnostics,
+                message,
+            }),
+            Err(error) => {
+                drop(diagnostics);
+                Err(error)
+            }
+        }
     }
 }
 

@@ -1,12 +1,13 @@
 //! The texts of messages and of diagnostics (ISO/IEC 19757-3, clauses 5.4 and 5.5).
 
-ghost use Rattle.std.specs.Prelude.{◌≡◌, string_bytes};
+ghost use Rattle.std.specs.Prelude.{◌≡◌, Some, string_bytes};
 ghost use Rattle.doc_tree.specs.QNames.{written_in};
-ghost use Rattle.xp_outcome.specs.Evaluation.{done};
+ghost use Rattle.xp_outcome.specs.Evaluation.{bind, done, given};
 ghost use Rattle.xp_outcome.specs.Running.{Ran};
 ghost use Rattle.xp_values.specs.Outcomes.{Gives};
 ghost use Rattle.xp_values.specs.Texts.{concat};
 ghost use Rattle.xp_meaning.specs.Conversions.{text_in};
+ghost use Rattle.xp_meaning.specs.Evaluation.{meaning};
 ghost use Rattle.xp_meaning.specs.Functions.{named_node, text_of};
 ghost use Rattle.xp_meaning.specs.Names.{name_at};
 ghost use Rattle.xp_meaning.specs.Results.{shown};
@@ -57,10 +58,27 @@ impl Validator<'_> {
     {
         let mut text = String::new(self.caller.alloc);
         for part in parts {
-            let more = self.part_text(part, lets, reads, steps)?;
-            append(&mut text, more.as_str())?;
+            self.append_part(&mut text, part, lets, reads, steps)?;
         }
         Ok(Text::from(text))
+    }
+
+    /// Puts what a part of a message says of the node at the end of a text.
+    fn append_part<L: Ledger>(
+        &self,
+        text: &mut String,
+        part: &PlanPart,
+        lets: &Lets,
+        reads: &mut Recorder,
+        steps: &mut Steps<L>,
+    ) -> Result<(), EvalError>
+        ensures { Ran (bind (part_text self.now.caller.tree.now.nodes lets.now self.now.node part.now) (λ more. given (concat (string_bytes text.old) more)))
+            (shown (with_text result (string_bytes text.new))) reads.old reads.new steps.old steps.new }
+    {
+        let more = self.part_text(part, lets, reads, steps)?;
+        let appended = append(text, more.as_str());
+        drop(more);
+        appended
     }
 
     /// What a part of a message says of the node.
@@ -76,12 +94,24 @@ impl Validator<'_> {
     {
         match part {
             PlanPart::Chars(text) => Ok(Text::copy(self.caller.alloc, text.as_str())?),
-            PlanPart::ValueOf(expr) => {
-                let value = self.value(expr, lets, reads, steps)?;
-                self.text_in(value, reads, steps)
-            }
+            PlanPart::ValueOf(expr) => self.value_text(expr, lets, reads, steps),
             PlanPart::Name(path) => self.name_text(path, lets, reads, steps),
         }
+    }
+
+    /// The text of an expression's value at the node.
+    fn value_text<L: Ledger>(
+        &self,
+        expr: &Typed,
+        lets: &Lets,
+        reads: &mut Recorder,
+        steps: &mut Steps<L>,
+    ) -> Result<Text, EvalError>
+        ensures { Ran (bind (meaning self.now.caller.tree.now.nodes lets.now expr.now (alone self.now.node)) (λ v. text_in self.now.caller.tree.now.nodes v))
+            (shown result) reads.old reads.new steps.old steps.new }
+    {
+        let value = self.value(expr, lets, reads, steps)?;
+        self.text_in(value, reads, steps)
     }
 
     /// The name of the path's first node, or of the node itself where there is no path.
@@ -96,12 +126,26 @@ impl Validator<'_> {
             (shown result) reads.old reads.new steps.old steps.new }
     {
         match path {
-            Some(path) => {
-                let value = self.value(path, lets, reads, steps)?;
-                self.name_for(slice::from_ref(&value), reads, steps)
-            }
+            Some(path) => self.path_name(path, lets, reads, steps),
             None => self.name_for(&[], reads, steps),
         }
+    }
+
+    /// The name of a path's first node, empty where there is none.
+    fn path_name<L: Ledger>(
+        &self,
+        path: &Typed,
+        lets: &Lets,
+        reads: &mut Recorder,
+        steps: &mut Steps<L>,
+    ) -> Result<Text, EvalError>
+        ensures { Ran (name_text self.now.caller.tree.now.nodes lets.now self.now.node (Some path.now))
+            (shown result) reads.old reads.new steps.old steps.new }
+    {
+        let value = self.value(path, lets, reads, steps)?;
+        let name = self.name_for(slice::from_ref(&value), reads, steps);
+        drop(value);
+        name
     }
 
     /// What `name` gives at the node for an argument or none (XPath 1.0, section 4.1).

@@ -1,18 +1,4 @@
-use Rattle.std.proofs.Common.{ap, sym}
-use Rattle.doc_tree.specs.QNames.{written_in}
-use Rattle.xp_outcome.specs.Evaluation.{done}
-use Rattle.xp_outcome.proofs.Runs.{ran_alike, ran_bind, ran_stop}
-use Rattle.xp_values.specs.declared.values.EvalFault.{EvalFault}
-use Rattle.xp_meaning.proofs.Exits.{exit_same}
-use Rattle.xp_meaning.specs.Functions.{named_node}
-use Rattle.xp_meaning.specs.Names.{name_at}
-use Rattle.sch_units.specs.Messages.{alone}
 use Rattle.rule_run.proofs.validator.Validator.name_text.Goals as goal
 
-pub returns-in_err-value-in-Some : goal.returns-in_err-value-in-Some
-returns-in_err-value-in-Some g c = rw c.in-Some.is (exit_same _ _ c.from_residual.ensures.1 (ran_stop _ _ c.in_err-value-in-Some.ensures))
-
-pub returns-in_ok-value-in-Some : goal.returns-in_ok-value-in-Some
-returns-in_ok-value-in-Some g c =
-    rw c.in-Some.is (ran_bind _ c.in_ok-value-in-Some.ensures
-    (ran_alike (ap (λ vs. done {F = EvalFault} (written_in (name_at c.args.self.now.caller.tree.now.nodes (named_node (alone c.args.self.now.node) vs)))) (sym c.from_ref.ensures.value)) c.name_for.ensures))
+pub returns-in-Some : goal.returns-in-Some
+returns-in-Some g c = rw c.in-Some.is c.path_name.ensures
