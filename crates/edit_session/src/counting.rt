@@ -8,6 +8,7 @@ ghost use Rattle.state_run.specs.Outcomes.{Holds, LetsHold};
 ghost use Rattle.edit_session.specs.Counts.{counts_of, is_kind, is_of_kind};
 ghost use Rattle.edit_session.specs.inner.Counting.{Counted, Grows, adds, counts_by, fault_of, node_adds, pairs_add, part};
 
+use crate::told::told_in_order;
 use doc_tree::{NodeId, Tree};
 use rule_run::Lets;
 use sch_compiled::{
@@ -45,7 +46,7 @@ pub(crate) fn count_outcomes(
     requires found { Holds plan.now tree.now.nodes found.now }
     ensures { IfOk result (λ counts. counts ≡ counts_of plan.now tree.now.nodes) }
 {
-    let nodes = found.told_in_order(alloc, tree)?;
+    let nodes = told_in_order(alloc, tree, found)?;
     let nodes = nodes.as_slice();
     let evaluated = came_to_among(plan, tree, lets, found, nodes);
     let faulted = fault_of(evaluated).is_some();

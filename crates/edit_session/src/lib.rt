@@ -7,6 +7,7 @@ mod pairs;
 mod refusal;
 mod session;
 mod state;
+mod told;
 
 pub use counting::Counts;
 pub use laws::{pair_cap_is_for_pairs, stale_after_edit};

@@ -1,6 +1,7 @@
 //! The state of an evaluated document, written: the report, or the line of the first fault.
 
 ghost use Rattle.std.specs.Prelude.{◌≡◌};
+ghost use Rattle.sch_compiled.specs.Findings.{ToldInOrder};
 ghost use Rattle.sch_compiled.specs.Soundness.{IsCounted};
 ghost use Rattle.state_run.specs.Evaluated.{Evaluates};
 ghost use Rattle.state_run.specs.Outcomes.{Holds, LetsHold};
@@ -8,14 +9,15 @@ ghost use Rattle.edit_session.specs.declared.state.ReportError.TheVariants as er
 ghost use Rattle.edit_session.specs.Wrote.{WroteState};
 ghost use Rattle.edit_session.specs.inner.Shown.{ShownAs, shown_of};
 
-use doc_tree::Tree;
+use crate::told::told_in_order;
+use doc_tree::{NodeId, Tree};
 use rule_run::Lets;
 use sch_compiled::{Findings, Plan};
 use sch_io::Sink;
 use sch_units::{first_match_fires, lets_stand_in_order};
-use state_run::{Evaluated, came_to};
+use state_run::{Evaluated, came_to_among};
 use std::alloc::{AllocError, Global};
-use svrl_out::{OutError, write_fault, write_report};
+use svrl_out::{OutError, write_fault, write_report_among};
 use thiserror::Error;
 
 /// What a text that was written shows.
@@ -61,21 +63,25 @@ pub(crate) fn write_outcomes<O: Sink>(
     requires found { Holds plan.now tree.now.nodes found.now }
     ensures { WroteState (O.log out.old) (O.log out.new) plan.now tree.now.nodes result }
 {
-    let evaluated = came_to(alloc, plan, tree, lets, found)?;
-    write_evaluated(alloc, plan, tree, found, evaluated, out)
+    let nodes = told_in_order(alloc, tree, found)?;
+    let nodes = nodes.as_slice();
+    let evaluated = came_to_among(plan, tree, lets, found, nodes);
+    write_evaluated(alloc, plan, tree, found, nodes, evaluated, out)
 }
 
-/// Writes the state of a document by what its units came to; answers what it shows.
+/// Writes the state of a document by what its units came to, and the nodes of which something is told; answers what it shows.
 fn write_evaluated<O: Sink>(
     alloc: Global,
     plan: &Plan,
     tree: &Tree,
     found: &Findings,
+    nodes: &[NodeId],
     evaluated: Evaluated,
     out: &mut O,
 ) -> Result<Shown, ReportError>
     requires evaluated { Evaluates plan.now tree.now.nodes evaluated }
     requires found { Holds plan.now tree.now.nodes found.now }
+    requires told { ToldInOrder tree.now.nodes found.now nodes.now }
     ensures { WroteState (O.log out.old) (O.log out.new) plan.now tree.now.nodes result }
 {
     tree.laws();
@@ -83,7 +89,7 @@ fn write_evaluated<O: Sink>(
     lets_stand_in_order();
     match evaluated {
         Evaluated::Whole { finds } => {
-            let written = write_report(alloc, plan, tree, found, out);
+            let written = write_report_among(alloc, plan, tree, found, nodes, out);
             end_of(written, shown_of(finds))
         }
         Evaluated::Faulted(fault) => {

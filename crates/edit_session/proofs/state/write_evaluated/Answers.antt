@@ -2,8 +2,8 @@
 use Rattle.edit_session.proofs.StateLemmas.{fault_is_of, fault_wrote, reportable, whole_wrote}
 use Rattle.edit_session.proofs.state.write_evaluated.Goals as goal
 
-pub write_report-written-requires : goal.write_report-written-requires
-write_report-written-requires g c =
+pub write_report_among-written-requires-clause-reportable : goal.write_report_among-written-requires-clause-reportable
+write_report_among-written-requires-clause-reportable g c =
     let whole = rw c.in-Whole.is at c.requires.evaluated in
     reportable c.args.plan.now c.args.tree.now.nodes _ c.first_match_fires.ensures c.laws.ensures.ordered whole.0 c.requires.found
 
@@ -15,8 +15,8 @@ write_fault-written-requires g c =
 pub returns-in-Whole : goal.returns-in-Whole
 returns-in-Whole g c =
     let whole = rw c.in-Whole.is at c.requires.evaluated in
-    whole_wrote c.args.plan.now c.args.tree.now.nodes c.args.found.now c.in-Whole.finds _ _ c.write_report-written.result c.end_of.result whole.0 whole.1 c.requires.found
-    c.write_report-written.ensures (rw c.shown_of.ensures at c.end_of.ensures)
+    whole_wrote c.args.plan.now c.args.tree.now.nodes c.args.found.now c.in-Whole.finds _ _ c.write_report_among-written.result c.end_of.result whole.0 whole.1 c.requires.found
+    c.write_report_among-written.ensures (rw c.shown_of.ensures at c.end_of.ensures)
 
 pub returns-in-Faulted : goal.returns-in-Faulted
 returns-in-Faulted g c =
