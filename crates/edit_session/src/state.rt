@@ -66,22 +66,29 @@ pub(crate) fn write_outcomes<O: Sink>(
     let nodes = told_in_order(alloc, tree, found)?;
     let nodes = nodes.as_slice();
     let evaluated = came_to_among(plan, tree, lets, found, nodes);
-    write_evaluated(alloc, plan, tree, found, nodes, evaluated, out)
+    let told = Told { found, nodes };
+    write_evaluated(alloc, plan, tree, told, evaluated, out)
 }
 
-/// Writes the state of a document by what its units came to, and the nodes of which something is told; answers what it shows.
+/// What units found, and the nodes of which they tell something, in document order.
+#[derive(Clone, Copy)]
+struct Told<'a> {
+    found: &'a Findings,
+    nodes: &'a [NodeId],
+}
+
+/// Writes the state of a document by what its units came to; answers what it shows.
 fn write_evaluated<O: Sink>(
     alloc: Global,
     plan: &Plan,
     tree: &Tree,
-    found: &Findings,
-    nodes: &[NodeId],
+    told: Told<'_>,
     evaluated: Evaluated,
     out: &mut O,
 ) -> Result<Shown, ReportError>
     requires evaluated { Evaluates plan.now tree.now.nodes evaluated }
-    requires found { Holds plan.now tree.now.nodes found.now }
-    requires told { ToldInOrder tree.now.nodes found.now nodes.now }
+    requires found { Holds plan.now tree.now.nodes told.found.now }
+    requires told { ToldInOrder tree.now.nodes told.found.now told.nodes.now }
     ensures { WroteState (O.log out.old) (O.log out.new) plan.now tree.now.nodes result }
 {
     tree.laws();
@@ -89,7 +96,7 @@ fn write_evaluated<O: Sink>(
     lets_stand_in_order();
     match evaluated {
         Evaluated::Whole { finds } => {
-            let written = write_report_among(alloc, plan, tree, found, nodes, out);
+            let written = write_report_among(alloc, plan, tree, told.found, told.nodes, out);
             end_of(written, shown_of(finds))
         }
         Evaluated::Faulted(fault) => {

@@ -15,7 +15,7 @@ write_fault-written-requires g c =
 pub returns-in-Whole : goal.returns-in-Whole
 returns-in-Whole g c =
     let whole = rw c.in-Whole.is at c.requires.evaluated in
-    whole_wrote c.args.plan.now c.args.tree.now.nodes c.args.found.now c.in-Whole.finds _ _ c.write_report_among-written.result c.end_of.result whole.0 whole.1 c.requires.found
+    whole_wrote c.args.plan.now c.args.tree.now.nodes c.args.told.found.now c.in-Whole.finds _ _ c.write_report_among-written.result c.end_of.result whole.0 whole.1 c.requires.found
     c.write_report_among-written.ensures (rw c.shown_of.ensures at c.end_of.ensures)
 
 pub returns-in-Faulted : goal.returns-in-Faulted
