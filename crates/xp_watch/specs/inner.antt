@@ -1,0 +1,2 @@
+pub mod Refreshing
+pub mod Held
