@@ -1,0 +1,4 @@
+mod LabelLemmas
+mod CountLemmas
+mod TallyLemmas
+mod LineLemmas

@@ -1,0 +1,4 @@
+pub mod Labels
+pub mod Summary
+pub mod Lines
+pub mod inner
