@@ -15,7 +15,9 @@ use std::alloc::Global;
 use std::test::Fail;
 
 /// The tree of a text.
-pub fn tree_of(alloc: Global, text: &str) -> Result<Tree, Fail> {
+pub fn tree_of(alloc: Global, text: &str) -> Result<Tree, Fail>
+    ensures { IfOk result (λ tree. is_document tree.nodes ≡ true) }
+{
     if text.len() > MAX_LIVE_TEXT_BYTES {
         return Err("a text of a row is too long".into());
     }
@@ -34,11 +36,9 @@ pub fn plan_of(alloc: Global, text: &str) -> Result<Plan, Fail>
 
 /// The plan of a schema's tree.
 fn plan_of_tree(alloc: Global, tree: &Tree) -> Result<Plan, Fail>
+    requires { is_document tree.now.nodes ≡ true }
     ensures { IfOk result IsSound }
 {
-    if !tree.is_document() {
-        return Err("no document".into());
-    }
     let flat = flat_of(alloc, tree)?;
     Ok(compile(alloc, flat, "#DEFAULT")?)
 }

@@ -4,14 +4,14 @@ ghost use Rattle.std.specs.Prelude.{◌≡◌, true};
 ghost use Rattle.doc_tree.specs.Kinds.{is_document};
 
 use crate::plans::tree_of;
+use crate::schemas::between;
 use doc_locations::location;
 use doc_tree::Tree;
 use sch_io::MemorySink;
 use std::alloc::Global;
-use std::str;
 use std::test::Fail;
 use svrl_read::{SvrlError, SvrlFault, SvrlReport, read_svrl, write_svrl};
-use test_rows::{Answers, copy, named, parted};
+use test_rows::{Answers, named};
 
 /// What answers the rows.
 #[derive(Drop)]
@@ -54,11 +54,7 @@ fn told_of_lines(alloc: Global, lines: &str) -> Result<String, Fail> {
 /// What a document says as a report, written again, or its first fault.
 fn told(alloc: Global, text: &str) -> Result<String, Fail> {
     let tree = tree_of(alloc, text)?;
-    let told = if tree.is_document() {
-        told_of_tree(alloc, &tree)
-    } else {
-        Err("no document".into())
-    };
+    let told = told_of_tree(alloc, &tree);
     drop(tree);
     told
 }
@@ -102,19 +98,14 @@ fn faulted_at(alloc: Global, tree: &Tree, fault: &SvrlFault) -> Result<String, F
 fn written(alloc: Global, report: &SvrlReport) -> Result<String, Fail> {
     let mut sink = MemorySink::with_room(alloc, 2_000)?;
     let written = match write_svrl(report, &mut sink) {
-        Ok(()) => held_in(alloc, sink.written()),
+        Ok(()) => between(
+            alloc,
+            sink.written(),
+            "Axmlns:svrl http://purl.oclc.org/dsdl/svrl\n",
+            ")svrl:schematron-output\n",
+        ),
         Err(failed) => Err(failed.into()),
     };
     drop(sink);
     written
-}
-
-/// The lines behind those of the namespace and before the end.
-fn held_in(alloc: Global, report: &[u8]) -> Result<String, Fail> {
-    let (_, lines) = parted(
-        str::from_utf8(report)?,
-        "Axmlns:svrl http://purl.oclc.org/dsdl/svrl\n",
-    )?;
-    let (held, _) = parted(lines, ")svrl:schematron-output\n")?;
-    copy(alloc, held)
 }

@@ -67,11 +67,7 @@ fn told_of_lines(alloc: Global, lines: &str, is_measured: bool) -> Result<String
 /// What a document's schema is without abstract parts, or how large that is, or the first rule that it breaks.
 fn told(alloc: Global, text: &str, is_measured: bool) -> Result<String, Fail> {
     let tree = tree_of(alloc, text)?;
-    let told = if tree.is_document() {
-        told_of_tree(alloc, &tree, is_measured)
-    } else {
-        Err("no document".into())
-    };
+    let told = told_of_tree(alloc, &tree, is_measured);
     drop(tree);
     told
 }
@@ -127,7 +123,12 @@ fn told_of_flat(alloc: Global, flat: &FlatSchema, is_measured: bool) -> Result<S
 fn held(alloc: Global, flat: &FlatSchema) -> Result<String, Fail> {
     let mut sink = MemorySink::with_room(alloc, 2_000)?;
     let held = match write_flat(alloc, &mut sink, flat) {
-        Ok(()) => held_in(alloc, sink.written()),
+        Ok(()) => between(
+            alloc,
+            sink.written(),
+            "AqueryBinding xslt\n",
+            ")sch:schema\n",
+        ),
         Err(fail) => Err(fail),
     };
     drop(sink);
@@ -150,10 +151,15 @@ fn write_events(sink: &mut MemorySink, events: &EventList) -> Result<(), Failed>
     Ok(())
 }
 
-/// The lines between those of a document's element.
-fn held_in(alloc: Global, document: &[u8]) -> Result<String, Fail> {
-    let (_, lines) = parted(str::from_utf8(document)?, "AqueryBinding xslt\n")?;
-    let (held, _) = parted(lines, ")sch:schema\n")?;
+/// The lines of a document between two of them: the last that its element begins with, and the one that ends it.
+pub(crate) fn between(
+    alloc: Global,
+    document: &[u8],
+    first: &str,
+    last: &str,
+) -> Result<String, Fail> {
+    let (_, lines) = parted(str::from_utf8(document)?, first)?;
+    let (held, _) = parted(lines, last)?;
     copy(alloc, held)
 }
 

@@ -1,10 +1,12 @@
 -- The texts of a report are made of Chars (XML 1.0, section 2.2), where its lines have no fault.
-use Rattle.std.proofs.Common.{◌≡◌, ◌≢◌, ℕ, Bool, true, false, not, ◌&&◌, cond, nat_eq, List, [], ◌∷◌, ◌++◌, map, Option, None, Some, Result, Ok, Err, refl, sym, ap, ◌∙◌, subst, append-nil, append_assoc, arith, ltb-true}
+use Rattle.std.proofs.Common.{◌≡◌, ◌≢◌, inr, inl, ℕ, Bool, true, false, not, ◌&&◌, List, [], ◌∷◌, ◌++◌, map, Option, None, Some, Result, Ok, Err, refl, sym, ap, ◌∙◌, subst, append-nil, append_assoc, arith, ltb-true}
 use Rattle.std.specs.List.{flat_map, list_all}
 use Rattle.std.specs.Prelude.{codes, nat_lt}
 use Rattle.std.specs.Str.{chars, is_utf8}
 use Rattle.std.proofs.lemmas.Bool.{and_from, and_parts}
-use Rattle.std.proofs.lemmas.List.Folds.{list_all-append}
+use Rattle.std.proofs.lemmas.Bool.Decides.{eqb_tells}
+use Rattle.std.proofs.lemmas.List.Elements.{All-weaker}
+use Rattle.std.proofs.lemmas.List.Folds.{list_all-append, list_any_none}
 use Rattle.sch_base.specs.Characters.{is_xml_char}
 use Rattle.pyx_core.specs.declared.event.Attr.{Attr}
 use Rattle.pyx_core.specs.declared.event.Event.{Event}
@@ -14,8 +16,8 @@ use Rattle.pyx_core.specs.declared.fault.PyxKind.{PyxKind}
 use Rattle.pyx_core.specs.declared.fault.PyxKind.TheVariants.{BadChar, NotUtf8}
 use Rattle.pyx_core.specs.declared.line_table.Line.{Line}
 use Rattle.pyx_core.specs.declared.mode.Mode.TheVariants.{Document}
-use Rattle.pyx_core.specs.Escapes.{escape_of, escaped}
-use Rattle.pyx_core.specs.Lines.{ended_lines, unended}
+use Rattle.pyx_core.specs.Escapes.{escaped}
+use Rattle.pyx_core.specs.Lines.{ended_lines, is_line_end, unended}
 use Rattle.pyx_core.specs.LineTable.{line_of}
 use Rattle.pyx_core.specs.Nesting.{of_chars}
 use Rattle.pyx_core.specs.Reading.{and_then, fault_of, in_all, judge, judged, or_lacking, placed}
@@ -24,7 +26,7 @@ use Rattle.pyx_core.proofs.EscapeLemmas.{unescaped_made}
 use Rattle.pyx_core.proofs.LinesLemmas.{any_none, has_end}
 use Rattle.pyx_core.proofs.ReplayLemmas.{raws}
 use Rattle.pyx_core.proofs.TextLemmas.{behind_ascii}
-use Rattle.pyx_core.proofs.Undoing.{unescaped-escaped}
+use Rattle.pyx_core.proofs.Undoing.{no_line_end, unescaped-escaped}
 use Rattle.pyx_core.proofs.WrittenLemmas.{are_lines, attr_raw, event_text, joined, joined_append, joined_ends, raw}
 use Rattle.sch_flat.specs.FlatDocument.{characters, element, only_given}
 use Rattle.sch_flat_laws.specs.FlatText.{is_made}
@@ -79,23 +81,13 @@ written_one e some plain made = record {
   made = λ h. and_from (is_made e) true (made (ap (list_all of_chars) (sym (append-nil (raw e))) ∙ h)) refl;
 }
 
--- no line ends within what is escaped
-escape_plain : (b : ℕ) (v : Bool) → nat_eq b 10 ≡ v → has_end (escape_of b) ≡ false
-escape_plain b true is = rw is refl
-escape_plain b false is = rw is (elim (nat_eq b 9) as (λ v. has_end (cond v (92 ∷ 116 ∷ []) (cond (nat_eq b 13) (92 ∷ 114 ∷ []) (cond (nat_eq b 92) (92 ∷ 92 ∷ []) (b ∷ [])))) ≡ false) [
-  | true ↦ refl
-  | false ↦ elim (nat_eq b 13) as (λ v. has_end (cond v (92 ∷ 114 ∷ []) (cond (nat_eq b 92) (92 ∷ 92 ∷ []) (b ∷ []))) ≡ false) [
-    | true ↦ refl
-    | false ↦ elim (nat_eq b 92) as (λ v. has_end (cond v (92 ∷ 92 ∷ []) (b ∷ [])) ≡ false) [
-      | true ↦ refl
-      | false ↦ rw is refl
-    ]
-  ]
-])
+not_ended : (b : ℕ) → b ≢ 10 → is_line_end b ≡ false
+not_ended b differs = elim (eqb_tells b 10) [ inl is ↦ absurd (differs is.1) | inr other ↦ other.0 ]
 
+-- no line ends within what is escaped
 escaped_plain : (text : List ℕ) → has_end (escaped text) ≡ false
-escaped_plain [] = refl
-escaped_plain (b ∷ text) = any_none (escape_of b) (escaped text) (escape_plain b (nat_eq b 10) refl) (escaped_plain text)
+escaped_plain text =
+    list_any_none is_line_end (escaped text) (All-weaker (λ b. b ≢ 10) (λ b. is_line_end b ≡ false) not_ended (escaped text) (no_line_end text))
 
 escaped_back : (text : List ℕ) → of_chars (escaped text) ≡ true → of_chars text ≡ true
 escaped_back text h = subst (λ (l : List ℕ). of_chars l ≡ true) (unescaped-escaped text) (unescaped_made (escaped text) h)
