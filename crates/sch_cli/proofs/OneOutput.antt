@@ -24,6 +24,8 @@ use Rattle.sch_model.specs.declared.flat.FlatSchema.{FlatSchema}
 use Rattle.sch_rules.specs.FirstBroken.{first_broken}
 use Rattle.sch_rules.specs.RawSchema.{raw_schema}
 use Rattle.sch_abstract.specs.FirstFault.{first_fault}
+use Rattle.svrl_read.specs.FirstFault as svrl
+use Rattle.svrl_read.specs.Value.{report_of}
 use Rattle.sch_abstract.specs.Flat.{flat_schema}
 use Rattle.sch_compiled.specs.declared.plan.Plan.{Plan}
 use Rattle.sch_plan.specs.Compiled.{compiled}
@@ -39,13 +41,13 @@ use Rattle.sch_measure.specs.Shelf.{measure_files}
 use Rattle.sch_measure.specs.declared.shelf.TheConstants.{SCHEMA_NAME, DOCUMENT_NAME, SCRIPT_NAME}
 use Rattle.sch_cli.specs.Behaviours.{Any, Apart, IsEnd, IsOutput, Making, Measures, Opening, OpeningAll, States, Treeing, asked_by, behaviour, too_many_pairs, tree_under}
 use Rattle.sch_cli.specs.Measuring.{LeadsTo, measure_text, measured_as, past_edited, past_refused, to_a_fault, to_the_end}
-use Rattle.sch_words.specs.Commands.{Command, tell, expand, validate, follow, measure, command_of, default_phase}
+use Rattle.sch_words.specs.Commands.{Command, tell, expand, validate, follow, measure, summarize, command_of, default_phase}
 use Rattle.sch_loading.specs.Documents.{IsDocument, IsParsed}
 use Rattle.sch_cli.specs.Following.{Follows, comes_to_end, edits, refuses, stops_at, then_shown, under}
 use Rattle.sch_stops.specs.EditLines.{edit_line, refused_line}
-use Rattle.sch_loading.specs.Loading.{Compiling, Expanding, Fetching, Flattening, Inclusion, Loading, Parsing, Planning, Reading, Scripting, as_script, at_include, held_under, included, parsed, planned, refused_document, refused_rule}
+use Rattle.sch_loading.specs.Loading.{Compiling, Expanding, Fetching, Flattening, Inclusion, Loading, Parsing, Planning, Reading, Reporting, Saying, Scripting, as_script, at_include, held_under, included, parsed, planned, refused_document, refused_report, refused_rule}
 use Rattle.sch_stops.specs.Output.{Output, stopped, usage_line}
-use Rattle.sch_cli.specs.Output.{expanded, in_front, notice_output, state}
+use Rattle.sch_cli.specs.Output.{expanded, in_front, notice_output, state, summed_up}
 use Rattle.sch_loading.specs.Stages.{Came, Is, Stage, Then, goes, halt_at, halt_if, halts, unread}
 use Rattle.sch_cli.proofs.ScriptCases.{command-same, ends-or-goes, ends-or-stops, refused-or-none, refused-same, stops-or-goes}
 use Rattle.sch_loading.proofs.StageLemmas.{IsDecided, Single, no_unread, one-by, one-is, one-then}
@@ -158,6 +160,9 @@ module _ (one_tree : OneTree) (one_inclusion : OneInclusion) (one_plan : OnePlan
   one-loading : (name : List ℕ) → Single (Loading files name)
   one-loading name = one-then (Fetching files name MAX_FILE_BYTES) Parsing (one-fetching files name MAX_FILE_BYTES) one-parsing
 
+  pub one-reporting : (report : List ℕ) → Single (Reporting files report)
+  one-reporting report = one-then (Loading files report) Saying (one-loading report) (λ T. one-is (halt_at (svrl.first_fault T) (refused_report T) (report_of T)))
+
   one-scripting : (name : List ℕ) → Single (Scripting files name)
   one-scripting name = one-then (Fetching files name MAX_SCRIPT_BYTES) (λ found. Is (as_script found)) (one-fetching files name MAX_SCRIPT_BYTES) (λ found. one-is (as_script found))
 
@@ -219,6 +224,8 @@ module _ (one_tree : OneTree) (one_inclusion : OneInclusion) (one_plan : OnePlan
   one-ends (Some (tell notice)) = one-written (Is (goes (notice_output notice))) (one-is (goes (notice_output notice)))
   one-ends (Some (expand schema)) = one-written (Then (Expanding files schema) (λ flat. Is (goes (expanded flat))))
       (one-then (Expanding files schema) (λ flat. Is (goes (expanded flat))) (one-expanding one_tree one_inclusion one_plan one_edit files schema) (λ flat. one-is (goes (expanded flat))))
+  one-ends (Some (summarize report)) = one-written (Then (Reporting files report) (λ said. Is (goes (summed_up said))))
+      (one-then (Reporting files report) (λ said. Is (goes (summed_up said))) (one-reporting one_tree one_inclusion one_plan one_edit files report) (λ said. one-is (goes (summed_up said))))
   one-ends (Some (validate phase schema document)) = one-from (Opening files phase schema document) (λ at output. output ≡ state at.plan at.tree)
       (one-opening one_tree one_inclusion one_plan one_edit files phase schema document) (λ at a b p q. p ∙ sym q)
   one-ends (Some (follow phase schema document script)) = one-from (OpeningAll files phase schema document script) (λ at. States at.treed.plan at.treed.tree at.script)

@@ -23,7 +23,7 @@ use Rattle.sch_stops.specs.Output.{Output}
 use Rattle.sch_cli.specs.Output.{faulted_line, line_shown, notice_output}
 use Rattle.sch_cli.specs.Behaviours.{Any, IsEnd, asked_by, behaviour}
 use Rattle.sch_cli.specs.Runs.{Decided, Ends, EndsBy, IsLast, IsLineOf, Tells, extent_of_status}
-use Rattle.sch_stops.specs.Refusals.{include_text, rule_text, script_fault_line}
+use Rattle.sch_stops.specs.Refusals.{include_text, rule_text, script_fault_line, svrl_text}
 use Rattle.sch_stops.specs.declared.refusal.DocumentRefusal.TheVariants as document
 use Rattle.sch_stops.specs.declared.refusal.SchemaRefusal.TheVariants as schema
 use Rattle.sch_stops.specs.declared.refusal.ScriptRefusal.TheVariants as script
@@ -154,13 +154,14 @@ told_line old new (b ∷ line) result some wrote = (result, wrote)
 
 -- each stop has a line
 has_line : (stop : Stop) → line_of stop ≡ [] → ⊥
-unfolding include_text rule_text script_fault_line
+unfolding include_text rule_text script_fault_line svrl_text
 has_line Usage none = cc
 has_line (SchemaRefused (schema.File name refusal)) none = cc
 has_line (SchemaRefused (schema.Include kind name)) none = cc
 has_line (SchemaRefused (schema.Rule fault location)) none = cc
 has_line (DocumentRefused (document.File refusal)) none = cc
 has_line (DocumentRefused document.TooManyPairs) none = cc
+has_line (DocumentRefused (document.Report fault location)) none = cc
 has_line (ScriptRefused script.TooLarge) none = cc
 has_line (ScriptRefused (script.Faulted fault)) none = cc
 has_line (Missing name) none = cc

@@ -8,14 +8,14 @@ use Rattle.edit_session.specs.Pairs.{has_too_many_pairs}
 use Rattle.edit_session.specs.State.{shows, state_text}
 use Rattle.sch_stops.specs.declared.refusal.DocumentRefusal.TheVariants.{TooManyPairs}
 use Rattle.sch_words.specs.declared.status.Status.TheVariants.{DocumentRefused, Usage}
-use Rattle.sch_words.specs.Commands.{Command, tell, expand, validate, follow, measure, command_of, default_phase}
+use Rattle.sch_words.specs.Commands.{Command, tell, expand, validate, follow, measure, summarize, command_of, default_phase}
 use Rattle.sch_measure.specs.Shelf.{measure_files}
 use Rattle.sch_measure.specs.declared.shelf.TheConstants.{SCHEMA_NAME, DOCUMENT_NAME, SCRIPT_NAME}
 use Rattle.sch_cli.specs.Following.{Begins, Follows}
 use Rattle.sch_cli.specs.Measuring.{LeadsTo, measure_text, measured_as}
-use Rattle.sch_loading.specs.Loading.{Expanding, Loading, Planning, Scripting}
+use Rattle.sch_loading.specs.Loading.{Expanding, Loading, Planning, Reporting, Scripting}
 use Rattle.sch_stops.specs.Output.{Output, stopped, usage_line}
-use Rattle.sch_cli.specs.Output.{expanded, in_front, notice_output, state}
+use Rattle.sch_cli.specs.Output.{expanded, in_front, notice_output, state, summed_up}
 use Rattle.sch_stops.specs.Refusals.{document_refused_line}
 use Rattle.sch_loading.specs.Reads.{Named, file, schema_file}
 use Rattle.sch_loading.specs.Stages.{By, Is, Stage, Then, goes, halt_if, halts}
@@ -122,6 +122,7 @@ abbrev pub behaviour : Option Command → Behaviour
 behaviour None = writes [] (λ files. Is (halts (stopped Usage usage_line)))
 behaviour (Some (tell notice)) = writes [] (λ files. Is (goes (notice_output notice)))
 behaviour (Some (expand schema)) = writes (schema_file schema ∷ []) (λ files. Then (Expanding files schema) (λ flat. Is (goes (expanded flat))))
+behaviour (Some (summarize report)) = writes (file report ∷ []) (λ files. Then (Reporting files report) (λ said. Is (goes (summed_up said))))
 behaviour (Some (validate phase schema document)) =
     from (schema_file schema ∷ file document ∷ []) (λ files. Opening files phase schema document)
     (λ at output. output ≡ state at.plan at.tree) (λ at text. text ≡ state_text at.plan at.tree) (λ at cost. cost ≡ first_cost at.plan at.tree) true

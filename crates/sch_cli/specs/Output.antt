@@ -8,6 +8,8 @@ use Rattle.sch_compiled.specs.declared.plan.Plan.{Plan}
 use Rattle.edit_session.specs.State.{shows, state_text}
 use Rattle.edit_session.specs.declared.state.Shown.{Shown}
 use Rattle.edit_session.specs.declared.state.Shown.TheVariants as shown
+use Rattle.svrl_read.specs.declared.value.SvrlReport.{SvrlReport}
+use Rattle.svrl_summary.specs.Lines.{summary_lines}
 use Rattle.sch_words.specs.declared.notice.Notice.{Notice}
 use Rattle.sch_words.specs.declared.status.Status.{Status}
 use Rattle.sch_words.specs.declared.status.Status.TheVariants.{Clean, Findings, Faulted}
@@ -45,6 +47,10 @@ notice_output notice = ended (notice_text notice) shown.Clean
 -- a schema without abstract parts, as the text of its document
 abbrev pub expanded : FlatSchema → Output
 expanded flat = record { out = text_of (flat_events flat); err = []; ends = Clean }
+
+-- a report, summed up
+abbrev pub summed_up : SvrlReport → Output
+summed_up report = record { out = summary_lines report; err = []; ends = Clean }
 
 -- the state of a tree by a plan
 abbrev pub state : Plan → Table → Output

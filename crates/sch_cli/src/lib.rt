@@ -7,6 +7,7 @@ mod laws;
 mod measuring;
 mod notice;
 mod program;
+mod summing;
 mod validation;
 
 pub use laws::one_output;

@@ -10,17 +10,17 @@ use Rattle.name_scopes.specs.ScopedTree.{OneTree}
 use Rattle.sch_compiled.specs.declared.plan.Plan.{Plan}
 use Rattle.sch_include.specs.Included.{OneInclusion}
 use Rattle.sch_plan.specs.OnePlan.{OnePlan}
-use Rattle.sch_words.specs.Commands.{Command, tell, expand, validate, follow, measure, command_of}
+use Rattle.sch_words.specs.Commands.{Command, tell, expand, validate, follow, measure, summarize, command_of}
 use Rattle.sch_words.specs.declared.status.Status.TheVariants.{Usage}
 use Rattle.sch_stops.specs.EditLines.{edit_line, refused_line}
 use Rattle.sch_stops.specs.Output.{Output, stopped, usage_line}
-use Rattle.sch_loading.specs.Loading.{Expanding}
+use Rattle.sch_loading.specs.Loading.{Expanding, Reporting}
 use Rattle.sch_loading.specs.Stages.{Came, Is, Onward, Stage, Then, goes, halts, unread}
 use Rattle.sch_loading.proofs.StageLemmas.{Single, one-is, one-then, through}
 use Rattle.sch_cli.specs.Behaviours.{Any, BeginsStates, IsEnd, Making, Measures, MeasuresText, Opening, OpeningAll, States, behaviour}
 use Rattle.sch_cli.specs.Following.{Begins, Follows, edited, nothing_yet, refused, then_shown}
-use Rattle.sch_cli.specs.Output.{expanded, in_front, notice_output, state}
-use Rattle.sch_cli.proofs.OneOutput.{one-expanding, one-making, one-measures, one-opening, one-opening-all}
+use Rattle.sch_cli.specs.Output.{expanded, in_front, notice_output, state, summed_up}
+use Rattle.sch_cli.proofs.OneOutput.{one-expanding, one-making, one-measures, one-opening, one-opening-all, one-reporting}
 use Rattle.sch_cli_laws.specs.Decided.{BegunIsFront}
 use Rattle.sch_cli.proofs.ScriptCases.{WritesEdited, WritesRefused, follows-onto, refused-or-none, refused-same}
 
@@ -114,6 +114,9 @@ module _ (one_tree : OneTree) (one_inclusion : OneInclusion) (one_plan : OnePlan
   asked-front (Some (expand schema)) =
       written-front (Then (Expanding files schema) (λ flat. Is (goes (expanded flat))))
       (one-then (Expanding files schema) (λ flat. Is (goes (expanded flat))) (one-expanding one_tree one_inclusion one_plan one_edit files schema) (λ flat. one-is (goes (expanded flat))))
+  asked-front (Some (summarize report)) =
+      written-front (Then (Reporting files report) (λ said. Is (goes (summed_up said))))
+      (one-then (Reporting files report) (λ said. Is (goes (summed_up said))) (one-reporting one_tree one_inclusion one_plan one_edit files report) (λ said. one-is (goes (summed_up said))))
   asked-front (Some (validate phase schema document)) =
       begun-front (Opening files phase schema document) (one-opening one_tree one_inclusion one_plan one_edit files phase schema document)
       (λ at output. output ≡ state at.plan at.tree) (λ at text. text ≡ state_text at.plan at.tree)

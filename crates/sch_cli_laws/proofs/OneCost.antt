@@ -9,16 +9,16 @@ use Rattle.name_scopes.specs.ScopedTree.{OneTree}
 use Rattle.sch_compiled.specs.declared.plan.Plan.{Plan}
 use Rattle.sch_include.specs.Included.{OneInclusion}
 use Rattle.sch_plan.specs.OnePlan.{OnePlan}
-use Rattle.sch_words.specs.Commands.{Command, tell, expand, validate, follow, measure, command_of}
+use Rattle.sch_words.specs.Commands.{Command, tell, expand, validate, follow, measure, summarize, command_of}
 use Rattle.sch_words.specs.declared.status.Status.TheVariants.{Usage}
 use Rattle.sch_stops.specs.Output.{Output, stopped, usage_line}
-use Rattle.sch_loading.specs.Loading.{Expanding}
+use Rattle.sch_loading.specs.Loading.{Expanding, Reporting}
 use Rattle.sch_loading.specs.Stages.{Is, Stage, Then, goes, halts}
 use Rattle.sch_loading.proofs.StageLemmas.{Single, one-by, one-is, one-then}
 use Rattle.sch_cli.specs.Behaviours.{Any, Making, Opening, OpeningAll, StatesCost, behaviour}
-use Rattle.sch_cli.specs.Output.{expanded, notice_output}
+use Rattle.sch_cli.specs.Output.{expanded, notice_output, summed_up}
 use Rattle.sch_cli.specs.Steps.{EditsCost, at_a_fault, at_the_end, edit_cost, first_cost, of_edited, of_refused}
-use Rattle.sch_cli.proofs.OneOutput.{one-expanding, one-making, one-opening, one-opening-all}
+use Rattle.sch_cli.proofs.OneOutput.{one-expanding, one-making, one-opening, one-opening-all, one-reporting}
 use Rattle.sch_cli_laws.specs.Decided.{OneCost}
 use Rattle.sch_cli.proofs.ScriptCases.{CostsEdited, CostsRefused, costs-nothing, costs-onto, costs-stops, refused-or-none}
 
@@ -60,6 +60,9 @@ module _ (one_tree : OneTree) (one_inclusion : OneInclusion) (one_plan : OnePlan
   one-costs (Some (expand schema)) =
       written (Then (Expanding files schema) (λ flat. Is (goes (expanded flat))))
       (one-then (Expanding files schema) (λ flat. Is (goes (expanded flat))) (one-expanding one_tree one_inclusion one_plan one_edit files schema) (λ flat. one-is (goes (expanded flat))))
+  one-costs (Some (summarize report)) =
+      written (Then (Reporting files report) (λ said. Is (goes (summed_up said))))
+      (one-then (Reporting files report) (λ said. Is (goes (summed_up said))) (one-reporting one_tree one_inclusion one_plan one_edit files report) (λ said. one-is (goes (summed_up said))))
   one-costs (Some (validate phase schema document)) =
       visited (Opening files phase schema document) (λ at cost. cost ≡ first_cost at.plan at.tree) (one-opening one_tree one_inclusion one_plan one_edit files phase schema document) (λ at a b p q. p ∙ sym q)
   one-costs (Some (follow phase schema document script)) =

@@ -6,15 +6,15 @@ use Rattle.edit_script.specs.Script.{Script, script_of}
 use Rattle.edit_session.specs.State.{shows}
 use Rattle.edit_session.specs.declared.state.Shown.{Shown}
 use Rattle.sch_compiled.specs.declared.plan.Plan.{Plan}
-use Rattle.sch_words.specs.Commands.{Command, tell, expand, validate, follow, measure, command_of}
+use Rattle.sch_words.specs.Commands.{Command, tell, expand, validate, follow, measure, summarize, command_of}
 use Rattle.sch_words.specs.declared.status.Status.TheVariants.{Usage}
 use Rattle.sch_stops.specs.Output.{Output, stopped, usage_line}
-use Rattle.sch_loading.specs.Loading.{Expanding}
+use Rattle.sch_loading.specs.Loading.{Expanding, Reporting}
 use Rattle.sch_loading.specs.Stages.{Is, Stage, Then, goes, halts}
 use Rattle.sch_loading.proofs.StageLemmas.{through}
 use Rattle.sch_cli.specs.Behaviours.{Any, Making, Measures, Opening, OpeningAll, States, StatesCost, behaviour}
 use Rattle.sch_cli.specs.Following.{Follows, comes_to_end, edits, refuses, stops_at, then_shown}
-use Rattle.sch_cli.specs.Output.{expanded, notice_output, state}
+use Rattle.sch_cli.specs.Output.{expanded, notice_output, state, summed_up}
 use Rattle.sch_cli.specs.Steps.{EditsCost, at_a_fault, at_the_end, edit_cost, first_cost, of_edited, of_refused}
 use Rattle.sch_cli_laws.specs.Ended.{SomeCost}
 
@@ -59,6 +59,7 @@ asked-cost : (files : Files) (asked : Option Command) (opened : List (List ℕ))
 asked-cost files None = written (Is (halts (stopped Usage usage_line)))
 asked-cost files (Some (tell notice)) = written (Is (goes (notice_output notice)))
 asked-cost files (Some (expand schema)) = written (Then (Expanding files schema) (λ flat. Is (goes (expanded flat))))
+asked-cost files (Some (summarize report)) = written (Then (Reporting files report) (λ said. Is (goes (summed_up said))))
 asked-cost files (Some (validate phase schema document)) =
     visited (Opening files phase schema document) (λ at output. output ≡ state at.plan at.tree) (λ at cost. cost ≡ first_cost at.plan at.tree)
     (λ at output is. (first_cost at.plan at.tree, refl))

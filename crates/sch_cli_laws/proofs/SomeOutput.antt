@@ -31,6 +31,8 @@ use Rattle.sch_include.specs.declared.fault.IncludeKind.{IncludeKind}
 use Rattle.sch_include.specs.declared.fault.IncludeKind.TheVariants as kind
 use Rattle.sch_include_laws.specs.SomeInclusion.{SomeInclusion}
 use Rattle.sch_abstract.specs.FirstFault.{first_fault}
+use Rattle.svrl_read.specs.FirstFault as svrl
+use Rattle.svrl_read.specs.Value.{report_of}
 use Rattle.sch_abstract.specs.Flat.{flat_schema}
 use Rattle.sch_compiled.specs.declared.plan.Plan.{Plan}
 use Rattle.sch_plan.specs.Compiled.{compiled}
@@ -38,7 +40,7 @@ use Rattle.sch_plan_laws.specs.Planned.{EachPhaseIsCompiled}
 use Rattle.edit_session.specs.Pairs.{has_too_many_pairs}
 use Rattle.edit_session.specs.State.{shows, state_text}
 use Rattle.edit_session.specs.declared.state.Shown.{Shown}
-use Rattle.sch_words.specs.Commands.{Command, tell, expand, validate, follow, measure, command_of, default_phase}
+use Rattle.sch_words.specs.Commands.{Command, tell, expand, validate, follow, measure, summarize, command_of, default_phase}
 use Rattle.sch_measure.specs.Shelf.{measure_files}
 use Rattle.sch_measure.specs.declared.shelf.TheConstants.{SCHEMA_NAME, DOCUMENT_NAME, SCRIPT_NAME}
 use Rattle.sch_words.specs.declared.status.Status.TheVariants.{SchemaRefused, ScriptRefused, Usage}
@@ -47,12 +49,12 @@ use Rattle.sch_stops.specs.declared.refusal.ScriptRefusal.TheVariants as script
 use Rattle.sch_stops.specs.EditLines.{edit_line, refused_line}
 use Rattle.sch_stops.specs.Output.{Output, stopped, usage_line}
 use Rattle.sch_stops.specs.Refusals.{include_line, script_refused_line}
-use Rattle.sch_loading.specs.Loading.{Compiling, Expanding, Fetching, Flattening, Inclusion, Loading, Parsing, Planning, Reading, Scripting, as_script, at_include, held_under, missing, refused_document, refused_file, refused_rule, script_too_large}
+use Rattle.sch_loading.specs.Loading.{Compiling, Expanding, Fetching, Flattening, Inclusion, Loading, Parsing, Planning, Reading, Reporting, Saying, Scripting, as_script, at_include, held_under, missing, refused_document, refused_file, refused_report, refused_rule, script_too_large}
 use Rattle.sch_loading.specs.Stages.{Is, Stage, Then, goes, halt_at, halt_if, halts}
 use Rattle.sch_cli.specs.Behaviours.{Any, IsEnd, Making, Measures, Opening, OpeningAll, Scripted, States, Treed, Treeing, behaviour, too_many_pairs, tree_under}
 use Rattle.sch_cli.specs.Following.{Follows, comes_to_end, edits, refuses, stops_at, then_shown, under}
 use Rattle.sch_cli.specs.Measuring.{LeadsTo, measure_text, measured_as, past_edited, past_refused, to_a_fault, to_the_end}
-use Rattle.sch_cli.specs.Output.{ended, expanded, in_front, notice_output, state}
+use Rattle.sch_cli.specs.Output.{ended, expanded, in_front, notice_output, state, summed_up}
 use Rattle.sch_cli_laws.specs.Ended.{SomeOutput}
 use Rattle.sch_cli_laws.proofs.Ways.{apart-ends, Anything, Ends, goes-ends, halt-at-ends, halt-if-ends, halted, on_with, then-ends}
 
@@ -190,6 +192,10 @@ module _ (trees : DocumentsHaveTrees) (some_inclusion : SomeInclusion) (each_com
   loading-ends : (document : List ℕ) → Ends (Loading files document) IsTree
   loading-ends document = then-ends (Fetching files document MAX_FILE_BYTES) Parsing (IsShort MAX_FILE_BYTES) IsTree (fetching-ends document MAX_FILE_BYTES) parsing-ends
 
+  reporting-ends : (report : List ℕ) → Ends (Reporting files report) Anything
+  reporting-ends report =
+      then-ends (Loading files report) Saying IsTree Anything (loading-ends report) (λ T tree. halt-at-ends (svrl.first_fault T) (refused_report T) (report_of T) Anything tt)
+
   script-ends : (found : Option (List ℕ)) → IsShort MAX_SCRIPT_BYTES found → Ends (Is (as_script found)) (λ bytes. length bytes ≤ MAX_SCRIPT_BYTES)
   script-ends None short = halted [] script_too_large (refl, refl)
   script-ends (Some bytes) short = on_with [] bytes (refl, refl) short
@@ -238,6 +244,9 @@ module _ (trees : DocumentsHaveTrees) (some_inclusion : SomeInclusion) (each_com
     asked-ends (Some (expand schema)) =
         written-ends (Then (Expanding files schema) (λ flat. Is (goes (expanded flat))))
         (then-ends (Expanding files schema) (λ flat. Is (goes (expanded flat))) Anything Anything (expanding-ends trees some_inclusion each_compiled files schema) (λ flat any. goes-ends (expanded flat) Anything tt))
+    asked-ends (Some (summarize report)) =
+        written-ends (Then (Reporting files report) (λ said. Is (goes (summed_up said))))
+        (then-ends (Reporting files report) (λ said. Is (goes (summed_up said))) Anything Anything (reporting-ends trees some_inclusion each_compiled files report) (λ said any. goes-ends (summed_up said) Anything tt))
     asked-ends (Some (validate phase schema document)) =
         from-ends (Opening files phase schema document) (λ at output. output ≡ state at.plan at.tree) IsTreed (opening-ends trees some_inclusion each_compiled files phase schema document)
         (λ at tree. (state at.plan at.tree, refl))

@@ -1,4 +1,5 @@
 pub mod StageLemmas
 pub mod PartLemmas
 pub mod FileLemmas
+pub mod ReportLemmas
 pub mod SchemaLemmas

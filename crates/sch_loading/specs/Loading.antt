@@ -1,4 +1,4 @@
--- The stages in which files are read: a schema up to the plan of a phase, a document, a script.
+-- The stages in which files are read: a schema up to the plan of a phase, a document, a report, a script.
 use Rattle.std.specs.Prelude.{◌≡◌, ◌⊎◌, ℕ, nat_lt, List, [], ◌∷◌, Option, None, Some, Result, Ok, Err, if◌then◌else◌, length}
 use Rattle.std.specs.FinMap.{get}
 use Rattle.sch_io.specs.Files.{Files}
@@ -23,7 +23,11 @@ use Rattle.doc_locations.specs.Locations.{location_of}
 use Rattle.sch_words.specs.declared.status.Status.TheVariants.{SchemaRefused, DocumentRefused, ScriptRefused, Missing}
 use Rattle.sch_stops.specs.declared.refusal.FileRefusal.{FileRefusal}
 use Rattle.sch_stops.specs.declared.refusal.FileRefusal.TheVariants as refusal
-use Rattle.sch_stops.specs.declared.refusal.DocumentRefusal.TheVariants.{File}
+use Rattle.svrl_read.specs.FirstFault as svrl
+use Rattle.svrl_read.specs.Value.{report_of}
+use Rattle.svrl_read.specs.declared.fault.SvrlFault.{SvrlFault}
+use Rattle.svrl_read.specs.declared.value.SvrlReport.{SvrlReport}
+use Rattle.sch_stops.specs.declared.refusal.DocumentRefusal.TheVariants.{File, Report}
 use Rattle.sch_stops.specs.declared.refusal.ScriptRefusal.TheVariants as script
 use Rattle.sch_loading.specs.Documents.{IsParsed}
 use Rattle.sch_stops.specs.Output.{Output, missing_line, stopped}
@@ -42,6 +46,9 @@ refused_rule T fault = stopped SchemaRefused (schema_rule_line (location_of T fa
 
 abbrev pub refused_document : FileRefusal → Output
 refused_document refusal = stopped DocumentRefused (document_refused_line (File refusal))
+
+abbrev pub refused_report : Table → SvrlFault → Output
+refused_report T fault = stopped DocumentRefused (document_refused_line (Report fault (location_of T fault.node)))
 
 -- a script that has too many bytes
 abbrev pub script_too_large : Output
@@ -89,7 +96,7 @@ Compiling T phase flat = By (compiled flat phase) (planned T)
 abbrev pub Planning : Files → List ℕ → List ℕ → Stage Plan
 Planning files phase schema = Then (Inclusion files schema) (λ T. Then (Reading T) (Compiling T phase))
 
--- Documents and scripts
+-- Documents, reports and scripts
 
 -- the bytes of a file, by what is held under its name, and none where there are more than so many
 abbrev pub held_under : List ℕ → ℕ → Option (List ℕ) → Came (Option (List ℕ))
@@ -112,6 +119,14 @@ Parsing (Some bytes) = By (IsParsed bytes) parsed
 -- the tree of the named document
 abbrev pub Loading : Files → List ℕ → Stage Table
 Loading files document = Then (Fetching files document MAX_FILE_BYTES) Parsing
+
+-- a document's tree as a report
+abbrev pub Saying : Table → Stage SvrlReport
+Saying T = Is (halt_at (svrl.first_fault T) (refused_report T) (report_of T))
+
+-- the named report
+abbrev pub Reporting : Files → List ℕ → Stage SvrlReport
+Reporting files report = Then (Loading files report) Saying
 
 -- the bytes as a script
 abbrev pub as_script : Option (List ℕ) → Came (List ℕ)

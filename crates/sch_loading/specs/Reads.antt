@@ -55,6 +55,7 @@ extent_of_schema (schema.Rule fault location) = all_files
 abbrev pub extent_of_document : DocumentRefusal → Extent
 extent_of_document (document.File refused) = extent_of_file refused
 extent_of_document document.TooManyPairs = all_files
+extent_of_document (document.Report fault location) = all_files
 
 abbrev pub extent_of_script : ScriptRefusal → Extent
 extent_of_script script.TooLarge = all_but_last

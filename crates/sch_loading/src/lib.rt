@@ -1,7 +1,9 @@
-//! The files that a command names, read: a schema as the plan of a phase or without abstract parts, a document, a script.
+//! The files that a command names, read: a schema as the plan of a phase or without abstract parts, a document, a report, a script.
 #![tactic(auto)]
 
 mod loading;
+mod report;
 mod schema;
 
 pub use loading::{load_document, load_flat, load_plan, read_script};
+pub use report::load_report;

@@ -73,7 +73,7 @@ fn refused(alloc: Global, tree: &Tree, error: SchemaError) -> Stop
 
 /// The location of a node, and nothing for a number that no node has.
 #[tactic(auto, using(crate::proofs::SchemaLemmas::no_location))]
-fn place_of(alloc: Global, tree: &Tree, n: NodeId) -> Result<Text, AllocError>
+pub(crate) fn place_of(alloc: Global, tree: &Tree, n: NodeId) -> Result<Text, AllocError>
     ensures { IfOk result (λ location. location ≡ location_of tree.now.nodes n) }
 {
     if tree.contains(n) {

@@ -1,5 +1,5 @@
 -- The lines that tell why a schema, a document or an edit script is refused.
-use Rattle.std.specs.Prelude.{ℕ, List, ◌++◌, Option, None, Some, codes}
+use Rattle.std.specs.Prelude.{ℕ, List, [], ◌++◌, Option, None, Some, codes}
 use Rattle.std.specs.Fmt.{decimal}
 use Rattle.pyx_core.specs.declared.fault.PyxKind.{PyxKind}
 use Rattle.pyx_core.specs.declared.fault.PyxKind.TheVariants.{NotUtf8, BadChar, UnknownLine, EntityLine, BadName, AttributePlace, WrongEnd, TextOutside, SecondRoot, NoRoot, Unfinished}
@@ -13,6 +13,9 @@ use Rattle.edit_script.specs.declared.fault.ScriptKind.TheVariants as script
 use Rattle.sch_include.specs.declared.fault.IncludeKind.{IncludeKind}
 use Rattle.sch_include.specs.declared.fault.IncludeKind.TheVariants as include
 use Rattle.sch_model.specs.declared.fault.SchemaFault.{SchemaFault}
+use Rattle.svrl_read.specs.declared.fault.SvrlFault.{SvrlFault}
+use Rattle.svrl_read.specs.declared.fault.SvrlKind.{SvrlKind}
+use Rattle.svrl_read.specs.declared.fault.SvrlKind.TheVariants as svrl
 use Rattle.sch_stops.specs.declared.refusal.FileRefusal.{FileRefusal}
 use Rattle.sch_stops.specs.declared.refusal.FileRefusal.TheVariants.{TooLarge, Faulted}
 use Rattle.sch_stops.specs.declared.refusal.DocumentRefusal.{DocumentRefusal}
@@ -59,10 +62,35 @@ reason_text (Faulted fault) = fault_text fault
 abbrev pub document_file_line : FileRefusal → List ℕ
 document_file_line refusal = codes "sch: document refused: " ++ (reason_text refusal ++ codes "\n")
 
+-- the names of the kinds of faults of a report, and the name of the attribute that one tells
+abbrev pub svrl_word : SvrlKind → List ℕ
+svrl_word svrl.NotOutput = codes "NotOutput"
+svrl_word svrl.NoPattern = codes "NoPattern"
+svrl_word svrl.NoRule = codes "NoRule"
+svrl_word (svrl.NoAttribute name) = codes "NoAttribute "
+
+abbrev pub svrl_name : SvrlKind → List ℕ
+svrl_name svrl.NotOutput = []
+svrl_name svrl.NoPattern = []
+svrl_name svrl.NoRule = []
+svrl_name (svrl.NoAttribute name) = name
+
+-- what a document lacks that is not read as a report, and where
+unfoldable pub svrl_text : SvrlKind → List ℕ
+svrl_text kind = codes "sch: document refused: svrl " ++ (svrl_word kind ++ svrl_name kind)
+
+unfoldable pub place_text : List ℕ → List ℕ
+place_text location = codes " at " ++ (location ++ codes "\n")
+
+-- the line of a document that is not read as a report: the kind of its fault, and the location of the element that has it
+abbrev pub report_line : List ℕ → SvrlFault → List ℕ
+report_line location fault = svrl_text fault.kind ++ place_text location
+
 -- the line of a refused document
 abbrev pub document_refused_line : DocumentRefusal → List ℕ
 document_refused_line (document.File refusal) = document_file_line refusal
 document_refused_line document.TooManyPairs = codes "sch: document refused: TooManyPairs\n"
+document_refused_line (document.Report fault location) = report_line location fault
 
 -- the names of the rules that a command of a script can break
 abbrev pub script_words : ScriptKind → List ℕ

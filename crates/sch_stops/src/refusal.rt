@@ -3,7 +3,7 @@
 ghost use Rattle.std.specs.Prelude.{◌≡◌, ◌++◌, codes};
 ghost use Rattle.pyx_core.specs.Escapes.{escaped};
 ghost use Rattle.sch_io.specs.Wrote.{Wrote};
-ghost use Rattle.sch_stops.specs.Refusals.{kind_words, pyx_words, reason_text, fault_text, rule_text, document_refused_line, include_line, include_text, include_words, schema_refused_line, schema_rule_line, script_fault_line, script_refused_line, script_words};
+ghost use Rattle.sch_stops.specs.Refusals.{kind_words, pyx_words, reason_text, fault_text, rule_text, document_refused_line, include_line, include_text, include_words, schema_refused_line, schema_rule_line, place_text, report_line, script_fault_line, script_refused_line, script_words, svrl_name, svrl_text, svrl_word};
 
 use edit_script::{ScriptFault, ScriptKind};
 use itoa::Buffer;
@@ -14,6 +14,7 @@ use sch_base::Text;
 use sch_include::IncludeKind;
 use sch_io::{Failed, Sink, write_all, write_pieces};
 use sch_model::SchemaFault;
+use svrl_read::{SvrlFault, SvrlKind};
 
 /// Why a file is not read as a tree.
 #[derive(Clone, Copy)]
@@ -25,12 +26,14 @@ pub enum FileRefusal {
 }
 
 /// Why a document is refused.
-#[derive(Clone, Copy)]
+#[derive(Drop)]
 pub enum DocumentRefusal {
     /// It is not read as a tree.
     File(FileRefusal),
     /// It has too many nodes for the active patterns.
     TooManyPairs,
+    /// It is not read as a report: it has this fault first, at the element of that location.
+    Report { fault: SvrlFault, location: Text },
 }
 
 /// Why an edit script is refused.
@@ -110,6 +113,7 @@ impl DocumentRefusal {
                 err,
                 b"sch: document refused: TooManyPairs\n",
             ),
+            DocumentRefusal::Report { fault, location } => tell_report(fault, location, err),
         }
     }
 }
@@ -180,6 +184,34 @@ fn write_rule<E: Sink>(rule: u32, location: &Text, err: &mut E) -> Result<(), Fa
         err,
         &["sch: schema refused: rule ", rule, " at ", location, ": "],
     )
+}
+
+/// Writes the line of a document that is not read as a report.
+#[tactic(auto, using(sch_io::proofs::Writes::writes))]
+fn tell_report<E: Sink>(fault: &SvrlFault, location: &Text, err: &mut E) -> Result<(), Failed>
+    ensures { Wrote (E.log err.old) (E.log err.new) (report_line location.now fault.now) result }
+{
+    write_svrl_kind(&fault.kind, err)?;
+    write_place(location, err)
+}
+
+/// Writes what a document lacks that is not read as a report.
+#[tactic(auto, unfolding(crate::specs::Refusals::svrl_text))]
+fn write_svrl_kind<E: Sink>(kind: &SvrlKind, err: &mut E) -> Result<(), Failed>
+    ensures { Wrote (E.log err.old) (E.log err.new) (svrl_text kind.now) result }
+{
+    let word = svrl_word(kind);
+    let name = svrl_name(kind);
+    write_pieces(err, &["sch: document refused: svrl ", word, name])
+}
+
+/// Writes where that is, and the end of the line.
+#[tactic(auto, unfolding(crate::specs::Refusals::place_text))]
+fn write_place<E: Sink>(location: &Text, err: &mut E) -> Result<(), Failed>
+    ensures { Wrote (E.log err.old) (E.log err.new) (place_text location.now) result }
+{
+    let location = location.as_str();
+    write_pieces(err, &[" at ", location, "\n"])
 }
 
 /// Writes where and what a fault is, and the end of the line.
@@ -270,5 +302,27 @@ fn include_words(kind: &IncludeKind) -> &'static str
         IncludeKind::TooManyNodes => "TooManyNodes",
         IncludeKind::TreeTooDeep => "TreeTooDeep",
         IncludeKind::TooMuchText => "TooMuchText",
+    }
+}
+
+/// The name of a kind of fault of a report; a space stands behind it where it tells the name of an attribute.
+fn svrl_word(kind: &SvrlKind) -> &str
+    ensures { result.now ≡ svrl_word kind.now }
+{
+    match kind {
+        SvrlKind::NotOutput => "NotOutput",
+        SvrlKind::NoPattern => "NoPattern",
+        SvrlKind::NoRule => "NoRule",
+        SvrlKind::NoAttribute { .. } => "NoAttribute ",
+    }
+}
+
+/// The name of the attribute that is missing, and nothing for another kind.
+fn svrl_name(kind: &SvrlKind) -> &str
+    ensures { result.now ≡ svrl_name kind.now }
+{
+    match kind {
+        SvrlKind::NotOutput | SvrlKind::NoPattern | SvrlKind::NoRule => "",
+        SvrlKind::NoAttribute { name } => name.as_str(),
     }
 }

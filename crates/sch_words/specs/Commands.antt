@@ -8,13 +8,14 @@ use Rattle.sch_words.specs.declared.notice.Notice.TheVariants.{Help, Version}
 use Rattle.sch_words.specs.Counts.{count_of}
 
 -- what accepted words ask for: to say something of the program, to expand a schema, to validate by a phase and a schema a document, to
--- do the same after each command of an edit script, or to measure that for a number of items
+-- do the same after each command of an edit script, to measure that for a number of items, or to sum up a report
 pub data Command : Type 0 where
   tell : Notice → Command
   expand : List ℕ → Command
   validate : List ℕ → List ℕ → List ℕ → Command
   follow : List ℕ → List ℕ → List ℕ → List ℕ → Command
   measure : ℕ → Command
+  summarize : List ℕ → Command
 
 -- a file's name is not empty and does not begin with `-`
 abbrev pub is_file_name : List ℕ → Bool
@@ -48,9 +49,15 @@ measure_of (Some items) = Some (measure items)
 abbrev pub measuring_of : List ℕ → Option Command
 measuring_of count = measure_of (count_of count)
 
--- `measure N` or `expand S`
+-- `summary R`
+abbrev pub summary_of : List ℕ → Option Command
+summary_of report = if is_file_name report then Some (summarize report) else None
+
+-- `measure N`, `summary R` or `expand S`
 abbrev pub of_one_name : List ℕ → List ℕ → Option Command
-of_one_name verb word = if bytes_eq verb (codes "measure") then measuring_of word else expansion_of verb word
+of_one_name verb word =
+    if bytes_eq verb (codes "measure") then measuring_of word else
+    if bytes_eq verb (codes "summary") then summary_of word else expansion_of verb word
 
 -- `validate S D`, under a phase
 abbrev pub validation_of : List ℕ → List ℕ → List ℕ → List ℕ → Option Command
@@ -63,8 +70,8 @@ following_of verb phase schema document script =
     if bytes_eq verb (codes "follow") && is_file_name schema && is_file_name document && is_file_name script
     then Some (follow phase schema document script) else None
 
--- `--help`, `--version`, `expand S`, `measure N`, `validate S D`, `validate --phase P S D`, `follow S D E`, `follow --phase P S D E`, where
--- P is not empty; no other words are accepted
+-- `--help`, `--version`, `expand S`, `measure N`, `summary R`, `validate S D`, `validate --phase P S D`, `follow S D E`,
+-- `follow --phase P S D E`, where P is not empty; no other words are accepted
 abbrev pub command_of : List (List ℕ) → Option Command
 command_of (word ∷ []) = notice_of word
 command_of (verb ∷ word ∷ []) = of_one_name verb word
@@ -83,3 +90,4 @@ shown (borrowed.Expand schema) = expand schema.now
 shown (borrowed.Validate asked) = validate asked.phase.now asked.schema.now asked.document.now
 shown (borrowed.Follow asked) = follow asked.validation.phase.now asked.validation.schema.now asked.validation.document.now asked.script.now
 shown (borrowed.Measure items) = measure items
+shown (borrowed.Summarize report) = summarize report.now

@@ -14,6 +14,7 @@ help_lines =
     ∷ codes "sch follow --phase PHASE SCHEMA DOCUMENT SCRIPT"
     ∷ codes "sch expand SCHEMA"
     ∷ codes "sch measure COUNT"
+    ∷ codes "sch summary REPORT"
     ∷ codes "sch --help"
     ∷ codes "sch --version"
     ∷ codes "status 0: done; the report, of `follow` the last one, has no finding"

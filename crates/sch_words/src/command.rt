@@ -1,7 +1,7 @@
 //! Which words are accepted, and what they ask for.
 
 ghost use Rattle.std.specs.Prelude.{◌≡◌, MatchOption, Some, None};
-ghost use Rattle.sch_words.specs.Commands.{command_of, expansion_of, following_of, is_file_name, is_of_phase, measuring_of, notice_of, of_one_name, shown, validation_of};
+ghost use Rattle.sch_words.specs.Commands.{command_of, expansion_of, following_of, is_file_name, is_of_phase, measuring_of, notice_of, of_one_name, shown, summary_of, validation_of};
 
 use crate::count::count_of;
 use crate::notice::Notice;
@@ -38,6 +38,8 @@ pub enum Command<'a> {
     Follow(ScriptedValidation<'a>),
     /// Follow the script of a document with so many items, both made for that, and write counts of the first state and the last one.
     Measure { items: u32 },
+    /// Sum up a report.
+    Summarize { report: &'a Text },
 }
 
 /// Whether a word may name a file: it is not empty and does not begin with `-`.
@@ -87,12 +89,25 @@ fn measuring_of(count: &Text) -> Option<Command<'_>>
     }
 }
 
+/// The summary that the word asks for.
+fn summary_of(report: &Text) -> Option<Command<'_>>
+    ensures { MatchOption result (summary_of report.now ≡ None) (λ command. summary_of report.now ≡ Some (shown command)) }
+{
+    if is_file_name(report) {
+        Some(Command::Summarize { report })
+    } else {
+        None
+    }
+}
+
 /// What a verb and a word behind it ask for.
 fn of_one_name<'a>(verb: &Text, word: &'a Text) -> Option<Command<'a>>
     ensures { MatchOption result (of_one_name verb.now word.now ≡ None) (λ command. of_one_name verb.now word.now ≡ Some (shown command)) }
 {
     if verb.as_str() == "measure" {
         measuring_of(word)
+    } else if verb.as_str() == "summary" {
+        summary_of(word)
     } else {
         expansion_of(verb, word)
     }

@@ -32,6 +32,7 @@ impl Notice {
                     "sch follow --phase PHASE SCHEMA DOCUMENT SCRIPT\n",
                     "sch expand SCHEMA\n",
                     "sch measure COUNT\n",
+                    "sch summary REPORT\n",
                     "sch --help\n",
                     "sch --version\n",
                     "status 0: done; the report, of `follow` the last one, has no finding\n",

@@ -1,4 +1,4 @@
--- How the reading of a schema is stopped.
+-- How the reading of a schema or a report is stopped.
 use Rattle.std.specs.Prelude.{◌≡◌, ℕ, List, false, Option, None, Some, Result, Ok, Err}
 use Rattle.sch_io.specs.ReadThrough.{Extent, all_files, all_but_last, all_or_but_last}
 use Rattle.doc_tree.specs.Table.{Table}
@@ -6,13 +6,15 @@ use Rattle.sch_include.specs.declared.fault.IncludeKind.{IncludeKind}
 use Rattle.sch_include.specs.declared.fault.IncludeKind.TheVariants as kind
 use Rattle.sch_model.specs.declared.fault.SchemaError.{SchemaError}
 use Rattle.sch_model.specs.declared.fault.SchemaError.TheVariants as error
+use Rattle.svrl_read.specs.declared.fault.SvrlError.{SvrlError}
+use Rattle.svrl_read.specs.declared.fault.SvrlError.TheVariants as svrl
 use Rattle.sch_words.specs.declared.status.Status.TheVariants as status
 use Rattle.sch_stops.specs.Stops.{ByCause, is_status, name_in, status_of}
 use Rattle.sch_stops.specs.declared.refusal.FileRefusal.TheVariants as refusal
 use Rattle.sch_stops.specs.declared.refusal.SchemaRefusal.TheVariants as schema
 use Rattle.sch_stops.specs.declared.stop.Stop.{Stop}
 use Rattle.sch_stops.specs.declared.stop.Stop.TheVariants.{SchemaRefused, Missing, ReadFault}
-use Rattle.sch_loading.specs.Loading.{refused_rule}
+use Rattle.sch_loading.specs.Loading.{refused_report, refused_rule}
 use Rattle.sch_loading.specs.Reads.{extent_of_stop}
 
 -- what a stop tells is not of the outside: neither words nor files nor the output stopped the run, and no file is named
@@ -55,3 +57,8 @@ stop_of kind name = SchemaRefused (schema.Include kind name)
 abbrev pub IsRefusal : Table → SchemaError → Stop → Type 0
 IsRefusal T (error.Fault fault) stop = ByCause (λ output. output ≡ refused_rule T fault) (λ _. ⊥) ⊥ (Unit {0}) stop
 IsRefusal T error.Memory stop = ByCause (λ _. ⊥) (λ _. ⊥) ⊥ (Unit {0}) stop
+
+-- the same of a run whose report, with this tree, is refused for the error
+abbrev pub IsReportRefusal : Table → SvrlError → Stop → Type 0
+IsReportRefusal T (svrl.Fault fault) stop = ByCause (λ output. output ≡ refused_report T fault) (λ _. ⊥) ⊥ (Unit {0}) stop
+IsReportRefusal T svrl.Memory stop = ByCause (λ _. ⊥) (λ _. ⊥) ⊥ (Unit {0}) stop

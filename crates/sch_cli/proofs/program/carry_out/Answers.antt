@@ -1,7 +1,7 @@
 -- What the words ask for ends the run.
 use Rattle.std.proofs.Common.{◌∙◌, Some, ap}
 use Rattle.sch_words.specs.declared.command.Command.TheVariants as borrowed
-use Rattle.sch_words.specs.Commands.{command_of, expand, follow, measure, tell, validate}
+use Rattle.sch_words.specs.Commands.{command_of, expand, follow, measure, summarize, tell, validate}
 use Rattle.sch_cli.proofs.CarryLemmas.{accepted as writing_accepted}
 use Rattle.sch_cli.proofs.RunLemmas.{accepted, asks, asks_nothing, carries, carries_nothing, carries_notice}
 use Rattle.sch_cli.proofs.program.carry_out.Goals as goal
@@ -79,3 +79,17 @@ returns-in-Some-Measure-clause-usage g c =
     accepted (command_of c.args.words.now) (measure at.items) c.measure.result
     (rw (← c.as_slice.ensures) (asks c.as_slice.result.now c.command_of.result (borrowed.Measure at.items) c.command_of.ensures (at.is ∙ ap Some at.field-0-is)))
     c.measure.ensures.accepted
+
+pub returns-in-Some-Summarize-clause-carried : goal.returns-in-Some-Summarize-clause-carried
+returns-in-Some-Summarize-clause-carried g c =
+    let at = c.in-Some-Summarize in
+    carries c.args.words.now (summarize at.report.now) _ _ _ _ _ _ c.sum_up.result
+    (rw (← c.as_slice.ensures) (asks c.as_slice.result.now c.command_of.result (borrowed.Summarize at.report) c.command_of.ensures (at.is ∙ ap Some at.field-0-is)))
+    (c.sum_up.ensures.carried c.args.steps.now)
+
+pub returns-in-Some-Summarize-clause-usage : goal.returns-in-Some-Summarize-clause-usage
+returns-in-Some-Summarize-clause-usage g c =
+    let at = c.in-Some-Summarize in
+    accepted (command_of c.args.words.now) (summarize at.report.now) c.sum_up.result
+    (rw (← c.as_slice.ensures) (asks c.as_slice.result.now c.command_of.result (borrowed.Summarize at.report) c.command_of.ensures (at.is ∙ ap Some at.field-0-is)))
+    c.sum_up.ensures.accepted
