@@ -5,6 +5,7 @@ use Rattle.std.specs.List.{list_any}
 use Rattle.std.specs.Option.{option_or}
 use Rattle.std.proofs.lemmas.Bool.{ltb-true}
 use Rattle.std.specs.Str.{bytes_eq}
+use Rattle.std.proofs.lemmas.List.{length-map}
 use Rattle.std.proofs.lemmas.List.Sums.{sum_by-cons}
 use Rattle.sch_base.specs.Lists.{is_nil}
 use Rattle.pyx_core.specs.declared.event.Event.{Event}
@@ -30,7 +31,7 @@ use Rattle.edit_commands.specs.Paths.{node_named}
 use Rattle.edit_iso_laws.specs.CommandsMove.{RefusalsMove, numbers_asked}
 use Rattle.edit_iso_laws.specs.PathsMove.{PathsMove}
 use Rattle.tree_iso.specs.Renumbering.{Hangs, RenumberedTreesHang, Renumbers, SameTreesAreRenumbered, renumbered}
-use Rattle.tree_iso.proofs.NumberLemmas.{any-moved, eqb-moved, length-moved}
+use Rattle.tree_iso.proofs.NumberLemmas.{any-moved, eqb-moved}
 
 sum-moved : (f : ℕ → ℕ) (g h : ℕ → ℕ) → ((n : ℕ) → h (f n) ≡ g n) → (ns : List ℕ) → sum_by h (map f ns) ≡ sum_by g ns
 sum-moved f g h same [] = refl
@@ -79,7 +80,7 @@ module _ (f : ℕ → ℕ) (T U : Table) (r : Renumbers f T U) (root : f 0 ≡ 0
   kind-same n = ap kind_at (r.content n)
 
   pub count-same : length (order U) ≡ length (order T)
-  count-same = ap length r.in_order ∙ length-moved f (order T)
+  count-same = ap length r.in_order ∙ length-map (order T) f
 
   pub bytes-same : text_bytes U ≡ text_bytes T
   bytes-same =
@@ -101,7 +102,7 @@ module _ (f : ℕ → ℕ) (T U : Table) (r : Renumbers f T U) (root : f 0 ≡ 0
 
   pub place-same : (p at : ℕ) (kind : Option Kind) → place_refusal U (f p) at kind ≡ place_refusal T p at kind
   place-same p at kind =
-      ap₂ (λ (holds : Bool) (count : ℕ). place_by at kind holds count (eqb (f p) 0) (is_beside_text U (at - 1) (kids_of U (f p)))) (ap holds_kids (kind-same p)) (ap length (r.kids p) ∙ length-moved f (kids_of T p))
+      ap₂ (λ (holds : Bool) (count : ℕ). place_by at kind holds count (eqb (f p) 0) (is_beside_text U (at - 1) (kids_of U (f p)))) (ap holds_kids (kind-same p)) (ap length (r.kids p) ∙ length-map (kids_of T p) f)
       ∙ ap₂ (λ (is_top beside : Bool). place_by at kind (holds_kids (kind_of T p)) (length (kids_of T p)) is_top beside) (root-same p)
       (ap (is_beside_text U (at - 1)) (r.kids p) ∙ beside-same (at - 1) (kids_of T p))
 
@@ -136,7 +137,7 @@ module _ (f : ℕ → ℕ) (T U : Table) (r : Renumbers f T U) (hangs : Hangs f 
   piece-same : (n : ℕ) (events : List Event) → piece_refusal U (f n) events ≡ piece_refusal T n events
   piece-same n events =
       ap₂ (λ (scope : List Decl) (count : ℕ). piece_by events scope count (length (above U (f n)))) (scopes n) (count-same f T U r hangs.root)
-      ∙ ap (piece_by events (scope_at T n) (length (order T))) (ap (λ (l : List ℕ). suc (length l)) (hangs.ancestors_go n) ∙ ap suc (length-moved f (ancestors T n)))
+      ∙ ap (piece_by events (scope_at T n) (length (order T))) (ap (λ (l : List ℕ). suc (length l)) (hangs.ancestors_go n) ∙ ap suc (length-map (ancestors T n) f))
 
 -- where enough numbers are left, the others speak alike
 enough : (count : ℕ) → count ≤ MAX_NODE_NUMBERS → nat_lt MAX_NODE_NUMBERS count ≡ false
