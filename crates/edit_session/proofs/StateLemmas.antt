@@ -4,7 +4,7 @@ use Rattle.std.proofs.lemmas.Bool.{eq-eqb}
 use Rattle.std.proofs.lemmas.List.FromFn.{get_or-range_with_len, length-range_with_len}
 use Rattle.std.specs.List.{enumerate_from, flat_map, range_with_len}
 use Rattle.std.specs.Option.{option_or}
-use Rattle.doc_tree.specs.Laws.{Ordered}
+use Rattle.doc_tree.specs.Laws.{HasWaysUp, Ordered}
 use Rattle.doc_tree.specs.Lists.{mem}
 use Rattle.doc_tree.specs.Table.{Table}
 use Rattle.doc_tree.specs.Walks.{order}
@@ -17,7 +17,7 @@ use Rattle.sch_compiled.specs.declared.parts.PlanRule.{PlanRule}
 use Rattle.sch_compiled.specs.declared.plan.Plan.{Plan}
 use Rattle.sch_compiled.specs.declared.state_fault.StateFault.{StateFault}
 use Rattle.sch_compiled.specs.declared.state_fault.StateFault.TheVariants.{InLet, AtNode}
-use Rattle.sch_compiled.specs.Findings.{OutcomeTable, outcome_at}
+use Rattle.sch_compiled.specs.Findings.{FindsAtLiveNodes, IsFindingOf, OutcomeTable, outcome_at}
 use Rattle.sch_compiled.specs.Plan.{rules_of}
 use Rattle.sch_units.specs.Laws.{FirstMatchFires, LetsStandInOrder}
 use Rattle.sch_units.specs.Units.{lets_of, unit_pair}
@@ -26,8 +26,7 @@ use Rattle.pyx_write.specs.Elements.{element}
 use Rattle.svrl_out.specs.declared.report.OutError.{OutError}
 use Rattle.svrl_out.specs.declared.report.OutError.TheVariants as out
 use Rattle.svrl_out.specs.FaultLine.{IsFaultOf, fault_line}
-use Rattle.svrl_out.specs.Locations.{location_of}
-use Rattle.svrl_out.specs.Report.{IsFindingOf, IsOutcomeOf, IsReportable, Reported, active_pattern, node_lines, ns_lines, outcome_lines, output_attributes, pattern_lines, report}
+use Rattle.svrl_out.specs.Report.{IsOutcomeOf, IsReportable, Reported, active_pattern, node_lines, ns_lines, outcome_lines, output_attributes, pattern_lines, report}
 use Rattle.sch_io.specs.SinkLog.{SinkLog}
 use Rattle.std.proofs.KnownBytes.{Appends-nil}
 use Rattle.sch_io.specs.Wrote.{Appends}
@@ -38,6 +37,7 @@ use Rattle.edit_session.specs.declared.state.Shown.TheVariants as shown
 use Rattle.edit_session.specs.State.{report_of, shown_by, shows, state_text, text_by}
 use Rattle.edit_session.specs.Wrote.{WroteState}
 use Rattle.state_run.specs.Outcomes.{Holds}
+use Rattle.unit_live_laws.specs.LiveReads.{PairsFindAtLiveNodes}
 use Rattle.edit_session.specs.inner.Shown.{ShownAs, shown_of}
 use Rattle.edit_session.proofs.SearchLemmas.{mem_item, or_right, with_none, with_some}
 
@@ -60,7 +60,7 @@ patterns_same T f g place (pattern ∷ patterns) agree =
     let here : pattern_lines T f (place, pattern) ≡ pattern_lines T g (place, pattern) =
     ap (λ (lines : List ℕ). active_pattern pattern ++ lines)
     (flat_map_same (node_lines T pattern.rules (f place)) (node_lines T pattern.rules (g place)) (order T)
-    (λ n there. ap (outcome_lines pattern.rules (location_of T n)) (agree place n (omega arith) (omega arith) there))) in
+    (λ n there. ap (outcome_lines T pattern.rules) (agree place n (omega arith) (omega arith) there))) in
     let rest = patterns_same T f g (place + 1) patterns (λ p n above below there. agree p n (omega (arith, above)) (omega (arith, below)) there) in
     cc
 
@@ -87,24 +87,26 @@ pair_clear plan T is p n below there =
     with_none (λ m. pair_fault p m (pair_outcome plan T p m)) (order T)
     (with_none (first_node_fault plan T) (pattern_numbers plan) none p (numbered 0 (length plan.patterns) p (omega arith) (omega arith))) n there
 
--- an outcome that is no fault names a rule of the pattern, and findings of its assertions
+-- an outcome that is no fault names a rule of the pattern, and findings of its assertions at live nodes
 outcome_is : (fires : FirstMatchFires) (plan : Plan) (T : Table) (L : Lets) (p n : ℕ) (answer : Result Outcome EvalFault) → (unit_pair plan T L p n).answer ≡ answer →
-    pair_fault p n (outcome_of answer) ≡ None → IsOutcomeOf (rules_of plan p) (Some (outcome_of answer))
-outcome_is fires plan T L p n (Err f) is none = absurd (cc)
-outcome_is fires plan T L p n (Ok NoRule) is none = tt
-outcome_is fires plan T L p n (Ok (Fault f)) is none = absurd (fires.no_fault plan T L p n f is)
-outcome_is fires plan T L p n (Ok (Fired r findings)) is none =
+    pair_fault p n (outcome_of answer) ≡ None → FindsAtLiveNodes T (outcome_of answer) → IsOutcomeOf T (rules_of plan p) (Some (outcome_of answer))
+outcome_is fires plan T L p n (Err f) is none live = absurd (cc)
+outcome_is fires plan T L p n (Ok NoRule) is none live = tt
+outcome_is fires plan T L p n (Ok (Fault f)) is none live = absurd (fires.no_fault plan T L p n f is)
+outcome_is fires plan T L p n (Ok (Fired r findings)) is none live =
     let alone = fires.fired plan T L p n r findings is in
-    subst (λ (found : Option PlanRule). IsSomeAnd found (λ rule. All (IsFindingOf rule.assertions) findings)) (sym alone.there) alone.findings
+    (subst (λ (found : Option PlanRule). IsSomeAnd found (λ rule. All (IsFindingOf rule.assertions) findings)) (sym alone.there) alone.findings, live)
 
 -- where there is no fault, the table can be reported
-pub reportable : (plan : Plan) (T : Table) (found : OutcomeTable) → FirstMatchFires → Ordered T → first_fault plan T ≡ None → Holds plan T found → IsReportable plan T found
-reportable plan T found fires ordered none holds = record {
+pub reportable : (plan : Plan) (T : Table) (found : OutcomeTable) → FirstMatchFires → PairsFindAtLiveNodes → Ordered T → HasWaysUp T → first_fault plan T ≡ None →
+    Holds plan T found → IsReportable plan T found
+reportable plan T found fires places ordered up none holds = record {
   patterns = holds.patterns;
   outcomes = λ p n below live.
       let there = sym (ordered.live_in_order n) ∙ live in
-      subst (IsOutcomeOf (rules_of plan p)) (sym (holds.outcomes p n below there))
-      (outcome_is fires plan T (lets_of plan T) p n (unit_pair plan T (lets_of plan T) p n).answer refl (pair_clear plan T none p n below there));
+      subst (IsOutcomeOf T (rules_of plan p)) (sym (holds.outcomes p n below there))
+      (outcome_is fires plan T (lets_of plan T) p n (unit_pair plan T (lets_of plan T) p n).answer refl (pair_clear plan T none p n below there)
+      (places.own plan T p n ordered up live));
 }
 
 -- The first fault

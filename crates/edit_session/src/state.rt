@@ -19,6 +19,7 @@ use state_run::{Evaluated, came_to_among};
 use std::alloc::{AllocError, Global};
 use svrl_out::{OutError, write_fault, write_report_among};
 use thiserror::Error;
+use unit_live_laws::units_read_live_cells;
 
 /// What a text that was written shows.
 #[derive(Clone, Copy, Debug, PartialEq, Eq)]
@@ -93,6 +94,7 @@ fn write_evaluated<O: Sink>(
 {
     tree.laws();
     first_match_fires();
+    units_read_live_cells();
     lets_stand_in_order();
     match evaluated {
         Evaluated::Whole { finds } => {

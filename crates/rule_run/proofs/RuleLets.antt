@@ -1,8 +1,9 @@
 -- The lets of a rule, and its rules, one after another.
 use Rattle.std.proofs.Common.{◌≡◌, ℕ, zero, suc, ◌+◌, ◌<◌, ◌≤◌, List, [], ◌∷◌, Result, Ok, Err, sym, ap, subst, drop, length, get_or, if◌then◌else◌, arith}
-use Rattle.std.specs.Prelude.{Some, slice_get}
+use Rattle.std.specs.Prelude.{Option, Some, slice_get}
 use Rattle.std.specs.Result.{IsErrAnd}
 use Rattle.doc_tree.specs.Table.{Table}
+use Rattle.xp_typed_tree.specs.TypedTree.{TypedTree}
 use Rattle.xp_outcome.specs.Evaluation.{bind, done}
 use Rattle.xp_outcome.specs.Recorded.{Recorded}
 use Rattle.xp_outcome.specs.Running.{Ran}
@@ -22,11 +23,11 @@ use Rattle.rule_run.specs.inner.Setting.{SetsLets}
 
 -- `?` hands on an error: the setting of lets stopped
 pub sets_stop : (T : Table) (n slot : ℕ) (items : List PlanLet) (L M : Lets) (r : Result (Unit {0}) EvalError) (e : EvalError) {held now : Recorded} {before after : ℕ} →
-    IsErrAnd r (λ d. d ≡ e) → ((assertions : List PlanAssert) → Ran (fired_by T L n slot items assertions) (Err (stop_of e)) held now before after) →
+    IsErrAnd r (λ d. d ≡ e) → ((subject : Option TypedTree) (assertions : List PlanAssert) → Ran (fired_by T L n slot subject items assertions) (Err (stop_of e)) held now before after) →
     SetsLets T n slot items L M r held now before after
 sets_stop T n slot items L M (Ok v) e h go = absurd h
 sets_stop T n slot items L M (Err d) e {held} {now} {before} {after} h go =
-    λ assertions. subst (λ x. Ran (fired_by T L n slot items assertions) (Err (stop_of x)) held now before after) (sym h) (go assertions)
+    λ subject assertions. subst (λ x. Ran (fired_by T L n slot subject items assertions) (Err (stop_of x)) held now before after) (sym h) (go subject assertions)
 
 -- the item of a list at a place
 pub item_there : {X : Type 0} (xs : List X) (i : ℕ) (x : X) → i < length xs → x ≡ get_or xs i x → slice_get xs i ≡ Some x
@@ -35,21 +36,21 @@ item_there (y ∷ xs) zero x below is = ap Some (sym is)
 item_there (y ∷ xs) (suc i) x below is = item_there xs i x (omega (arith, below)) is
 
 -- the next let of a rule, and the end
-module _ (T : Table) (L : Lets) (n : ℕ) (items : List PlanLet) (i slot : ℕ) (assertions : List PlanAssert) where
+module _ (T : Table) (L : Lets) (n : ℕ) (items : List PlanLet) (i slot : ℕ) (subject : Option TypedTree) (assertions : List PlanAssert) where
   pub lets-next : (item : PlanLet) → i < length items → item ≡ get_or items i item →
-      fired_by T L n slot (drop i items) assertions
-      ≡ bind (meaning T L item.expr (alone n)) (λ v. fired_by T (with_slot L slot (Ok v)) n (slot + 1) (drop (i + 1) items) assertions)
-  lets-next item below is = ap (λ ts. fired_by T L n slot ts assertions) (next_item items i item below is)
+      fired_by T L n slot subject (drop i items) assertions
+      ≡ bind (meaning T L item.expr (alone n)) (λ v. fired_by T (with_slot L slot (Ok v)) n (slot + 1) subject (drop (i + 1) items) assertions)
+  lets-next item below is = ap (λ ts. fired_by T L n slot subject ts assertions) (next_item items i item below is)
 
-  pub lets-end : length items ≤ i → fired_by T L n slot (drop i items) assertions ≡ all_asserted T L n assertions
-  lets-end past = ap (λ ts. fired_by T L n slot ts assertions) (no_item items i past)
+  pub lets-end : length items ≤ i → fired_by T L n slot subject (drop i items) assertions ≡ all_asserted T L n subject assertions
+  lets-end past = ap (λ ts. fired_by T L n slot subject ts assertions) (no_item items i past)
 
 -- the next rule, and the end
 module _ (T : Table) (count : ℕ) (L : Lets) (n : ℕ) (rules : List PlanRule) (i : ℕ) where
   pub rules-next : (rule : PlanRule) → i < length rules → rule ≡ get_or rules i rule →
       first_rule T count L n i (drop i rules)
       ≡ bind (matching T L rule.context n) (λ matches.
-      if matches then bind (fired_by T L n count rule.lets rule.assertions) (λ findings. done (Fired i findings))
+      if matches then bind (fired_by T L n count rule.subject rule.lets rule.assertions) (λ findings. done (Fired i findings))
       else first_rule T count L n (i + 1) (drop (i + 1) rules))
   rules-next rule below is = ap (first_rule T count L n i) (next_item rules i rule below is)
 

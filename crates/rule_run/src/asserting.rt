@@ -10,6 +10,7 @@ ghost use Rattle.xp_meaning.specs.Results.{shown};
 ghost use Rattle.sch_units.specs.Firing.{all_asserted, asserted, found, is_found};
 ghost use Rattle.sch_units.specs.Messages.{alone};
 
+use crate::placing::own_or;
 use crate::validator::Validator;
 use sch_base::ItemList;
 use sch_compiled::{Finding, FindingList, PlanAssert};
@@ -17,24 +18,26 @@ use std::alloc::AllocError;
 use std::sync::ledger::Ledger;
 use xp_meaning::Lets;
 use xp_outcome::{Recorder, Steps};
+use xp_typed_tree::Typed;
 use xp_values::{EvalError, to_truth};
 
 impl Validator<'_> {
-    /// The findings of assertions, in order.
+    /// The findings of the assertions of a rule with a subject or none, in order.
     pub(crate) fn all_asserted<L: Ledger>(
         &self,
+        subject: &Option<Typed>,
         assertions: &[PlanAssert],
         lets: &Lets,
         reads: &mut Recorder,
         steps: &mut Steps<L>,
     ) -> Result<FindingList, EvalError>
         requires { length assertions.now < 2 ^ 32 }
-        ensures { Ran (all_asserted self.now.caller.tree.now.nodes lets.now self.now.node assertions.now)
+        ensures { Ran (all_asserted self.now.caller.tree.now.nodes lets.now self.now.node subject.now assertions.now)
             (shown result) reads.old reads.new steps.old steps.new }
     {
         let mut findings = ItemList::new(self.caller.alloc);
         for (i, assertion) in assertions.iter().enumerate() {
-            let finding = self.asserted(i as u32, assertion, lets, reads, steps)?;
+            let finding = self.asserted(subject, i as u32, assertion, lets, reads, steps)?;
             push_found(&mut findings, finding)?;
         }
         Ok(findings)
@@ -43,17 +46,18 @@ impl Validator<'_> {
     /// The finding of an assertion, counted from 0, if there is one.
     fn asserted<L: Ledger>(
         &self,
+        subject: &Option<Typed>,
         i: u32,
         assertion: &PlanAssert,
         lets: &Lets,
         reads: &mut Recorder,
         steps: &mut Steps<L>,
     ) -> Result<Option<Finding>, EvalError>
-        ensures { Ran (asserted self.now.caller.tree.now.nodes lets.now self.now.node i assertion.now)
+        ensures { Ran (asserted self.now.caller.tree.now.nodes lets.now self.now.node subject.now i assertion.now)
             (shown result) reads.old reads.new steps.old steps.new }
     {
         if self.is_finding(assertion, lets, reads, steps)? {
-            let finding = self.found(i, assertion, lets, reads, steps)?;
+            let finding = self.found(subject, i, assertion, lets, reads, steps)?;
             return Ok(Some(finding));
         }
         Ok(None)
@@ -76,35 +80,33 @@ impl Validator<'_> {
         Ok(is_found(assertion.report, truth))
     }
 
-    /// The finding of an assertion: the texts of its diagnostics, then its message.
+    /// The finding of an assertion: where it is, the texts of its diagnostics and of its properties, then its message.
     fn found<L: Ledger>(
         &self,
+        subject: &Option<Typed>,
         i: u32,
         assertion: &PlanAssert,
         lets: &Lets,
         reads: &mut Recorder,
         steps: &mut Steps<L>,
     ) -> Result<Finding, EvalError>
-        ensures { Ran (found self.now.caller.tree.now.nodes lets.now self.now.node i assertion.now)
+        ensures { Ran (found self.now.caller.tree.now.nodes lets.now self.now.node subject.now i assertion.now)
             (shown result) reads.old reads.new steps.old steps.new }
     {
-        let diagnostics = self.diagnostic_texts(
-            assertion.diagnostics.as_slice(),
-            lets,
-            reads,
-            steps,
-        )?;
-        match self.message(assertion.message.as_slice(), lets, reads, steps) {
-            Ok(message) => Ok(Finding {
-                assertion: i,
-                diagnostics,
-                message,
-            }),
-            Err(error) => {
-                drop(diagnostics);
-                Err(error)
-            }
-        }
+        let own = own_or(&assertion.subject, subject);
+        let place = self.placed_at(own, lets, reads, steps)?;
+        let named = assertion.diagnostics.as_slice();
+        let diagnostics = self.diagnostic_texts(named, lets, reads, steps)?;
+        let named = assertion.properties.as_slice();
+        let properties = self.diagnostic_texts(named, lets, reads, steps)?;
+        let message = self.message(assertion.message.as_slice(), lets, reads, steps)?;
+        Ok(Finding {
+            assertion: i,
+            at: place,
+            diagnostics,
+            properties,
+            message,
+        })
     }
 }
 

@@ -8,6 +8,7 @@ mod kept_matches;
 mod letting;
 mod messages;
 mod pairing;
+mod placing;
 mod rules;
 mod validator;
 

@@ -1,4 +1,4 @@
-//! The texts of messages and of diagnostics (ISO/IEC 19757-3, clauses 5.4 and 5.5).
+//! The texts of messages, of diagnostics and of properties (ISO/IEC 19757-3, clauses 5.4 and 5.5).
 
 ghost use Rattle.std.specs.Prelude.{◌≡◌, Some, string_bytes};
 ghost use Rattle.doc_tree.specs.QNames.{written_in};
@@ -26,7 +26,7 @@ use xp_typed_tree::{Function, Typed};
 use xp_values::{EvalError, EvalFault, Value};
 
 impl Validator<'_> {
-    /// The texts of diagnostics, in order.
+    /// The texts of diagnostics, or of properties, in order.
     pub(crate) fn diagnostic_texts<L: Ledger>(
         &self,
         diagnostics: &[PlanDiagnostic],

@@ -89,13 +89,14 @@ impl Validator<'_> {
         steps: &mut Steps<L>,
     ) -> Result<Outcome, EvalError>
         requires { IsRuleCounted self.now.count rule.now }
-        ensures ran { Ran (bind (fired_by self.now.caller.tree.now.nodes lets.old self.now.node self.now.count rule.now.lets rule.now.assertions)
+        ensures ran { Ran (bind (fired_by self.now.caller.tree.now.nodes lets.old self.now.node self.now.count rule.now.subject rule.now.lets rule.now.assertions)
             (λ findings. done (outcomes.Fired r findings)))
             (shown result) reads.old reads.new steps.old steps.new }
         ensures below { slots_below self.now.count lets.new ≡ slots_below self.now.count lets.old }
     {
         self.set_lets(rule.lets.as_slice(), lets, reads, steps)?;
-        let findings = self.all_asserted(rule.assertions.as_slice(), lets, reads, steps)?;
+        let assertions = rule.assertions.as_slice();
+        let findings = self.all_asserted(&rule.subject, assertions, lets, reads, steps)?;
         Ok(Outcome::Fired { rule: r, findings })
     }
 

@@ -24,7 +24,7 @@ use Rattle.sch_expansion.specs.Flat.{flat_schema}
 use Rattle.sch_references.specs.Cycles.{leads_back}
 use Rattle.sch_references.specs.Extends.{abstract_rules}
 use Rattle.sch_references.specs.Places.{BrokenAmong, IsFirstAmong, NoneBroken, Place, first_among}
-use Rattle.sch_references.specs.References.{Known, active_place, assertion_place, cyclic_rule, extends_place, head_place, item_places, known_in, origin_place, pattern_places, phase_places, places_with, reference_places, rule_places, unknown_diagnostic, unknown_origin, unknown_pattern, unknown_phase, unknown_rule}
+use Rattle.sch_references.specs.References.{Known, active_place, assertion_place, cyclic_rule, extends_place, head_place, item_places, known_in, origin_place, pattern_places, phase_places, places_with, reference_places, rule_places, unknown_diagnostic, unknown_origin, unknown_pattern, unknown_phase, unknown_property, unknown_rule}
 use Rattle.sch_references.proofs.FirstLemmas.{Rising, Single, first-found, first-nothing, first-some, none-broken, rising-append, rising-flat_map}
 use Rattle.sch_references.proofs.WalkLemmas.{flat_map-one}
 use Rattle.sch_sizes.specs.Sizes.{size_places, size_rules}
@@ -33,7 +33,7 @@ use Rattle.sch_abstract.specs.FirstFault.{FirstFaultAgrees, IsFirstFault, first_
 -- the rules of each place stand by number
 rising-item : (known : Known) (rules : List RawRule) (rule : RawRule) (its : RawItem) → Rising (item_places known rules rule its)
 rising-item known rules rule (item.Let _) = tt
-rising-item known rules rule (item.Assertion _) = ((lit≤ tt, tt), tt)
+rising-item known rules rule (item.Assertion _) = ((lit≤ tt, (lit≤ tt, tt)), tt)
 rising-item known rules rule (item.Extends _ _) = ((lit≤ tt, (lit≤ tt, tt)), tt)
 
 rising-rule : (known : Known) (rules : List RawRule) (rule : RawRule) → Rising (rule_places known rules rule)
@@ -81,7 +81,8 @@ module _ (T : Table) (known : Known) (rules : List RawRule) where
       (cond (rule == 13) (or_empty (unknown_pattern known (active_of T n)))
       (cond (rule == 14) (or_empty (unknown_phase known (said T n (codes "defaultPhase"))))
       (cond (rule == 15) (or_empty (unknown_diagnostic known (ids_in (said_text T n (codes "diagnostics")))))
-      (said_text T n (codes "rule")))))
+      (cond (rule == 32) (or_empty (unknown_property known (ids_in (said_text T n (codes "properties")))))
+      (said_text T n (codes "rule"))))))
 
   abbrev AllTold : List Place → Type 0
   AllTold places = (rule n : ℕ) (name : List ℕ) → BrokenAmong places rule n name → name ≡ told_name rule n
@@ -108,6 +109,15 @@ module _ (T : Table) (known : Known) (rules : List RawRule) where
       (λ (z : ⊥). absurd z) x.1)
       (λ (z : ⊥). absurd z) b
 
+  -- a place of two rules
+  told-two : (number after n : ℕ) (told other : Option (List ℕ)) → ((name : List ℕ) → told ≡ Some name → name ≡ told_name number n) →
+      ((name : List ℕ) → other ≡ Some name → name ≡ told_name after n) → AllTold (record { node = n; rules = (number, told) ∷ (after, other) ∷ [] } ∷ [])
+  told-two number after n told other is also = λ rule m name b. ⊎_elim
+      (λ (x : (n ≡ m) × Gives ((number, told) ∷ (after, other) ∷ []) rule name). ⊎_elim
+      (λ (y : (number ≡ rule) × (told ≡ Some name)). told-one number n told is rule m name (inl (x.0, inl y)))
+      (λ (z : Gives ((after, other) ∷ []) rule name). told-one after n other also rule m name (inl (x.0, z))) x.1)
+      (λ (z : ⊥). absurd z) b
+
   told-active : (n : ℕ) → AllTold (active_place known (active_of T n) ∷ [])
   told-active n = told-one 13 n (unknown_pattern known (active_of T n)) (λ name h. held-some (unknown_pattern known (active_of T n)) name h)
 
@@ -115,22 +125,18 @@ module _ (T : Table) (known : Known) (rules : List RawRule) where
   told-head n = told-one 14 n (unknown_phase known (said T n (codes "defaultPhase"))) (λ name h. held-some (unknown_phase known (said T n (codes "defaultPhase"))) name h)
 
   told-assertion : (report : Bool) (n : ℕ) → AllTold (assertion_place known (assertion_of T report n) ∷ [])
-  told-assertion report n = told-one 15 n (unknown_diagnostic known (ids_in (said_text T n (codes "diagnostics"))))
-      (λ name h. held-some (unknown_diagnostic known (ids_in (said_text T n (codes "diagnostics")))) name h)
+  told-assertion report n =
+      let diagnostics = unknown_diagnostic known (ids_in (said_text T n (codes "diagnostics"))) in
+      let properties = unknown_property known (ids_in (said_text T n (codes "properties"))) in
+      told-two 15 32 n diagnostics properties (λ name h. held-some diagnostics name h) (λ name h. held-some properties name h)
 
   told-origin : (n : ℕ) → AllTold (origin_place known (pattern_of T n) ∷ [])
   told-origin n = told-one 12 n (unknown_origin known (said T n (codes "is-a"))) (λ name h. origin-name known (said T n (codes "is-a")) name h)
 
   told-extends : (rule : RawRule) (n : ℕ) → AllTold (extends_place known rules rule n (said_text T n (codes "rule")) ∷ [])
-  told-extends rule n = λ number m name b. ⊎_elim
-      (λ (x : (n ≡ m) × Gives (extends_place known rules rule n (said_text T n (codes "rule"))).rules number name). ⊎_elim
-      (λ (y : (10 ≡ number) × (unknown_rule known (said_text T n (codes "rule")) ≡ Some name)).
-      subst (λ r. name ≡ told_name r m) y.0 (subst (λ k. name ≡ told_name 10 k) x.0 (name-if _ (said_text T n (codes "rule")) name y.1)))
-      (λ (z : ((11 ≡ number) × (cyclic_rule rules rule (said_text T n (codes "rule")) ≡ Some name)) ⊎ ⊥). ⊎_elim
-      (λ (y : (11 ≡ number) × (cyclic_rule rules rule (said_text T n (codes "rule")) ≡ Some name)).
-      subst (λ r. name ≡ told_name r m) y.0 (subst (λ k. name ≡ told_name 11 k) x.0 (name-if (leads_back rules rule (said_text T n (codes "rule"))) (said_text T n (codes "rule")) name y.1)))
-      (λ (w : ⊥). absurd w) z) x.1)
-      (λ (z : ⊥). absurd z) b
+  told-extends rule n =
+      let its = said_text T n (codes "rule") in
+      told-two 10 11 n (unknown_rule known its) (cyclic_rule rules rule its) (λ name h. name-if _ its name h) (λ name h. name-if (leads_back rules rule its) its name h)
 
   told-items : (rule : RawRule) (ns : List ℕ) → AllTold (flat_map (item_places known rules rule) (flat_map (item_at T) ns))
   told-items rule [] = λ number n name b. absurd b

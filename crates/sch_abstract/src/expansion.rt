@@ -13,9 +13,9 @@ use sch_references::check_references;
 use sch_sizes::check_sizes;
 use std::alloc::Global;
 
-/// The schema without abstract parts, or the first rule from 10 to 19 that the schema breaks.
+/// The schema without abstract parts, or the first of the rules 10 to 19 and 32 that the schema breaks.
 ///
-/// The first broken rule from 10 to 15 is the one at the element with the least node number, and there the one with the
+/// The first broken rule of 10 to 15 and 32 is the one at the element with the least node number, and there the one with the
 /// least number: node numbers are taken to stand in document order, as those of a loaded document do, since a schema as it
 /// is read keeps no other order between its phases and its patterns. Where none of these rules is broken, the first is the
 /// one of the others with the least number; how large the schema is without abstract parts is counted before it is made.
@@ -34,6 +34,7 @@ pub fn expand(alloc: Global, raw: RawSchema) -> Result<FlatSchema, SchemaError>
         phases: raw.phases,
         patterns,
         diagnostics: raw.diagnostics,
+        properties: raw.properties,
     })
 }
 

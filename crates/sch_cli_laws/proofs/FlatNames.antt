@@ -22,7 +22,7 @@ use Rattle.sch_model.specs.declared.parts.Part.{Part}
 use Rattle.sch_model.specs.declared.parts.Part.TheVariants.{Chars, ValueOf, Name as NameOf}
 use Rattle.sch_model.specs.declared.parts.Phase.{Phase}
 use Rattle.sch_rules.specs.Words.{schematron}
-use Rattle.sch_flat.specs.FlatDocument.{active_events, assertion_attributes, assertion_events, assertion_name, characters, diagnostic_events, diagnostics_events, element, flat_events, held_events, let_events, ns_events, part_events, pattern_events, phase_events, rule_events, title_events}
+use Rattle.sch_flat.specs.FlatDocument.{active_events, assertion_attributes, assertion_events, assertion_name, characters, diagnostics_events, element, flat_events, held_events, let_events, note_events, notes_events, ns_events, part_events, pattern_events, phase_events, rule_attributes, rule_events, title_events}
 use Rattle.sch_flat_laws.specs.Readable.{Each}
 use Rattle.sch_cli_laws.proofs.MadeLines.{each-append, each-flat, opens-each}
 use Rattle.sch_cli_laws.proofs.PlainWalks.{HasNoInclude}
@@ -72,8 +72,7 @@ plain-assertion assertion =
 
 plain-rule : (rule : FlatRule) → Plain (rule_events rule)
 plain-rule rule =
-    plain-element (codes "sch:rule")
-    ((codes "id", rule.id) ∷ (codes "context", Some rule.context) ∷ (codes "role", rule.role) ∷ (codes "flag", rule.flag) ∷ [])
+    plain-element (codes "sch:rule") (rule_attributes rule)
     (flat_map let_events rule.lets ++ flat_map assertion_events rule.assertions) refl
     (each-append PlainEvent (flat_map let_events rule.lets) (flat_map assertion_events rule.assertions)
     (each-flat PlainEvent let_events (λ decl. (refl, (tt, tt))) rule.lets) (each-flat PlainEvent assertion_events plain-assertion rule.assertions))
@@ -84,15 +83,15 @@ plain-pattern pattern =
     (each-append PlainEvent (flat_map let_events pattern.lets) (flat_map rule_events pattern.rules)
     (each-flat PlainEvent let_events (λ decl. (refl, (tt, tt))) pattern.lets) (each-flat PlainEvent rule_events plain-rule pattern.rules))
 
-plain-diagnostic : (diagnostic : Diagnostic) → Plain (diagnostic_events diagnostic)
-plain-diagnostic diagnostic =
-    plain-element (codes "sch:diagnostic") ((codes "id", Some diagnostic.id) ∷ []) (flat_map part_events diagnostic.message) refl
-    (each-flat PlainEvent part_events plain-part diagnostic.message)
+-- diagnostics or properties, by the names of their elements
+plain-note : (name : List ℕ) → IsOther (local_part name) → (note : Diagnostic) → Plain (note_events name note)
+plain-note name is note =
+    plain-element name ((codes "id", Some note.id) ∷ []) (flat_map part_events note.message) is (each-flat PlainEvent part_events plain-part note.message)
 
-plain-diagnostics : (diagnostics : List Diagnostic) → Plain (diagnostics_events diagnostics)
-plain-diagnostics [] = tt
-plain-diagnostics (d ∷ ds) =
-    plain-element (codes "sch:diagnostics") [] (flat_map diagnostic_events (d ∷ ds)) refl (each-flat PlainEvent diagnostic_events plain-diagnostic (d ∷ ds))
+plain-notes : (group name : List ℕ) → IsOther (local_part group) → IsOther (local_part name) → (notes : List Diagnostic) → Plain (notes_events group name notes)
+plain-notes group name holds is [] = tt
+plain-notes group name holds is (d ∷ ds) =
+    plain-element group [] (flat_map (note_events name) (d ∷ ds)) holds (each-flat PlainEvent (note_events name) (plain-note name is) (d ∷ ds))
 
 plain-title : (title : Option (List ℕ)) → Plain (title_events title)
 plain-title None = tt
@@ -105,7 +104,8 @@ plain-held schema =
     (each-append PlainEvent (flat_map let_events schema.lets) _ (each-flat PlainEvent let_events (λ decl. (refl, (tt, tt))) schema.lets)
     (each-append PlainEvent (flat_map phase_events schema.phases) _ (each-flat PlainEvent phase_events plain-phase schema.phases)
     (each-append PlainEvent (flat_map pattern_events schema.patterns) _ (each-flat PlainEvent pattern_events plain-pattern schema.patterns)
-    (plain-diagnostics schema.diagnostics)))))
+    (each-append PlainEvent (diagnostics_events schema.diagnostics) _ (plain-notes (codes "sch:diagnostics") (codes "sch:diagnostic") refl refl schema.diagnostics)
+    (plain-notes (codes "sch:properties") (codes "sch:property") refl refl schema.properties))))))
 
 plain-document : (schema : FlatSchema) → Plain (flat_events schema)
 plain-document schema = (refl, each-append PlainEvent (held_events schema) (event.End (codes "sch:schema") ∷ []) (plain-held schema) (tt, tt))

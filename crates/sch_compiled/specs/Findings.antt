@@ -1,13 +1,34 @@
--- The outcomes of nodes under patterns, as they are put and cleared.
-use Rattle.std.specs.Prelude.{◌≡◌, ◌≢◌, ℕ, ◌<◌, Bool, true, false, ◌⊎◌, List, filter, Option, None, Some}
+-- The findings of assertions, and the outcomes of nodes under patterns, as they are put and cleared.
+use Rattle.std.specs.Prelude.{◌≡◌, ◌≢◌, ℕ, ◌<◌, Bool, true, false, ◌⊎◌, List, length, filter, slice_get, All, IsSomeAnd, Option, None, Some}
 use Rattle.std.specs.FinMap as map
 use Rattle.std.specs.Ordering.{nat_cmp, on, then_cmp}
 use Rattle.std.specs.declared.cmp.Ordering.{Ordering}
 use Rattle.doc_tree.specs.Lists.{mem}
-use Rattle.doc_tree.specs.Table.{Table}
+use Rattle.doc_tree.specs.Table.{Table, is_live}
 use Rattle.doc_tree.specs.Walks.{order}
+use Rattle.sch_compiled.specs.declared.parts.PlanAssert.{PlanAssert}
+use Rattle.sch_compiled.specs.declared.findings.Finding.{Finding}
 use Rattle.sch_compiled.specs.declared.findings.Outcome.{Outcome}
 use Rattle.sch_compiled.specs.declared.findings.Outcome.TheVariants.{NoRule, Fired, Fault}
+
+-- a finding has a text for each diagnostic and for each property that the assertion names
+pub record HasTextsOf (finding : Finding) (assertion : PlanAssert) : Type 0 where
+  pub diagnostics : length finding.diagnostics ≡ length assertion.diagnostics
+  pub properties : length finding.properties ≡ length assertion.properties
+
+-- a finding is one of some assertions: it has the texts of the one that it names
+abbrev pub IsFindingOf : List PlanAssert → Finding → Type 0
+IsFindingOf assertions finding = IsSomeAnd (slice_get assertions finding.assertion) (HasTextsOf finding)
+
+-- a finding is at a live node
+abbrev pub IsAtLiveNode : Table → Finding → Type 0
+IsAtLiveNode T finding = is_live T finding.at ≡ true
+
+-- so is all that an outcome finds
+abbrev pub FindsAtLiveNodes : Table → Outcome → Type 0
+FindsAtLiveNodes T NoRule = Unit {0}
+FindsAtLiveNodes T (Fired rule findings) = All (IsAtLiveNode T) findings
+FindsAtLiveNodes T (Fault kind) = Unit {0}
 
 -- the order of the pairs of a pattern and a node: by node, then by pattern
 abbrev pub pair_cmp : (ℕ × ℕ) → (ℕ × ℕ) → Ordering

@@ -69,13 +69,17 @@ paths_in (Chars text) = []
 paths_in (ValueOf expr) = []
 paths_in (Name path) = option_to_list path
 
--- the parts of the texts of an assertion: those of its diagnostics, then those of its message
+-- the parts of the texts of an assertion: those of its diagnostics, then of its properties, then of its message
 abbrev pub parts_of : PlanAssert → List PlanPart
-parts_of assertion = flat_map (λ diagnostic. diagnostic.message) assertion.diagnostics ++ assertion.message
+parts_of assertion = flat_map (λ diagnostic. diagnostic.message) (assertion.diagnostics ++ assertion.properties) ++ assertion.message
 
--- the expressions of an assertion: its test, then those of its texts
+-- the expressions of an assertion: its test, its subject, then those of its texts
 abbrev pub expressions_of : PlanAssert → List TypedTree
-expressions_of assertion = assertion.test ∷ flat_map expressions_in (parts_of assertion)
+expressions_of assertion = assertion.test ∷ option_to_list assertion.subject ++ flat_map expressions_in (parts_of assertion)
+
+-- the subjects in a rule: its own, then those of its assertions
+abbrev pub subjects_of : PlanRule → List TypedTree
+subjects_of rule = option_to_list rule.subject ++ flat_map (λ assertion. option_to_list assertion.subject) rule.assertions
 
 -- a let in force belongs to the schema, the phase, or a pattern that is there
 abbrev pub IsOwned : Plan → LetInForce → Type 0
@@ -95,6 +99,11 @@ pub record IsSound (plan : Plan) : Type 0 where
   -- an assertion sees all lets of its rule
   pub assertion_slots : (p r : ℕ) (rule : PlanRule) → HasRule plan p r rule →
       AreSeen (seen_behind plan p rule.lets) (flat_map slots_in (flat_map expressions_of rule.assertions))
+  -- the rule's own subject sees them too
+  pub subject_slots : (p r : ℕ) (rule : PlanRule) → HasRule plan p r rule →
+      AreSeen (seen_behind plan p rule.lets) (flat_map slots_in (option_to_list rule.subject))
+  -- subjects are node-sets
+  pub subjects : (p r : ℕ) (rule : PlanRule) → HasRule plan p r rule → All (λ subject. type_of subject ≡ types.NodeSet) (subjects_of rule)
   -- the paths of names are node-sets
   pub paths : (p r : ℕ) (rule : PlanRule) → HasRule plan p r rule →
       All (λ path. type_of path ≡ types.NodeSet) (flat_map paths_in (flat_map parts_of rule.assertions))

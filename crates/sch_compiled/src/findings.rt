@@ -17,8 +17,12 @@ use xp_values::EvalFault;
 pub struct Finding {
     /// Which assertion of the rule, counted from 0.
     pub assertion: u32,
+    /// The node that the finding is at: the first that the subject selects, or the context node.
+    pub at: NodeId,
     /// The texts of the diagnostics that the assertion names, in their order.
     pub diagnostics: TextList,
+    /// The texts of the properties that the assertion names, in their order.
+    pub properties: TextList,
     /// The text of the assertion's message.
     pub message: Text,
 }

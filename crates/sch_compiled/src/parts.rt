@@ -21,7 +21,7 @@ pub enum PlanPart {
     Name(Option<Typed>),
 }
 
-/// A message that goes with the findings of the assertions which name it.
+/// A diagnostic or a property: a message that goes with the findings of the assertions which name it.
 #[derive(Drop)]
 pub struct PlanDiagnostic {
     pub id: Text,
@@ -39,8 +39,12 @@ pub struct PlanAssert {
     /// The test as the schema writes it.
     pub test_text: Text,
     pub test: Typed,
+    /// What selects the node that a finding is at; None where the rule's subject does.
+    pub subject: Option<Typed>,
     /// The diagnostics that it names, in their order.
     pub diagnostics: PlanDiagnosticList,
+    /// The properties that it names, in their order.
+    pub properties: PlanDiagnosticList,
     pub message: PlanPartList,
 }
 
@@ -53,6 +57,8 @@ pub struct PlanRule {
     /// The context as the schema writes it.
     pub context_text: Text,
     pub context: TypedPattern,
+    /// The subject of the assertions that have none of their own.
+    pub subject: Option<Typed>,
     pub role: Option<Text>,
     pub flag: Option<Text>,
     pub lets: PlanLetList,

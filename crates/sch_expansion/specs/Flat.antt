@@ -46,7 +46,7 @@ part_with change (Name node path) = Name node (option_map change path)
 
 abbrev pub assertion_with : (List ℕ → List ℕ) → Assertion → Assertion
 assertion_with change assertion =
-    record assertion { test = change assertion.test; message = map (part_with change) assertion.message }
+    record assertion { test = change assertion.test; subject = option_map change assertion.subject; message = map (part_with change) assertion.message }
 
 -- a rule with these items in the place of its own, and its expressions changed
 abbrev pub rule_with : (List ℕ → List ℕ) → RawRule → List RawItem → FlatRule
@@ -54,6 +54,7 @@ rule_with change rule items = record {
   node = rule.node;
   id = rule.id;
   context = change (text_or_empty rule.context);
+  subject = option_map change rule.subject;
   role = rule.role;
   flag = rule.flag;
   lets = map (let_with change) (flat_map let_in items);
@@ -113,4 +114,5 @@ flat_schema schema = record {
   phases = schema.phases;
   patterns = map (flat_pattern schema) (concrete_patterns schema);
   diagnostics = schema.diagnostics;
+  properties = schema.properties;
 }

@@ -85,11 +85,19 @@ fn copy_texts(alloc: Global, texts: &[Text]) -> Result<TextList, AllocError>
     Ok(its)
 }
 
+/// What an assertion tells besides its message, copied: where it tells it, and the ids that it names.
+#[derive(Drop)]
+struct Named {
+    subject: Option<Text>,
+    diagnostics: TextList,
+    properties: TextList,
+}
+
 /// What an assertion tests and tells, copied.
 #[derive(Drop)]
 struct Told {
     test: Text,
-    diagnostics: TextList,
+    named: Named,
     message: PartList,
 }
 
@@ -122,7 +130,10 @@ impl<'a> Copier<'a> {
     }
 
     /// An expression, where there is one.
-    fn optional_expression(&self, text: &Option<Text>) -> Result<Option<Text>, AllocError>
+    pub(crate) fn optional_expression(
+        &self,
+        text: &Option<Text>,
+    ) -> Result<Option<Text>, AllocError>
         ensures { IfOk result (λ its. its ≡ option_map (change_of self.now) text.now) }
     {
         match text {
@@ -183,22 +194,51 @@ impl<'a> Copier<'a> {
         Ok(its)
     }
 
-    /// What an assertion tests and tells.
-    fn told(&self, assertion: &Assertion) -> Result<Told, AllocError>
-        ensures test { IfOk result (λ its. its.test ≡ change_of self.now assertion.now.test) }
+    /// What an assertion tells besides its message.
+    fn named(&self, assertion: &Assertion) -> Result<Named, AllocError>
+        ensures subject { IfOk result (λ its. its.subject ≡ option_map (change_of self.now) assertion.now.subject) }
         ensures diagnostics { IfOk result (λ its. its.diagnostics ≡ assertion.now.diagnostics) }
-        ensures message { IfOk result (λ its. its.message ≡ map (part_with (change_of self.now)) assertion.now.message) }
+        ensures properties { IfOk result (λ its. its.properties ≡ assertion.now.properties) }
     {
-        let test = self.expression(assertion.test.as_str())?;
+        let subject = self.optional_expression(&assertion.subject)?;
         match copy_texts(self.alloc, assertion.diagnostics.as_slice()) {
-            Ok(diagnostics) => match self.parts(assertion.message.as_slice()) {
-                Ok(message) => Ok(Told {
-                    test,
+            Ok(diagnostics) => match copy_texts(self.alloc, assertion.properties.as_slice()) {
+                Ok(properties) => Ok(Named {
+                    subject,
                     diagnostics,
-                    message,
+                    properties,
                 }),
                 Err(error) => {
                     drop(diagnostics);
+                    drop(subject);
+                    Err(error)
+                }
+            },
+            Err(error) => {
+                drop(subject);
+                Err(error)
+            }
+        }
+    }
+
+    /// What an assertion tests and tells.
+    fn told(&self, assertion: &Assertion) -> Result<Told, AllocError>
+        ensures test { IfOk result (λ its. its.test ≡ change_of self.now assertion.now.test) }
+        ensures subject { IfOk result (λ its. its.named.subject ≡ option_map (change_of self.now) assertion.now.subject) }
+        ensures diagnostics { IfOk result (λ its. its.named.diagnostics ≡ assertion.now.diagnostics) }
+        ensures properties { IfOk result (λ its. its.named.properties ≡ assertion.now.properties) }
+        ensures message { IfOk result (λ its. its.message ≡ map (part_with (change_of self.now)) assertion.now.message) }
+    {
+        let test = self.expression(assertion.test.as_str())?;
+        match self.named(assertion) {
+            Ok(named) => match self.parts(assertion.message.as_slice()) {
+                Ok(message) => Ok(Told {
+                    test,
+                    named,
+                    message,
+                }),
+                Err(error) => {
+                    drop(named);
                     drop(test);
                     Err(error)
                 }
@@ -223,7 +263,9 @@ impl<'a> Copier<'a> {
                 role: labels.role,
                 flag: labels.flag,
                 test: told.test,
-                diagnostics: told.diagnostics,
+                subject: told.named.subject,
+                diagnostics: told.named.diagnostics,
+                properties: told.named.properties,
                 message: told.message,
             }),
             Err(error) => {

@@ -1,6 +1,6 @@
 //! The patterns of a schema without abstract parts.
 
-ghost use Rattle.std.specs.Prelude.{◌≡◌, Some, filter, map, not, IfOk};
+ghost use Rattle.std.specs.Prelude.{◌≡◌, Some, filter, map, not, IfOk, option_map};
 ghost use Rattle.sch_references.specs.Extends.{abstract_rules};
 ghost use Rattle.sch_references.specs.Order.{IsOrderOf};
 ghost use Rattle.sch_expansion.specs.Flat.{bare_pattern, concrete_patterns, flat_pattern, flat_rule, instance_of, pattern_among, pattern_from, text_or_empty};
@@ -31,26 +31,36 @@ struct Flattener<'s, 'o, 'a> {
 struct RuleHead {
     id: Option<Text>,
     context: Text,
+    subject: Option<Text>,
     role: Option<Text>,
     flag: Option<Text>,
 }
 
 impl<'s, 'o, 'a> Flattener<'s, 'o, 'a> {
-    /// The context and the labels of a rule.
+    /// The context, the subject and the labels of a rule.
     fn rule_head(&self, copier: &Copier<'_>, rule: &RawRule) -> Result<RuleHead, AllocError>
         ensures context { IfOk result (λ head. head.context ≡ change_of copier.now (text_or_empty rule.now.context)) }
+        ensures subject { IfOk result (λ head. head.subject ≡ option_map (change_of copier.now) rule.now.subject) }
         ensures id { IfOk result (λ head. head.id ≡ rule.now.id) }
         ensures role { IfOk result (λ head. head.role ≡ rule.now.role) }
         ensures flag { IfOk result (λ head. head.flag ≡ rule.now.flag) }
     {
         let context = copier.expression_or_empty(&rule.context)?;
-        match copy_labels(self.alloc, &rule.id, &rule.role, &rule.flag) {
-            Ok(labels) => Ok(RuleHead {
-                id: labels.id,
-                context,
-                role: labels.role,
-                flag: labels.flag,
-            }),
+        match copier.optional_expression(&rule.subject) {
+            Ok(subject) => match copy_labels(self.alloc, &rule.id, &rule.role, &rule.flag) {
+                Ok(labels) => Ok(RuleHead {
+                    id: labels.id,
+                    context,
+                    subject,
+                    role: labels.role,
+                    flag: labels.flag,
+                }),
+                Err(error) => {
+                    drop(subject);
+                    drop(context);
+                    Err(error)
+                }
+            },
             Err(error) => {
                 drop(context);
                 Err(error)
@@ -68,6 +78,7 @@ impl<'s, 'o, 'a> Flattener<'s, 'o, 'a> {
                 node: rule.node,
                 id: head.id,
                 context: head.context,
+                subject: head.subject,
                 role: head.role,
                 flag: head.flag,
                 lets: parts.lets,

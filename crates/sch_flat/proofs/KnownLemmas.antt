@@ -1,6 +1,7 @@
 -- How large an element is whose attribute has a text, by the element with the empty text in its place.
-use Rattle.std.proofs.Common.{arith, ◌≡◌, ℕ, ◌+◌, List, [], ◌∷◌, ◌++◌, length, Option, None, Some, sym, ap, ◌∙◌, length-append}
+use Rattle.std.proofs.Common.{arith, ◌≡◌, ℕ, ◌+◌, List, [], ◌∷◌, ◌++◌, length, Option, None, Some, option_map, sym, ap, ◌∙◌, length-append}
 use Rattle.std.proofs.lemmas.List.Elements.{filter-append}
+use Rattle.std.specs.Option.{unwrap_or}
 use Rattle.name_scopes.specs.Declarations.{is_plain, plain_attrs}
 use Rattle.pyx_core.specs.declared.event.Attr.{Attr}
 use Rattle.pyx_core.specs.declared.event.Event.{Event}
@@ -70,3 +71,28 @@ known name key value before after held len size more result l s m r =
     r ∙ ap (λ z. sum_of z more) s
     ∙ ap (sum_of (size_of (element name (before ++ (key, Some []) ∷ after) held))) (m ∙ ap (λ n. of_counts n 0) l)
     ∙ text_apart name key value before after held
+
+-- an attribute that may be absent: nothing is added then
+same_size : (events : List Event) → sum_of (size_of events) (of_counts 0 0) ≡ size_of events
+same_size events = sized_sum (bytes_of events) 0 (nodes_of events) 0 ∙ sized_is (omega arith) (omega arith)
+
+optional_apart : (name key : List ℕ) (value : Option (List ℕ)) (before after : Attributes) (held : List Event) →
+    sum_of (size_of (element name (before ++ (key, option_map (λ _. []) value) ∷ after) held)) (of_counts (unwrap_or (option_map escapes_len value) 0) 0)
+    ≡ size_of (element name (before ++ (key, value) ∷ after) held)
+optional_apart name key None before after held = same_size (element name (before ++ (key, None) ∷ after) held)
+optional_apart name key (Some value) before after held = text_apart name key value before after held
+
+pub known_optional : (name key : List ℕ) (value : Option (List ℕ)) (before after : Attributes) (held : List Event) (len : Option ℕ) (more_len : ℕ) (size more result : FlatSize) →
+    len ≡ option_map escapes_len value → more_len ≡ unwrap_or len 0 →
+    size ≡ size_of (element name (before ++ (key, option_map (λ _. []) value) ∷ after) held) → more ≡ of_counts more_len 0 → result ≡ sum_of size more →
+    result ≡ size_of (element name (before ++ (key, value) ∷ after) held)
+known_optional name key value before after held len more_len size more result l u s m r =
+    r ∙ ap (λ z. sum_of z more) s
+    ∙ ap (sum_of (size_of (element name (before ++ (key, option_map (λ _. []) value) ∷ after) held)))
+    (m ∙ ap (λ n. of_counts n 0) (u ∙ ap (λ o. unwrap_or o 0) l))
+    ∙ optional_apart name key value before after held
+
+-- the blank that stands in the place of a value, by its length
+pub blank_is : (len : Option ℕ) (value : Option (List ℕ)) → len ≡ option_map escapes_len value → option_map {U = List ℕ} (λ _. []) len ≡ option_map {U = List ℕ} (λ _. []) value
+blank_is len None is = ap (option_map (λ _. [])) is
+blank_is len (Some value) is = ap (option_map (λ _. [])) is

@@ -1,9 +1,8 @@
 -- An element whose events are written one after another.
-use Rattle.std.proofs.Common.{arith, ◌≡◌, ◌==◌, true, false, List, [], ◌∷◌, ◌++◌, length, Result, OnOk, refl, ap, ◌∙◌, subst, append_assoc}
+use Rattle.std.proofs.Common.{arith, ◌≡◌, ℕ, ◌==◌, true, false, List, [], ◌∷◌, ◌++◌, length, Result, OnOk, refl, ap, ◌∙◌, subst, append_assoc}
 use Rattle.std.specs.List.{flat_map}
-use Rattle.std.specs.Prelude.{codes}
 use Rattle.sch_model.specs.declared.parts.Diagnostic.{Diagnostic}
-use Rattle.sch_flat.specs.FlatDocument.{diagnostic_events, diagnostics_events, element}
+use Rattle.sch_flat.specs.FlatDocument.{element, note_events, notes_events}
 use Rattle.pyx_core.specs.declared.event.Event.{Event}
 
 around : (old held : List Event) (first last : Event) → ((old ++ first ∷ []) ++ held) ++ last ∷ [] ≡ old ++ (first ∷ (held ++ last ∷ []))
@@ -40,11 +39,21 @@ in_order result old one two three four five new a b c d e f h1 h2 h3 h4 h5 h6 =
     ∙ append_assoc old a (b ++ (c ++ (d ++ (e ++ f)))))
     h6
 
-pub no_diagnostics : (ds : List Diagnostic) → (length ds == 0) ≡ true → diagnostics_events ds ≡ []
-no_diagnostics [] h = refl
-no_diagnostics (d ∷ ds) h = absurd (grind arith)
+-- two parts one after the other
+pub two_in_order : {T E : Type 0} (result : Result T E) (old one new a b : List Event) →
+    one ≡ old ++ a → OnOk result (new ≡ one ++ b) → OnOk result (new ≡ old ++ (a ++ b))
+two_in_order result old one new a b h1 h2 =
+    subst (λ (l : List Event). OnOk result (new ≡ l)) (ap (λ l. l ++ b) h1 ∙ append_assoc old a b) h2
 
-pub some_diagnostics : (ds : List Diagnostic) → (length ds == 0) ≡ false →
-    diagnostics_events ds ≡ element (codes "sch:diagnostics") [] (flat_map diagnostic_events ds)
-some_diagnostics [] h = absurd (cc)
-some_diagnostics (d ∷ ds) h = refl
+-- what is written of a list is written of one that is the same
+pub written : {A : Type 0} (f : List A → List Event) (old new : List Event) (xs ys : List A) → xs ≡ ys → new ≡ old ++ f xs → new ≡ old ++ f ys
+written f old new xs ys same h = h ∙ ap (λ l. old ++ f l) same
+
+pub no_notes : (group name : List ℕ) (notes : List Diagnostic) → (length notes == 0) ≡ true → notes_events group name notes ≡ []
+no_notes group name [] h = refl
+no_notes group name (d ∷ ds) h = absurd (grind arith)
+
+pub some_notes : (group name : List ℕ) (notes : List Diagnostic) → (length notes == 0) ≡ false →
+    notes_events group name notes ≡ element group [] (flat_map (note_events name) notes)
+some_notes group name [] h = absurd (cc)
+some_notes group name (d ∷ ds) h = refl

@@ -60,35 +60,46 @@ abbrev pub assertion_attributes : Assertion → List (List ℕ × Option (List �
 assertion_attributes assertion =
     (codes "id", assertion.id)
     ∷ (codes "test", Some assertion.test)
+    ∷ (codes "subject", assertion.subject)
     ∷ (codes "role", assertion.role)
     ∷ (codes "flag", assertion.flag)
-    ∷ (codes "diagnostics", id_list assertion.diagnostics) ∷ []
+    ∷ (codes "diagnostics", id_list assertion.diagnostics)
+    ∷ (codes "properties", id_list assertion.properties) ∷ []
 
 abbrev pub assertion_events : Assertion → List Event
 assertion_events assertion =
     element (assertion_name assertion.report) (assertion_attributes assertion) (flat_map part_events assertion.message)
 
-abbrev pub rule_events : FlatRule → List Event
-rule_events rule = element (codes "sch:rule")
-    ((codes "id", rule.id)
+abbrev pub rule_attributes : FlatRule → List (List ℕ × Option (List ℕ))
+rule_attributes rule =
+    (codes "id", rule.id)
     ∷ (codes "context", Some rule.context)
+    ∷ (codes "subject", rule.subject)
     ∷ (codes "role", rule.role)
-    ∷ (codes "flag", rule.flag) ∷ [])
+    ∷ (codes "flag", rule.flag) ∷ []
+
+abbrev pub rule_events : FlatRule → List Event
+rule_events rule = element (codes "sch:rule") (rule_attributes rule)
     (flat_map let_events rule.lets ++ flat_map assertion_events rule.assertions)
 
 abbrev pub pattern_events : FlatPattern → List Event
 pattern_events pattern = element (codes "sch:pattern") ((codes "id", pattern.id) ∷ [])
     (flat_map let_events pattern.lets ++ flat_map rule_events pattern.rules)
 
-abbrev pub diagnostic_events : Diagnostic → List Event
-diagnostic_events diagnostic = element (codes "sch:diagnostic") ((codes "id", Some diagnostic.id) ∷ [])
-    (flat_map part_events diagnostic.message)
+-- a diagnostic or a property, as an element of this name
+abbrev pub note_events : List ℕ → Diagnostic → List Event
+note_events name note = element name ((codes "id", Some note.id) ∷ []) (flat_map part_events note.message)
 
--- all diagnostics, in an element where there is one
+-- all of them as elements of a name, in an element of another name where there is one
+abbrev pub notes_events : List ℕ → List ℕ → List Diagnostic → List Event
+notes_events group name [] = []
+notes_events group name (note ∷ notes) = element group [] (flat_map (note_events name) (note ∷ notes))
+
 abbrev pub diagnostics_events : List Diagnostic → List Event
-diagnostics_events [] = []
-diagnostics_events (diagnostic ∷ diagnostics) =
-    element (codes "sch:diagnostics") [] (flat_map diagnostic_events (diagnostic ∷ diagnostics))
+diagnostics_events diagnostics = notes_events (codes "sch:diagnostics") (codes "sch:diagnostic") diagnostics
+
+abbrev pub properties_events : List Diagnostic → List Event
+properties_events properties = notes_events (codes "sch:properties") (codes "sch:property") properties
 
 -- the title, where there is one
 abbrev pub title_events : Option (List ℕ) → List Event
@@ -102,7 +113,8 @@ held_events schema = title_events schema.head.title
     ++ (flat_map let_events schema.lets
     ++ (flat_map phase_events schema.phases
     ++ (flat_map pattern_events schema.patterns
-    ++ diagnostics_events schema.diagnostics))))
+    ++ (diagnostics_events schema.diagnostics
+    ++ properties_events schema.properties)))))
 
 -- the document of a schema
 abbrev pub flat_events : FlatSchema → List Event

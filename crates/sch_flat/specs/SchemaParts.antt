@@ -12,4 +12,5 @@ schema_of parts patterns = record {
   phases = parts.phases.now;
   patterns = patterns;
   diagnostics = parts.diagnostics.now;
+  properties = parts.properties.now;
 }

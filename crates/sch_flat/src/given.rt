@@ -12,6 +12,8 @@ pub(crate) enum Given<'a> {
     Always(&'a str, &'a Text),
     /// Its name and value; no attribute where there is no value.
     IfAny(&'a str, &'a Option<Text>),
+    /// Its name and a value that is the same in each document; no attribute where there is no value.
+    IfFixed(&'a str, Option<&'a str>),
     /// Its name and ids, with a space between each two; no attribute without ids.
     Ids(&'a str, &'a TextList),
 }

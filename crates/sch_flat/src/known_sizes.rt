@@ -1,6 +1,7 @@
 //! How large elements are of whose texts the lengths are known: of each text the bytes with its escapes.
 
 ghost use Rattle.std.specs.Prelude.{◌≡◌, ℕ, List, [], ◌∷◌, Option, Some, codes, length, option_map};
+ghost use Rattle.std.specs.Option.{option_copied};
 ghost use Rattle.pyx_core.specs.declared.event.Event.{Event};
 ghost use Rattle.pyx_core.specs.Escapes.{escaped};
 ghost use Rattle.sch_model.specs.declared.parts.Assertion.{Assertion};
@@ -20,6 +21,26 @@ pub(crate) fn text_len(text: &Text) -> u64
     ensures { result ≡ escapes_len text.now }
 {
     escaped_len(text.as_str())
+}
+
+/// The bytes of a text with its escapes, where there is one.
+pub(crate) fn option_len(text: &Option<Text>) -> Option<u64>
+    ensures { result ≡ option_map escapes_len text.now }
+{
+    match text {
+        Some(text) => Some(text_len(text)),
+        None => None,
+    }
+}
+
+/// The empty text, where there is a length.
+fn blank(len: Option<u64>) -> Option<&'static str>
+    ensures { option_copied result ≡ option_map (λ _. []) len }
+{
+    match len {
+        Some(_) => Some(""),
+        None => None,
+    }
 }
 
 /// How large a text is that takes so many bytes.
@@ -75,47 +96,67 @@ fn path_size(path_len: u64) -> FlatSize
     ))
 }
 
-/// How large an assertion is with a test of this length, if it holds what has this size.
-pub fn assertion_size(assertion: &Assertion, test_len: u64, held: FlatSize) -> FlatSize
-    ensures { (test : List ℕ) (events : List Event) → test_len ≡ escapes_len test → held ≡ size_of events →
-        result ≡ size_of (element (assertion_name assertion.now.report) (assertion_attributes (record assertion.now { test = test })) events) }
+/// How large an assertion is with a test and a subject of these lengths, if it holds what has this size.
+pub fn assertion_size(
+    assertion: &Assertion,
+    test_len: u64,
+    subject_len: Option<u64>,
+    held: FlatSize,
+) -> FlatSize
+    ensures { (test : List ℕ) (subject : Option (List ℕ)) (events : List Event) →
+        test_len ≡ escapes_len test → subject_len ≡ option_map escapes_len subject → held ≡ size_of events →
+        result ≡ size_of (element (assertion_name assertion.now.report) (assertion_attributes (record assertion.now { test = test; subject = subject })) events) }
 {
     element_size(
         name_of(assertion.report),
         &[
             Given::IfAny("id", &assertion.id),
             Given::Fixed("test", ""),
+            Given::IfFixed("subject", blank(subject_len)),
             Given::IfAny("role", &assertion.role),
             Given::IfAny("flag", &assertion.flag),
             Given::Ids("diagnostics", &assertion.diagnostics),
+            Given::Ids("properties", &assertion.properties),
         ],
         held,
     )
     .plus(text_size(test_len))
+    .plus(text_size(subject_len.unwrap_or(0)))
 }
 
-/// How large a rule is with a context of this length, if it holds what has this size.
-pub fn rule_size<'a>(
-    id: &'a Option<Text>,
-    role: &'a Option<Text>,
-    flag: &'a Option<Text>,
+/// The labels of a rule.
+#[derive(Clone, Copy)]
+pub struct RuleLabels<'a> {
+    pub id: &'a Option<Text>,
+    pub role: &'a Option<Text>,
+    pub flag: &'a Option<Text>,
+}
+
+/// How large a rule is with a context and a subject of these lengths, if it holds what has this size.
+pub fn rule_size(
+    labels: RuleLabels<'_>,
     context_len: u64,
+    subject_len: Option<u64>,
     held: FlatSize,
 ) -> FlatSize
-    ensures { (context : List ℕ) (events : List Event) → context_len ≡ escapes_len context → held ≡ size_of events →
-        result ≡ size_of (element (codes "sch:rule") ((codes "id", id.now) ∷ (codes "context", Some context) ∷ (codes "role", role.now) ∷ (codes "flag", flag.now) ∷ []) events) }
+    ensures { (context : List ℕ) (subject : Option (List ℕ)) (events : List Event) →
+        context_len ≡ escapes_len context → subject_len ≡ option_map escapes_len subject → held ≡ size_of events →
+        result ≡ size_of (element (codes "sch:rule")
+        ((codes "id", labels.entry.id.now) ∷ (codes "context", Some context) ∷ (codes "subject", subject) ∷ (codes "role", labels.entry.role.now) ∷ (codes "flag", labels.entry.flag.now) ∷ []) events) }
 {
     element_size(
         "sch:rule",
         &[
-            Given::IfAny("id", id),
+            Given::IfAny("id", labels.id),
             Given::Fixed("context", ""),
-            Given::IfAny("role", role),
-            Given::IfAny("flag", flag),
+            Given::IfFixed("subject", blank(subject_len)),
+            Given::IfAny("role", labels.role),
+            Given::IfAny("flag", labels.flag),
         ],
         held,
     )
     .plus(text_size(context_len))
+    .plus(text_size(subject_len.unwrap_or(0)))
 }
 
 /// How large a pattern is that holds what has this size.

@@ -5,6 +5,7 @@ mod given;
 mod known_sizes;
 mod lines;
 mod measured;
+mod notes;
 mod part_sizes;
 mod parts;
 mod schema;
@@ -13,7 +14,7 @@ mod size;
 mod writer;
 
 pub use known_sizes::{
-    assertion_size, let_size, name_size, pattern_size, rule_size, value_of_size,
+    RuleLabels, assertion_size, let_size, name_size, pattern_size, rule_size, value_of_size,
 };
 pub use lines::{characters_size, escaped_len};
 pub use pyx_core::EventList;

@@ -78,7 +78,8 @@ fn given_size(given: Given<'_>) -> FlatSize
         Given::Fixed(name, value) => attr_size(name, escaped_len(value)),
         Given::Always(name, value) => attr_size(name, escaped_len(value.as_str())),
         Given::IfAny(name, Some(value)) => attr_size(name, escaped_len(value.as_str())),
-        Given::IfAny(_, None) => FlatSize::none(),
+        Given::IfFixed(name, Some(value)) => attr_size(name, escaped_len(value)),
+        Given::IfAny(_, None) | Given::IfFixed(_, None) => FlatSize::none(),
         Given::Ids(name, ids) => ids_size(name, ids),
     }
 }

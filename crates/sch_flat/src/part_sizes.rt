@@ -1,15 +1,16 @@
 //! How large the elements of the document are.
 
-ghost use Rattle.sch_flat.specs.FlatDocument.{active_events, assertion_events, diagnostic_events, let_events, ns_events, part_events, pattern_events, phase_events, rule_events};
+ghost use Rattle.sch_flat.specs.FlatDocument.{active_events, assertion_events, let_events, ns_events, part_events, pattern_events, phase_events, rule_events};
 
 use crate::given::Given;
 use crate::known_sizes::{
-    assertion_size, let_size, name_size, pattern_size, rule_size, text_len, value_of_size,
+    RuleLabels, assertion_size, let_size, name_size, option_len, pattern_size, rule_size, text_len,
+    value_of_size,
 };
 use crate::lines::{characters_size, element_size};
 use crate::measured::{Measured, size_of_all};
 use crate::size::FlatSize;
-use sch_model::{Active, Assertion, Diagnostic, FlatPattern, FlatRule, LetDecl, Ns, Part, Phase};
+use sch_model::{Active, Assertion, FlatPattern, FlatRule, LetDecl, Ns, Part, Phase};
 
 impl Measured for Ns {
     ghost events = { ns_events };
@@ -62,11 +63,7 @@ impl Measured for Part {
         match self {
             Part::Chars(text) => characters_size(text),
             Part::ValueOf { select, .. } => value_of_size(text_len(select)),
-            Part::Name {
-                path: Some(path),
-                ..
-            } => name_size(Some(text_len(path))),
-            Part::Name { path: None, .. } => name_size(None),
+            Part::Name { path, .. } => name_size(option_len(path)),
         }
     }
 }
@@ -75,7 +72,12 @@ impl Measured for Assertion {
     ghost events = { assertion_events };
 
     fn size(&self) -> FlatSize {
-        assertion_size(self, text_len(&self.test), size_of_all(&self.message))
+        assertion_size(
+            self,
+            text_len(&self.test),
+            option_len(&self.subject),
+            size_of_all(&self.message),
+        )
     }
 }
 
@@ -84,8 +86,17 @@ impl Measured for FlatRule {
 
     fn size(&self) -> FlatSize {
         let held = size_of_all(&self.lets).then(size_of_all(&self.assertions));
-        let context_len = text_len(&self.context);
-        rule_size(&self.id, &self.role, &self.flag, context_len, held)
+        let labels = RuleLabels {
+            id: &self.id,
+            role: &self.role,
+            flag: &self.flag,
+        };
+        rule_size(
+            labels,
+            text_len(&self.context),
+            option_len(&self.subject),
+            held,
+        )
     }
 }
 
@@ -95,14 +106,5 @@ impl Measured for FlatPattern {
     fn size(&self) -> FlatSize {
         let held = size_of_all(&self.lets).then(size_of_all(&self.rules));
         pattern_size(&self.id, held)
-    }
-}
-
-impl Measured for Diagnostic {
-    ghost events = { diagnostic_events };
-
-    fn size(&self) -> FlatSize {
-        let held = size_of_all(&self.message);
-        element_size("sch:diagnostic", &[Given::Always("id", &self.id)], held)
     }
 }

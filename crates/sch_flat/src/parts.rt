@@ -2,11 +2,11 @@
 
 ghost use Rattle.std.specs.Prelude.{◌≡◌, ◌++◌, OnOk};
 ghost use Rattle.std.specs.List.{flat_map};
-ghost use Rattle.sch_flat.specs.FlatDocument.{active_events, assertion_attributes, assertion_events, assertion_name, diagnostic_events, element, let_events, ns_events, part_events, pattern_events, phase_events, rule_events};
+ghost use Rattle.sch_flat.specs.FlatDocument.{active_events, assertion_attributes, assertion_events, assertion_name, element, let_events, ns_events, part_events, pattern_events, phase_events, rule_events};
 
 use crate::given::Given;
 use crate::writer::{InDocument, Writer};
-use sch_model::{Active, Assertion, Diagnostic, FlatPattern, FlatRule, LetDecl, Ns, Part, Phase};
+use sch_model::{Active, Assertion, FlatPattern, FlatRule, LetDecl, Ns, Part, Phase};
 use std::alloc::AllocError;
 
 impl InDocument for Ns {
@@ -88,9 +88,11 @@ fn write_assertion(assertion: &Assertion, name: &str, writer: &mut Writer) -> Re
         &[
             Given::IfAny("id", &assertion.id),
             Given::Always("test", &assertion.test),
+            Given::IfAny("subject", &assertion.subject),
             Given::IfAny("role", &assertion.role),
             Given::IfAny("flag", &assertion.flag),
             Given::Ids("diagnostics", &assertion.diagnostics),
+            Given::Ids("properties", &assertion.properties),
         ],
     )?;
     writer.all(&assertion.message)?;
@@ -106,6 +108,7 @@ impl InDocument for FlatRule {
             &[
                 Given::IfAny("id", &self.id),
                 Given::Always("context", &self.context),
+                Given::IfAny("subject", &self.subject),
                 Given::IfAny("role", &self.role),
                 Given::IfAny("flag", &self.flag),
             ],
@@ -124,16 +127,6 @@ impl InDocument for FlatPattern {
         writer.all(&self.lets)?;
         writer.all(&self.rules)?;
         writer.end("sch:pattern")
-    }
-}
-
-impl InDocument for Diagnostic {
-    ghost events = { diagnostic_events };
-
-    fn write(&self, writer: &mut Writer) -> Result<(), AllocError> {
-        writer.start("sch:diagnostic", &[Given::Always("id", &self.id)])?;
-        writer.all(&self.message)?;
-        writer.end("sch:diagnostic")
     }
 }
 

@@ -1,13 +1,14 @@
 //! The document of a schema.
 
 ghost use Rattle.std.specs.Prelude.{◌≡◌, ◌++◌, IfOk, OnOk};
-ghost use Rattle.sch_flat.specs.FlatDocument.{diagnostics_events, flat_events, held_events, title_events};
+ghost use Rattle.sch_flat.specs.FlatDocument.{diagnostics_events, flat_events, held_events, properties_events, title_events};
 
 use crate::given::Given;
+use crate::notes::write_notes;
 use crate::writer::Writer;
 use pyx_core::EventList;
 use sch_base::Text;
-use sch_model::{DiagnosticList, FlatSchema};
+use sch_model::FlatSchema;
 use std::alloc::{AllocError, Global};
 
 /// The events of the document that a schema is.
@@ -52,7 +53,21 @@ fn write_held(flat: &FlatSchema, writer: &mut Writer) -> Result<(), AllocError>
     writer.all(&flat.lets)?;
     writer.all(&flat.phases)?;
     writer.all(&flat.patterns)?;
-    write_diagnostics(&flat.diagnostics, writer)
+    write_all_notes(flat, writer)
+}
+
+/// Writes the diagnostics, then the properties.
+fn write_all_notes(flat: &FlatSchema, writer: &mut Writer) -> Result<(), AllocError>
+    ensures { OnOk result (writer.new.events ≡ writer.old.events
+        ++ (diagnostics_events flat.now.diagnostics ++ properties_events flat.now.properties)) }
+{
+    write_notes(
+        &flat.diagnostics,
+        "sch:diagnostics",
+        "sch:diagnostic",
+        writer,
+    )?;
+    write_notes(&flat.properties, "sch:properties", "sch:property", writer)
 }
 
 /// Writes the title, where there is one.
@@ -65,16 +80,4 @@ fn write_title(title: &Option<Text>, writer: &mut Writer) -> Result<(), AllocErr
     writer.start("sch:title", &[])?;
     writer.chars(title)?;
     writer.end("sch:title")
-}
-
-/// Writes the diagnostics, where there is one.
-fn write_diagnostics(diagnostics: &DiagnosticList, writer: &mut Writer) -> Result<(), AllocError>
-    ensures { OnOk result (writer.new.events ≡ writer.old.events ++ diagnostics_events diagnostics.now) }
-{
-    if diagnostics.is_empty() {
-        return Ok(());
-    }
-    writer.start("sch:diagnostics", &[])?;
-    writer.all(diagnostics)?;
-    writer.end("sch:diagnostics")
 }

@@ -3,13 +3,14 @@
 ghost use Rattle.std.specs.Prelude.{◌≡◌, List};
 ghost use Rattle.std.specs.List.{flat_map};
 ghost use Rattle.sch_model.specs.declared.flat.FlatPattern.{FlatPattern};
-ghost use Rattle.sch_flat.specs.FlatDocument.{diagnostics_events, flat_events, held_events, pattern_events, title_events};
+ghost use Rattle.sch_flat.specs.FlatDocument.{flat_events, held_events, pattern_events, title_events};
 ghost use Rattle.sch_flat.specs.FlatSize.{is_small, size_of};
 ghost use Rattle.sch_flat.specs.SchemaParts.{schema_of};
 
 use crate::given::Given;
 use crate::lines::{characters_size, element_size};
 use crate::measured::size_of_all;
+use crate::notes::notes_size;
 use crate::size::FlatSize;
 use doc_tree::MAX_LIVE_NODES;
 use sch_base::{MAX_TEXT_BYTES, Text};
@@ -27,6 +28,7 @@ pub fn flat_size(flat: &FlatSchema) -> FlatSize
         lets: &flat.lets,
         phases: &flat.phases,
         diagnostics: &flat.diagnostics,
+        properties: &flat.properties,
     };
     size_with_patterns(others, size_of_all(&flat.patterns))
 }
@@ -39,6 +41,7 @@ pub struct SchemaParts<'a> {
     pub lets: &'a LetDeclList,
     pub phases: &'a PhaseList,
     pub diagnostics: &'a DiagnosticList,
+    pub properties: &'a DiagnosticList,
 }
 
 /// How large the document of a schema is whose patterns have this size in it.
@@ -70,7 +73,9 @@ pub fn fits(flat: &FlatSchema) -> bool
 fn held_size(parts: SchemaParts<'_>, patterns: FlatSize) -> FlatSize
     ensures { (its : List FlatPattern) → patterns ≡ size_of (flat_map pattern_events its) → result ≡ size_of (held_events (schema_of parts.entry its)) }
 {
-    let last = patterns.then(diagnostics_size(parts.diagnostics));
+    let diagnostics = notes_size(parts.diagnostics, "sch:diagnostics", "sch:diagnostic");
+    let properties = notes_size(parts.properties, "sch:properties", "sch:property");
+    let last = patterns.then(diagnostics.then(properties));
     let later = size_of_all(parts.lets).then(size_of_all(parts.phases).then(last));
     title_size(&parts.head.title).then(size_of_all(parts.ns).then(later))
 }
@@ -83,14 +88,4 @@ fn title_size(title: &Option<Text>) -> FlatSize
         Some(title) => element_size("sch:title", &[], characters_size(title)),
         None => FlatSize::none(),
     }
-}
-
-/// How large the diagnostics are, where there is one.
-fn diagnostics_size(diagnostics: &DiagnosticList) -> FlatSize
-    ensures { result ≡ size_of (diagnostics_events diagnostics.now) }
-{
-    if diagnostics.is_empty() {
-        return FlatSize::none();
-    }
-    element_size("sch:diagnostics", &[], size_of_all(diagnostics))
 }

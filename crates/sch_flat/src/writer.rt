@@ -116,7 +116,8 @@ fn push_given(alloc: Global, attrs: &mut AttrList, given: Given<'_>) -> Result<(
         Given::Fixed(name, value) => push_attr(alloc, attrs, name, value),
         Given::Always(name, value) => push_attr(alloc, attrs, name, value.as_str()),
         Given::IfAny(name, Some(value)) => push_attr(alloc, attrs, name, value.as_str()),
-        Given::IfAny(_, None) => Ok(()),
+        Given::IfFixed(name, Some(value)) => push_attr(alloc, attrs, name, value),
+        Given::IfAny(_, None) | Given::IfFixed(_, None) => Ok(()),
         Given::Ids(name, ids) => push_ids(alloc, attrs, name, ids),
     }
 }

@@ -9,6 +9,7 @@ pub mod Front
 pub mod Kids
 pub mod Leaves
 pub mod Messages
+pub mod Notes
 pub mod Patterns
 pub mod Places
 pub mod Rules

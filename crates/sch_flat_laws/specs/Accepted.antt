@@ -58,7 +58,7 @@ pub record IsSchema (T : Table) : Type 0 where
 abbrev pub ReadingsAreReadable : Type 0
 ReadingsAreReadable = (T : Table) → IsSchema T → ReadableSchema (flat_schema (raw_schema T)) × Allowed (flat_schema (raw_schema T))
 
--- a document that is read and expanded: it breaks no rule from 1 to 9, and its schema none from 10 to 19
+-- a document that is read and expanded: it breaks no rule from 1 to 9, and its schema none from 10 to 19, nor 32
 pub record IsAccepted (T : Table) : Type 0 where
   pub schema : IsSchema T
   pub fits : first_fault (raw_schema T) ≡ None

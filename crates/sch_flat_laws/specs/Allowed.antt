@@ -48,18 +48,21 @@ pub record AllowedPattern (pattern : FlatPattern) : Type 0 where
   pub lets : Each AllowedLet pattern.lets
   pub rules : Each AllowedRule pattern.rules
 
--- a diagnostic whose id is an NCName
+-- a diagnostic or a property whose id is an NCName
 abbrev pub AllowedDiagnostic : Diagnostic → Type 0
 AllowedDiagnostic diagnostic = IsName diagnostic.id
 
--- a schema of such parts: no two prefixes are the same, nor two ids of phases, of patterns or of diagnostics
+-- a schema of such parts: no two prefixes are the same, nor two ids of phases, of patterns, of diagnostics or
+-- of properties
 pub record Allowed (schema : FlatSchema) : Type 0 where
   pub ns : Each AllowedNs schema.ns
   pub lets : Each AllowedLet schema.lets
   pub phases : Each AllowedPhase schema.phases
   pub patterns : Each AllowedPattern schema.patterns
   pub diagnostics : Each AllowedDiagnostic schema.diagnostics
+  pub properties : Each AllowedDiagnostic schema.properties
   pub prefixes_differ : IsDistinct bytes_eq (map (λ ns. ns.prefix) schema.ns)
   pub phases_differ : IsDistinct bytes_eq (map (λ phase. phase.id) schema.phases)
   pub patterns_differ : IsDistinct bytes_eq (flat_map pattern_ids schema.patterns)
   pub diagnostics_differ : IsDistinct bytes_eq (map (λ diagnostic. diagnostic.id) schema.diagnostics)
+  pub properties_differ : IsDistinct bytes_eq (map (λ property. property.id) schema.properties)

@@ -17,6 +17,7 @@ raw_rule rule = record {
   is_abstract = false;
   id = rule.id;
   context = Some rule.context;
+  subject = rule.subject;
   role = rule.role;
   flag = rule.flag;
   items = map (λ decl. Let decl) rule.lets ++ map (λ assertion. Assertion assertion) rule.assertions;
@@ -42,6 +43,7 @@ raw_of schema = record {
   phases = schema.phases;
   patterns = map raw_pattern schema.patterns;
   diagnostics = schema.diagnostics;
+  properties = schema.properties;
 }
 
 -- it has no abstract parts, and is expanded to the same schema

@@ -5,6 +5,7 @@ use Rattle.doc_tree.specs.Table.{Table}
 use Rattle.sch_model.specs.declared.flat.FlatPattern.{FlatPattern}
 use Rattle.sch_model.specs.declared.flat.FlatRule.{FlatRule}
 use Rattle.sch_model.specs.declared.flat.FlatSchema.{FlatSchema}
+use Rattle.sch_model.specs.declared.parts.Diagnostic.{Diagnostic}
 use Rattle.sch_model.specs.declared.parts.Part.{Part}
 use Rattle.sch_model.specs.declared.parts.Part.TheVariants.{Chars, ValueOf, Name}
 use Rattle.sch_rules.specs.RawSchema.{message_of}
@@ -24,9 +25,12 @@ is_joined_rule rule = list_all (λ assertion. are_joined false assertion.message
 abbrev pub is_joined_pattern : FlatPattern → Bool
 is_joined_pattern pattern = list_all is_joined_rule pattern.rules
 
+abbrev pub are_joined_notes : List Diagnostic → Bool
+are_joined_notes notes = list_all (λ note. are_joined false note.message) notes
+
 abbrev pub is_joined : FlatSchema → Bool
 is_joined schema =
-    list_all is_joined_pattern schema.patterns && list_all (λ diagnostic. are_joined false diagnostic.message) schema.diagnostics
+    list_all is_joined_pattern schema.patterns && (are_joined_notes schema.diagnostics && are_joined_notes schema.properties)
 
 -- no two texts meet in the messages that a document says, nor in the document of a schema with such messages
 pub record TextsStandApart : Type 0 where

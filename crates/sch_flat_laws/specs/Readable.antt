@@ -16,11 +16,12 @@ abbrev pub Each : {A : Type 0} → (A → Type 0) → List A → Type 0
 Each holds [] = Unit {0}
 Each holds (x ∷ xs) = holds x × Each holds xs
 
--- an assertion in whose message no text is empty and no two meet, and whose ids are those that their list says
+-- an assertion in whose message no text is empty and no two meet, and whose ids are those that their lists say
 pub record ReadableAssertion (assertion : Assertion) : Type 0 where
   pub some : list_all is_some_part assertion.message ≡ true
   pub joined : are_joined false assertion.message ≡ true
   pub ids : ids_in (spaced assertion.diagnostics) ≡ assertion.diagnostics
+  pub properties : ids_in (spaced assertion.properties) ≡ assertion.properties
 
 abbrev pub ReadableRule : FlatRule → Type 0
 ReadableRule rule = Each ReadableAssertion rule.assertions
@@ -28,7 +29,7 @@ ReadableRule rule = Each ReadableAssertion rule.assertions
 abbrev pub ReadablePattern : FlatPattern → Type 0
 ReadablePattern pattern = Each ReadableRule pattern.rules
 
--- a diagnostic with such a message
+-- a diagnostic or a property with such a message
 pub record ReadableDiagnostic (diagnostic : Diagnostic) : Type 0 where
   pub some : list_all is_some_part diagnostic.message ≡ true
   pub joined : are_joined false diagnostic.message ≡ true
@@ -36,3 +37,4 @@ pub record ReadableDiagnostic (diagnostic : Diagnostic) : Type 0 where
 pub record ReadableSchema (schema : FlatSchema) : Type 0 where
   pub patterns : Each ReadablePattern schema.patterns
   pub diagnostics : Each ReadableDiagnostic schema.diagnostics
+  pub properties : Each ReadableDiagnostic schema.properties

@@ -29,7 +29,7 @@ pub fn flat_schemas_stay()
     ensures { FlatSchemasStay }
 {}
 
-/// The ids of an assertion's diagnostics are read back as they are written, with single spaces.
+/// The ids of an assertion's diagnostics and properties are read back as they are written, with single spaces.
 pub fn ids_are_read_back()
     ensures { IdsAreReadBack }
 {}

@@ -1,7 +1,8 @@
 -- The first fault, and whether there is a finding, along document order and its renumbering.
 use Rattle.std.proofs.Common.{◌≡◌, ℕ, ◌+◌, List, [], ◌∷◌, map, Result, Ok, Err, Option, None, Some, refl, ap, ap₂, ◌∙◌}
-use Rattle.std.specs.Prelude.{option_map}
+use Rattle.std.specs.Prelude.{◌==◌, not, option_map}
 use Rattle.std.specs.List.{list_any}
+use Rattle.std.proofs.lemmas.List.{length-map}
 use Rattle.std.specs.Option.{option_or}
 use Rattle.doc_tree.specs.Laws.{WellFormed}
 use Rattle.doc_tree.specs.Table.{Table}
@@ -19,7 +20,7 @@ use Rattle.sch_compiled.specs.declared.plan.Plan.{Plan}
 use Rattle.sch_compiled.specs.declared.state_fault.StateFault.{StateFault}
 use Rattle.sch_units.specs.Units.{lets_of}
 use Rattle.sch_units.specs.Validity.{finds, first_fault, first_let_fault, first_node_fault, first_with, has_finding, let_fault, pair_fault, pair_outcome, pattern_numbers}
-use Rattle.sch_iso_laws.specs.Moves.{OwnLetsMove, VerdictsMove, moved_fault}
+use Rattle.sch_iso_laws.specs.Moves.{OwnLetsMove, VerdictsMove, moved_fault, moved_finding, moved_found}
 
 or-moved : {A B : Type 0} (g : A → B) (o p : Option A) → option_or (option_map g o) (option_map g p) ≡ option_map g (option_or o p)
 or-moved g None p = refl
@@ -50,10 +51,15 @@ module _ (f : ℕ → ℕ) where
   lets-fault k (o ∷ L) =
       ap₂ (λ (a b : Option StateFault). option_or a b) (let-moved k o) (lets-fault (k + 1) L) ∙ or-moved (moved_fault f) (let_fault k o) (first_let_fault (k + 1) L)
 
-  pair-moved : (p n : ℕ) (o : Outcome) → pair_fault p (f n) o ≡ option_map (moved_fault f) (pair_fault p n o)
+  pair-moved : (p n : ℕ) (o : Outcome) → pair_fault p (f n) (moved_found f o) ≡ option_map (moved_fault f) (pair_fault p n o)
   pair-moved p n NoRule = refl
   pair-moved p n (Fired rule findings) = refl
   pair-moved p n (Fault x) = refl
+
+  has-moved : (o : Outcome) → has_finding (moved_found f o) ≡ has_finding o
+  has-moved NoRule = refl
+  has-moved (Fired rule findings) = ap (λ k. not (k == 0)) (length-map findings (moved_finding f))
+  has-moved (Fault x) = refl
 
 module _ (own : OwnLetsMove) (f : ℕ → ℕ) (plan : Plan) (T U : Table) (one : WellFormed T) (other : WellFormed U) (r : Renumbers f T U) where
   at-node : (p n : ℕ) → pair_fault p (f n) (pair_outcome plan U p (f n)) ≡ option_map (moved_fault f) (pair_fault p n (pair_outcome plan T p n))
@@ -75,7 +81,7 @@ module _ (own : OwnLetsMove) (f : ℕ → ℕ) (plan : Plan) (T U : Table) (one 
   found-moved p =
       ap (list_any (λ n. has_finding (pair_outcome plan U p n))) r.in_order
       ∙ any-moved f (λ n. has_finding (pair_outcome plan T p n)) (λ n. has_finding (pair_outcome plan U p n))
-      (λ n. ap has_finding (own.outcomes f plan T U p n one other r)) (order T)
+      (λ n. ap has_finding (own.outcomes f plan T U p n one other r) ∙ has-moved f (pair_outcome plan T p n)) (order T)
 
   finds-same : finds plan U ≡ finds plan T
   finds-same =

@@ -1,8 +1,8 @@
 -- Units in two trees, under given lets: each part of a unit is the same in both where what it reads was kept.
 use Rattle.std.proofs.Common.{ℕ, ◌+◌, Bool, cond, List, [], ◌∷◌, ◌++◌, length, Option, None, Some, Ok, refl, ap, subst}
-use Rattle.std.specs.Prelude.{All, slice_get}
+use Rattle.std.specs.Prelude.{All, slice_get, slice_index_or}
 use Rattle.std.proofs.lemmas.List.Elements.{All-head, All-tail}
-use Rattle.std.specs.Option.{option_to_list}
+use Rattle.std.specs.Option.{option_or, option_to_list}
 use Rattle.doc_tree.specs.QNames.{written_in}
 use Rattle.doc_tree.specs.cell.Cell.{Cell}
 use Rattle.doc_tree.specs.Table.{Table}
@@ -31,9 +31,10 @@ use Rattle.sch_compiled.specs.declared.parts.PlanPart.{PlanPart}
 use Rattle.sch_compiled.specs.declared.parts.PlanPart.TheVariants.{Chars, Name, ValueOf}
 use Rattle.sch_compiled.specs.declared.parts.PlanRule.{PlanRule}
 use Rattle.sch_compiled.specs.Plan.{rules_of}
-use Rattle.sch_units.specs.Firing.{all_asserted, asserted, fired_by, first_rule, found, is_found}
+use Rattle.sch_units.specs.Firing.{all_asserted, asserted, fired_by, first_rule, found, is_found, placed_at}
 use Rattle.sch_units.specs.Messages.{alone, diagnostic_texts, joined, message, name_text, part_text}
 use Rattle.sch_units.specs.Units.{keeping}
+use Rattle.sch_units.proofs.FindingParts.{finding_of, with_message, with_properties, with_texts}
 use Rattle.sch_units.proofs.KeptReads.{keeping-reads}
 use Rattle.sch_locality_laws.specs.Locality.{GivenLetsAreLocal, RuleTyped}
 use Rattle.sch_locality_laws.proofs.KeptLemmas.{Fits, all-fit, fits_put, kept_below}
@@ -90,54 +91,61 @@ module _ (T U : Table) (touched : Cell → Bool) (changed : Changed T U touched)
       texts-same diagnostics =
           same-all T U touched P Q (λ _ d. message T L n d.message) (λ _ d. message U M n d.message) (λ _ _ text. text ∷ []) (λ _ d. joined-same [] d.message) 0 diagnostics
 
-      found-same : (i : ℕ) (a : PlanAssert) → Same T U touched P Q no_nodes (found T L n i a) (found U M n i a)
-      found-same i a =
-          same-bind T U touched P Q no_nodes no_nodes (diagnostic_texts T L n a.diagnostics) (diagnostic_texts U M n a.diagnostics)
-          (λ texts. bind (message T L n a.message) (λ text. done (record { assertion = i; diagnostics = texts; message = text })))
-          (λ texts. bind (message U M n a.message) (λ text. done (record { assertion = i; diagnostics = texts; message = text })))
-          (texts-same a.diagnostics)
-          (λ texts _. same-made T U touched P Q {B = Finding} no_nodes no_nodes (message T L n a.message) (message U M n a.message)
-          (λ text. record { assertion = i; diagnostics = texts; message = text }) (λ text. record { assertion = i; diagnostics = texts; message = text })
-          (joined-same [] a.message) (λ text _. (refl, tt)))
+      place-same : (o : Option TypedTree) → Same T U touched P Q no_nodes (placed_at T L n o) (placed_at U M n o)
+      place-same None = same-done T U touched P Q no_nodes n tt
+      place-same (Some t) =
+          same-made T U touched P Q nodes_of no_nodes (meaning T L t (alone n)) (meaning U M t (alone n))
+          (λ v. slice_index_or (nodes_of v) 0 n) (λ v. slice_index_or (nodes_of v) 0 n) (value-same t) (λ v _. (refl, tt))
 
-      asserted-same : (i : ℕ) (a : PlanAssert) → Same T U touched P Q no_nodes (asserted T L n i a) (asserted U M n i a)
-      asserted-same i a =
+      found-same : (subject : Option TypedTree) (i : ℕ) (a : PlanAssert) → Same T U touched P Q no_nodes (found T L n subject i a) (found U M n subject i a)
+      found-same subject i a =
+          same-bind T U touched P Q no_nodes no_nodes (placed_at T L n (option_or a.subject subject)) (placed_at U M n (option_or a.subject subject))
+          (with_texts T L n i a) (with_texts U M n i a) (place-same (option_or a.subject subject))
+          (λ place _. same-bind T U touched P Q no_nodes no_nodes (diagnostic_texts T L n a.diagnostics) (diagnostic_texts U M n a.diagnostics)
+          (with_properties T L n i a place) (with_properties U M n i a place) (texts-same a.diagnostics)
+          (λ texts _. same-bind T U touched P Q no_nodes no_nodes (diagnostic_texts T L n a.properties) (diagnostic_texts U M n a.properties)
+          (with_message T L n i a place texts) (with_message U M n i a place texts) (texts-same a.properties)
+          (λ properties _. same-made T U touched P Q {B = Finding} no_nodes no_nodes (message T L n a.message) (message U M n a.message)
+          (finding_of i place texts properties) (finding_of i place texts properties) (joined-same [] a.message) (λ text _. (refl, tt)))))
+
+      asserted-same : (subject : Option TypedTree) (i : ℕ) (a : PlanAssert) → Same T U touched P Q no_nodes (asserted T L n subject i a) (asserted U M n subject i a)
+      asserted-same subject i a =
           same-bind T U touched P Q nodes_of no_nodes (meaning T L a.test (alone n)) (meaning U M a.test (alone n))
-          (λ v. cond (is_found a.report (to_truth v)) (bind (found T L n i a) (λ finding. done (Some finding))) (done None))
-          (λ v. cond (is_found a.report (to_truth v)) (bind (found U M n i a) (λ finding. done (Some finding))) (done None))
+          (λ v. cond (is_found a.report (to_truth v)) (bind (found T L n subject i a) (λ finding. done (Some finding))) (done None))
+          (λ v. cond (is_found a.report (to_truth v)) (bind (found U M n subject i a) (λ finding. done (Some finding))) (done None))
           (value-same a.test)
           (λ v _. same-cond T U touched P Q no_nodes (is_found a.report (to_truth v))
-          (bind (found T L n i a) (λ finding. done (Some finding))) (done None) (bind (found U M n i a) (λ finding. done (Some finding))) (done None)
-          (same-made T U touched P Q no_nodes no_nodes (found T L n i a) (found U M n i a) (λ finding. Some finding) (λ finding. Some finding) (found-same i a) (λ finding _. (refl, tt)))
+          (bind (found T L n subject i a) (λ finding. done (Some finding))) (done None) (bind (found U M n subject i a) (λ finding. done (Some finding))) (done None)
+          (same-made T U touched P Q no_nodes no_nodes (found T L n subject i a) (found U M n subject i a) (λ finding. Some finding) (λ finding. Some finding) (found-same subject i a) (λ finding _. (refl, tt)))
           (same-done T U touched P Q no_nodes None tt))
 
-      assertions-same : (assertions : List PlanAssert) → Same T U touched P Q no_nodes (all_asserted T L n assertions) (all_asserted U M n assertions)
-      assertions-same assertions =
-          same-all T U touched P Q (λ i a. asserted T L n i a) (λ i a. asserted U M n i a) (λ _ _ finding. option_to_list finding) asserted-same 0 assertions
+      assertions-same : (subject : Option TypedTree) (assertions : List PlanAssert) → Same T U touched P Q no_nodes (all_asserted T L n subject assertions) (all_asserted U M n subject assertions)
+      assertions-same subject assertions =
+          same-all T U touched P Q (λ i a. asserted T L n subject i a) (λ i a. asserted U M n subject i a) (λ _ _ finding. option_to_list finding) (asserted-same subject) 0 assertions
 
     -- the value of each let of a rule stands in the same slot in both
-    fired-same : (lets : List PlanLet) (assertions : List PlanAssert) (L M : Lets) → Fits T U touched P Q L M → (slot : ℕ) →
-        Same T U touched P Q no_nodes (fired_by T L n slot lets assertions) (fired_by U M n slot lets assertions)
-    fired-same [] assertions L M fits slot = assertions-same L M fits assertions
-    fired-same (t ∷ lets) assertions L M fits slot =
+    fired-same : (subject : Option TypedTree) (lets : List PlanLet) (assertions : List PlanAssert) (L M : Lets) → Fits T U touched P Q L M → (slot : ℕ) →
+        Same T U touched P Q no_nodes (fired_by T L n slot subject lets assertions) (fired_by U M n slot subject lets assertions)
+    fired-same subject [] assertions L M fits slot = assertions-same L M fits subject assertions
+    fired-same subject (t ∷ lets) assertions L M fits slot =
         same-bind T U touched P Q nodes_of no_nodes (meaning T L t.expr (alone n)) (meaning U M t.expr (alone n))
-        (λ v. fired_by T (with_slot L slot (Ok v)) n (slot + 1) lets assertions) (λ v. fired_by U (with_slot M slot (Ok v)) n (slot + 1) lets assertions)
+        (λ v. fired_by T (with_slot L slot (Ok v)) n (slot + 1) subject lets assertions) (λ v. fired_by U (with_slot M slot (Ok v)) n (slot + 1) subject lets assertions)
         (value-same L M fits t.expr)
-        (λ v stay. fired-same lets assertions (with_slot L slot (Ok v)) (with_slot M slot (Ok v)) (fits_put T U touched P Q L M slot v stay fits) (slot + 1))
+        (λ v stay. fired-same subject lets assertions (with_slot L slot (Ok v)) (with_slot M slot (Ok v)) (fits_put T U touched P Q L M slot v stay fits) (slot + 1))
 
     rules-same : PatternsAreLocal → (count r : ℕ) (rules : List PlanRule) → All RuleTyped rules →
         Same T U touched P Q no_nodes (first_rule T count P n r rules) (first_rule U count Q n r rules)
     rules-same patterns count r [] typed = same-done T U touched P Q no_nodes NoRule tt
     rules-same patterns count r (rule ∷ rules) typed =
         same-bind T U touched P Q no_nodes no_nodes (matching T P rule.context n) (matching U Q rule.context n)
-        (λ matches. cond matches (bind (fired_by T P n count rule.lets rule.assertions) (λ findings. done (Fired r findings))) (first_rule T count P n (r + 1) rules))
-        (λ matches. cond matches (bind (fired_by U Q n count rule.lets rule.assertions) (λ findings. done (Fired r findings))) (first_rule U count Q n (r + 1) rules))
+        (λ matches. cond matches (bind (fired_by T P n count rule.subject rule.lets rule.assertions) (λ findings. done (Fired r findings))) (first_rule T count P n (r + 1) rules))
+        (λ matches. cond matches (bind (fired_by U Q n count rule.subject rule.lets rule.assertions) (λ findings. done (Fired r findings))) (first_rule U count Q n (r + 1) rules))
         (record { go = λ kept. patterns T U touched P Q rule.context n changed (All-head RuleTyped rule rules typed) here kept })
         (λ matches _. same-cond T U touched P Q no_nodes matches
-        (bind (fired_by T P n count rule.lets rule.assertions) (λ findings. done (Fired r findings))) (first_rule T count P n (r + 1) rules)
-        (bind (fired_by U Q n count rule.lets rule.assertions) (λ findings. done (Fired r findings))) (first_rule U count Q n (r + 1) rules)
-        (same-made T U touched P Q no_nodes no_nodes (fired_by T P n count rule.lets rule.assertions) (fired_by U Q n count rule.lets rule.assertions)
-        (λ findings. Fired r findings) (λ findings. Fired r findings) (fired-same rule.lets rule.assertions P Q (λ x k. k) count) (λ findings _. (refl, tt)))
+        (bind (fired_by T P n count rule.subject rule.lets rule.assertions) (λ findings. done (Fired r findings))) (first_rule T count P n (r + 1) rules)
+        (bind (fired_by U Q n count rule.subject rule.lets rule.assertions) (λ findings. done (Fired r findings))) (first_rule U count Q n (r + 1) rules)
+        (same-made T U touched P Q no_nodes no_nodes (fired_by T P n count rule.subject rule.lets rule.assertions) (fired_by U Q n count rule.subject rule.lets rule.assertions)
+        (λ findings. Fired r findings) (λ findings. Fired r findings) (fired-same rule.subject rule.lets rule.assertions P Q (λ x k. k) count) (λ findings _. (refl, tt)))
         (rules-same patterns count (r + 1) rules (All-tail RuleTyped rule rules typed)))
 
 pub given_lets_are_local : ExpressionsAreLocal → PatternsAreLocal → GivenLetsAreLocal

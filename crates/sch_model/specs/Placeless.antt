@@ -84,6 +84,7 @@ placeless_schema schema = record {
   phases = map placeless_phase schema.phases;
   patterns = map placeless_pattern schema.patterns;
   diagnostics = map placeless_diagnostic schema.diagnostics;
+  properties = map placeless_diagnostic schema.properties;
 }
 
 abbrev pub placeless_flat_rule : FlatRule → FlatRule
@@ -101,4 +102,5 @@ placeless_flat schema = record {
   phases = map placeless_phase schema.phases;
   patterns = map placeless_flat_pattern schema.patterns;
   diagnostics = map placeless_diagnostic schema.diagnostics;
+  properties = map placeless_diagnostic schema.properties;
 }

@@ -10,6 +10,8 @@ pub struct FlatRule {
     pub node: NodeId,
     pub id: Option<Text>,
     pub context: Text,
+    /// The subject of its assertions that have none of their own.
+    pub subject: Option<Text>,
     pub role: Option<Text>,
     pub flag: Option<Text>,
     pub lets: LetDeclList,
@@ -34,6 +36,7 @@ pub struct FlatSchema {
     pub phases: PhaseList,
     pub patterns: FlatPatternList,
     pub diagnostics: DiagnosticList,
+    pub properties: DiagnosticList,
 }
 
 pub type FlatRuleList = ItemList<FlatRule>;

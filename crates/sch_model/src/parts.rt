@@ -57,7 +57,7 @@ pub enum Part {
     Name { node: NodeId, path: Option<Text> },
 }
 
-/// A message that assertions name.
+/// A message that assertions name: a diagnostic, or a property.
 #[derive(Drop)]
 pub struct Diagnostic {
     pub node: NodeId,
@@ -75,8 +75,12 @@ pub struct Assertion {
     pub role: Option<Text>,
     pub flag: Option<Text>,
     pub test: Text,
+    /// The expression that finds the node at which it tells what it found.
+    pub subject: Option<Text>,
     /// The ids of the diagnostics that it names, in their order.
     pub diagnostics: TextList,
+    /// The ids of the properties that it names, in their order.
+    pub properties: TextList,
     pub message: PartList,
 }
 

@@ -44,6 +44,8 @@ pub struct RawRule {
     pub is_abstract: bool,
     pub id: Option<Text>,
     pub context: Option<Text>,
+    /// The subject of its assertions that have none of their own.
+    pub subject: Option<Text>,
     pub role: Option<Text>,
     pub flag: Option<Text>,
     pub items: RawItemList,
@@ -71,6 +73,7 @@ pub struct RawSchema {
     pub phases: PhaseList,
     pub patterns: RawPatternList,
     pub diagnostics: DiagnosticList,
+    pub properties: DiagnosticList,
 }
 
 pub type ParamList = ItemList<Param>;

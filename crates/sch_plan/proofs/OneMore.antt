@@ -26,7 +26,7 @@ use Rattle.sch_plan.specs.Compiled.{are_too_many, compiled, global_lets, let_cou
 use Rattle.sch_plan.specs.Expressions.{expression, is_node_set, is_too_long, match_pattern, path, pattern_spelled, pattern_typed_in, short_expression, short_pattern, spelled, typed_in}
 use Rattle.sch_plan.specs.Lets.{Seen, all_lets, is_seen, nothing_before, one_let, pattern_scope, scope}
 use Rattle.sch_phases.specs.Phases.{chosen, chosen_by, chosen_name, of_phase, phase_of}
-use Rattle.sch_plan.specs.Rules.{all_patterns, diagnostic_of, diagnostics_of, message, one_assertion, one_diagnostic, one_part, one_pattern, one_rule}
+use Rattle.sch_plan.specs.Rules.{Notes, all_patterns, diagnostics_of, message, named, notes_of, one_assertion, one_diagnostic, one_part, one_pattern, one_rule, optional_path, texts}
 use Rattle.sch_phases.specs.Walk.{Unless, every, goes}
 use Rattle.sch_plan.proofs.One.{IsOne, each-one, every-one, goes-one, stops-one, then-one, unless-one}
 
@@ -97,11 +97,14 @@ module _ (u : Unique) where
   all_lets-one : (seen : Seen) (lets : List LetDecl) → IsOne (all_lets seen lets)
   all_lets-one = each-one one_let one_let-one
 
+  optional_path-one : (seen : Seen) (node : ℕ) (text : Option (List ℕ)) → IsOne (optional_path seen node text)
+  optional_path-one seen node None = goes-one _
+  optional_path-one seen node (Some text) = then-one (path (scope seen) node text) _ (path-one (scope seen) node text) (λ t. goes-one _)
+
   part-one : (seen : Seen) (part : Part) → IsOne (one_part seen part)
   part-one seen (written.Chars text) = goes-one _
   part-one seen (written.ValueOf node select) = then-one (expression (scope seen) node select) _ (expression-one (scope seen) node select) (λ t. goes-one _)
-  part-one seen (written.Name node None) = goes-one _
-  part-one seen (written.Name node (Some text)) = then-one (path (scope seen) node text) _ (path-one (scope seen) node text) (λ t. goes-one _)
+  part-one seen (written.Name node text) = then-one (optional_path seen node text) _ (optional_path-one seen node text) (λ path. goes-one _)
 
   message-one : (seen : Seen) (parts : List Part) → IsOne (message seen parts)
   message-one seen = every-one (one_part seen) (part-one seen)
@@ -109,23 +112,33 @@ module _ (u : Unique) where
   diagnostic-one : (seen : Seen) (d : Diagnostic) → IsOne (one_diagnostic seen d)
   diagnostic-one seen d = then-one (message seen d.message) _ (message-one seen d.message) (λ parts. goes-one _)
 
-  assertion-one : (find : List ℕ → Option Diagnostic) (seen : Seen) (a : Assertion) → IsOne (one_assertion find seen a)
-  assertion-one find seen a =
-      then-one (expression (scope seen) a.node a.test) _ (expression-one (scope seen) a.node a.test)
-      (λ t. then-one (every (one_diagnostic seen) (diagnostics_of find a.diagnostics)) _ (every-one (one_diagnostic seen) (diagnostic-one seen) (diagnostics_of find a.diagnostics))
-      (λ ds. then-one (message seen a.message) _ (message-one seen a.message) (λ parts. goes-one _)))
+  named-one : (seen : Seen) (find : List ℕ → Option Diagnostic) (ids : List (List ℕ)) → IsOne (named seen find ids)
+  named-one seen find ids = every-one (one_diagnostic seen) (diagnostic-one seen) (diagnostics_of find ids)
 
-  rule-one : (find : List ℕ → Option Diagnostic) (count : ℕ) (seen : Seen) (rule : FlatRule) → IsOne (one_rule find count seen rule)
-  rule-one find count seen rule =
+  texts-one : (notes : Notes) (seen : Seen) (a : Assertion) → IsOne (texts notes seen a)
+  texts-one notes seen a =
+      then-one (named seen notes.diagnostic a.diagnostics) _ (named-one seen notes.diagnostic a.diagnostics)
+      (λ ds. then-one (named seen notes.property a.properties) _ (named-one seen notes.property a.properties)
+      (λ ps. then-one (message seen a.message) _ (message-one seen a.message) (λ parts. goes-one _)))
+
+  assertion-one : (notes : Notes) (seen : Seen) (a : Assertion) → IsOne (one_assertion notes seen a)
+  assertion-one notes seen a =
+      then-one (expression (scope seen) a.node a.test) _ (expression-one (scope seen) a.node a.test)
+      (λ t. then-one (optional_path seen a.node a.subject) _ (optional_path-one seen a.node a.subject)
+      (λ subject. then-one (texts notes seen a) _ (texts-one notes seen a) (λ its. goes-one _)))
+
+  rule-one : (notes : Notes) (count : ℕ) (seen : Seen) (rule : FlatRule) → IsOne (one_rule notes count seen rule)
+  rule-one notes count seen rule =
       then-one (match_pattern (pattern_scope seen) rule.node rule.context) _ (match_pattern-one (pattern_scope seen) rule.node rule.context)
       (λ context. then-one (all_lets (record seen { next = count }) rule.lets) _ (all_lets-one (record seen { next = count }) rule.lets)
-      (λ lets. then-one (every (one_assertion find lets.0) rule.assertions) _ (every-one (one_assertion find lets.0) (assertion-one find lets.0) rule.assertions)
-      (λ assertions. goes-one _)))
+      (λ lets. then-one (optional_path lets.0 rule.node rule.subject) _ (optional_path-one lets.0 rule.node rule.subject)
+      (λ subject. then-one (every (one_assertion notes lets.0) rule.assertions) _ (every-one (one_assertion notes lets.0) (assertion-one notes lets.0) rule.assertions)
+      (λ assertions. goes-one _))))
 
-  pattern-one : (find : List ℕ → Option Diagnostic) (count : ℕ) (seen : Seen) (pattern : FlatPattern) → IsOne (one_pattern find count seen pattern)
-  pattern-one find count seen pattern =
+  pattern-one : (notes : Notes) (count : ℕ) (seen : Seen) (pattern : FlatPattern) → IsOne (one_pattern notes count seen pattern)
+  pattern-one notes count seen pattern =
       then-one (all_lets seen pattern.lets) _ (all_lets-one seen pattern.lets)
-      (λ lets. then-one (every (one_rule find count lets.0) pattern.rules) _ (every-one (one_rule find count lets.0) (rule-one find count lets.0) pattern.rules)
+      (λ lets. then-one (every (one_rule notes count lets.0) pattern.rules) _ (every-one (one_rule notes count lets.0) (rule-one notes count lets.0) pattern.rules)
       (λ rules. goes-one _))
 
   global_lets-one : (seen : Seen) (lets more : List LetDecl) → IsOne (global_lets seen lets more)
@@ -141,14 +154,14 @@ module _ (u : Unique) where
   chosen_by-one true head phases patterns name = goes-one _
   chosen_by-one false head phases patterns name = of_phase-one head.node name patterns (phase_of phases name)
 
-  walk-one : (head : Head) (ns : List Ns) (lets : List LetDecl) (diagnostics : List Diagnostic) (choice : Choice) → IsOne (walk head ns lets diagnostics choice)
-  walk-one head ns lets diagnostics choice =
+  walk-one : (head : Head) (ns : List Ns) (lets : List LetDecl) (notes : Notes) (choice : Choice) → IsOne (walk head ns lets notes choice)
+  walk-one head ns lets notes choice =
       then-one (global_lets (nothing_before ns) lets choice.lets) _ (global_lets-one (nothing_before ns) lets choice.lets)
-      (λ globals. then-one (all_patterns (diagnostic_of diagnostics) (let_count lets choice) globals.0 choice.patterns) _
-      (each-one (one_pattern (diagnostic_of diagnostics) (let_count lets choice)) (pattern-one (diagnostic_of diagnostics) (let_count lets choice)) globals.0 choice.patterns)
+      (λ globals. then-one (all_patterns notes (let_count lets choice) globals.0 choice.patterns) _
+      (each-one (one_pattern notes (let_count lets choice)) (pattern-one notes (let_count lets choice)) globals.0 choice.patterns)
       (λ patterns. goes-one _))
 
   pub compiled-one : (schema : FlatSchema) (phase : List ℕ) → IsOne (compiled schema phase)
   compiled-one schema phase =
       then-one (chosen schema.head schema.phases schema.patterns phase) _ (chosen_by-one _ schema.head schema.phases schema.patterns (chosen_name schema.head phase))
-      (λ choice. unless-one (are_too_many choice.patterns) (too_many_patterns schema.head.node) _ (walk-one schema.head schema.ns schema.lets schema.diagnostics choice))
+      (λ choice. unless-one (are_too_many choice.patterns) (too_many_patterns schema.head.node) _ (walk-one schema.head schema.ns schema.lets (notes_of schema.diagnostics schema.properties) choice))

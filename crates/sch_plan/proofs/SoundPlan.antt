@@ -13,7 +13,6 @@ use Rattle.sch_model.specs.declared.flat.FlatSchema.{FlatSchema}
 use Rattle.sch_model.specs.declared.parts.LetDecl.{LetDecl}
 use Rattle.sch_model.specs.declared.parts.Head.{Head}
 use Rattle.sch_model.specs.declared.parts.Ns.{Ns}
-use Rattle.sch_model.specs.declared.parts.Diagnostic.{Diagnostic}
 use Rattle.xp_typed_tree.specs.declared.value_type.ValueType.{ValueType}
 use Rattle.xp_typed_tree.specs.Slots.{slots_in}
 use Rattle.xp_typed_tree.specs.WellTyped.{type_of}
@@ -24,7 +23,7 @@ use Rattle.sch_plan.specs.Broken.{too_many_patterns}
 use Rattle.sch_plan.specs.Compiled.{are_too_many, compiled, global_lets, in_force, let_count, pattern_lets, plan_of, plan_pattern, walk}
 use Rattle.sch_plan.specs.Lets.{Seen, all_lets, nothing_before}
 use Rattle.sch_phases.specs.Phases.{chosen}
-use Rattle.sch_plan.specs.Rules.{all_patterns, diagnostic_of}
+use Rattle.sch_plan.specs.Rules.{Notes, all_patterns, notes_of}
 use Rattle.sch_phases.specs.Walk.{Then, Unless, goes}
 use Rattle.sch_plan.proofs.Inversions.{same-value, then-ok, unless-ok}
 use Rattle.sch_plan.proofs.LetLemmas.{AfterLets, LetsSeen, after-lets}
@@ -189,41 +188,42 @@ module _ (head : Head) (ns : List Ns) (phase : Option (List ℕ)) (own its : Lis
     context_slots = λ p r rule e. (rule-at p r rule e).context;
     rule_let_slots = λ p r k rule t e f. lets-at (seen_in (Some p) the_plan.lets) (length the_plan.lets) rule.lets k t (rule-at p r rule e).lets f;
     assertion_slots = λ p r rule e. (rule-at p r rule e).assertions;
+    subject_slots = λ p r rule e. (rule-at p r rule e).subject;
+    subjects = λ p r rule e. (rule-at p r rule e).subjects;
     paths = λ p r rule e. (rule-at p r rule e).paths;
   }
 
 -- what comes of a walk
 module _ (law : SlotsAreInScope) (patterns : PatternSlotsAreInScope) where
-  walked : (ns : List Ns) (lets : List LetDecl) (find : List ℕ → Option Diagnostic) (choice : Choice) (first second : Seen) (own its : List PlanLet) (now : Seen) (ps : List PatternParts) →
-      all_lets (nothing_before ns) lets (Ok (first, own)) → all_lets first choice.lets (Ok (second, its)) → all_patterns find (let_count lets choice) second choice.patterns (Ok (now, ps)) →
+  walked : (ns : List Ns) (lets : List LetDecl) (notes : Notes) (choice : Choice) (first second : Seen) (own its : List PlanLet) (now : Seen) (ps : List PatternParts) →
+      all_lets (nothing_before ns) lets (Ok (first, own)) → all_lets first choice.lets (Ok (second, its)) → all_patterns notes (let_count lets choice) second choice.patterns (Ok (now, ps)) →
       Walked own its ps (let_count lets choice)
-  walked ns lets find choice first second own its now ps h k j =
+  walked ns lets notes choice first second own its now ps h k j =
       let a : AfterLets (nothing_before ns) lets first own = after-lets law (nothing_before ns) lets first own h in
       let b : AfterLets first choice.lets second its = after-lets law first choice.lets second its k in
       let slots : places second.variables ≡ slots_from 0 (own ++ its) = b.slots ∙ (λ i. a.slots i ++ slots_from (a.next i) its) ∙ sym (slots_from-append 0 own its) in
       let next : second.next ≡ length (own ++ its) = omega (arith, a.next, b.next, length-append own its) in
       record {
         globals = lets-append [] 0 own its a.lets (subst (λ (p : List (ℕ × ValueType) × ℕ). LetsSeen p.0 p.1 its) (λ i. (a.slots i, a.next i)) b.lets);
-        patterns = subst (λ (p : List (ℕ × ValueType) × ℕ). PatternsSeen p.0 (let_count lets choice) p.1 ps) (λ i. (slots i, next i)) (all-patterns law patterns find (let_count lets choice) second choice.patterns now ps j);
-        counts = omega (arith, a.many, b.many, length-append own its, lets-counted law patterns find (let_count lets choice) second choice.patterns now ps j);
+        patterns = subst (λ (p : List (ℕ × ValueType) × ℕ). PatternsSeen p.0 (let_count lets choice) p.1 ps) (λ i. (slots i, next i)) (all-patterns law patterns notes (let_count lets choice) second choice.patterns now ps j);
+        counts = omega (arith, a.many, b.many, length-append own its, lets-counted law patterns notes (let_count lets choice) second choice.patterns now ps j);
       }
 
-  walk-sound : (head : Head) (ns : List Ns) (lets : List LetDecl) (diagnostics : List Diagnostic) (choice : Choice) (plan : Plan) → walk head ns lets diagnostics choice (Ok plan) → IsCounted plan → IsSound plan
-  walk-sound head ns lets diagnostics choice plan h =
-      let find = diagnostic_of diagnostics in
+  walk-sound : (head : Head) (ns : List Ns) (lets : List LetDecl) (notes : Notes) (choice : Choice) (plan : Plan) → walk head ns lets notes choice (Ok plan) → IsCounted plan → IsSound plan
+  walk-sound head ns lets notes choice plan h =
       let count = let_count lets choice in
-      let g = then-ok (global_lets (nothing_before ns) lets choice.lets) (λ globals. Then (all_patterns find count globals.0 choice.patterns) (λ ps. goes (plan_of head ns choice.phase globals.1 ps.1))) plan h in
-      let ps = then-ok (all_patterns find count g.0.0 choice.patterns) (λ ps. goes (plan_of head ns choice.phase g.0.1 ps.1)) plan g.2 in
+      let g = then-ok (global_lets (nothing_before ns) lets choice.lets) (λ globals. Then (all_patterns notes count globals.0 choice.patterns) (λ ps. goes (plan_of head ns choice.phase globals.1 ps.1))) plan h in
+      let ps = then-ok (all_patterns notes count g.0.0 choice.patterns) (λ ps. goes (plan_of head ns choice.phase g.0.1 ps.1)) plan g.2 in
       let own = then-ok (all_lets (nothing_before ns) lets) (λ own. Then (all_lets own.0 choice.lets) (λ its. goes (its.0, map (in_force None) (own.1 ++ its.1)))) g.0 g.1 in
       let its = then-ok (all_lets own.0.0 choice.lets) (λ its. goes (its.0, map (in_force None) (own.0.1 ++ its.1))) g.0 own.2 in
       let same = same-value g.0 (its.0.0, map (in_force None) (own.0.1 ++ its.0.1)) its.2 in
-      let w = walked ns lets find choice own.0.0 its.0.0 own.0.1 its.0.1 ps.0.0 ps.0.1 own.1 its.1 (subst (λ x. all_patterns find count x.0 choice.patterns (Ok ps.0)) same ps.1) in
+      let w = walked ns lets notes choice own.0.0 its.0.0 own.0.1 its.0.1 ps.0.0 ps.0.1 own.1 its.1 (subst (λ x. all_patterns notes count x.0 choice.patterns (Ok ps.0)) same ps.1) in
       let is : plan ≡ plan_of head ns choice.phase (map (in_force None) (own.0.1 ++ its.0.1)) ps.0.1 = same-value plan _ ps.2 ∙ ap (λ x. plan_of head ns choice.phase x.1 ps.0.1) same in
       subst (λ p. IsCounted p → IsSound p) (sym is) (sound-from head ns choice.phase own.0.1 its.0.1 ps.0.1 count w)
 
   pub compiled-sound : (schema : FlatSchema) (phase : List ℕ) (plan : Plan) → compiled schema phase (Ok plan) → IsCounted plan → IsSound plan
   compiled-sound schema phase plan h =
-      let go : Choice → _ = λ choice. walk schema.head schema.ns schema.lets schema.diagnostics choice in
+      let go : Choice → _ = λ choice. walk schema.head schema.ns schema.lets (notes_of schema.diagnostics schema.properties) choice in
       let c = then-ok (chosen schema.head schema.phases schema.patterns phase) (λ choice. Unless (are_too_many choice.patterns) (too_many_patterns schema.head.node) (go choice)) plan h in
       let w = unless-ok (are_too_many c.0.patterns) (too_many_patterns schema.head.node) (go c.0) plan c.2 in
-      walk-sound schema.head schema.ns schema.lets schema.diagnostics c.0 plan w.1
+      walk-sound schema.head schema.ns schema.lets (notes_of schema.diagnostics schema.properties) c.0 plan w.1

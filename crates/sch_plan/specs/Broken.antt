@@ -50,6 +50,6 @@ thing_of _ = None
 abbrev pub type_fault : ℕ → TypeFault → SchemaFault
 type_fault node f = broken (rule_of f.kind) node (place_name (types.kind_name f.kind) f.offset (thing_of f.kind))
 
--- 27 too: the path of a name is no node-set
+-- 27 too: the path of a name, or a subject, is no node-set
 abbrev pub no_path : ℕ → SchemaFault
 no_path node = broken 27 node (codes "NodeSetWanted 0")

@@ -3,7 +3,6 @@ use Rattle.std.specs.Prelude.{ℕ, ◌+◌, suc, Bool, nat_lt, List, [], ◌∷�
 use Rattle.sch_base.specs.declared.limits.TheConstants.{MAX_ACTIVE_PATTERNS}
 use Rattle.sch_model.specs.declared.flat.FlatPattern.{FlatPattern}
 use Rattle.sch_model.specs.declared.flat.FlatSchema.{FlatSchema}
-use Rattle.sch_model.specs.declared.parts.Diagnostic.{Diagnostic}
 use Rattle.sch_model.specs.declared.parts.Head.{Head}
 use Rattle.sch_model.specs.declared.parts.LetDecl.{LetDecl}
 use Rattle.sch_model.specs.declared.parts.Ns.{Ns}
@@ -17,7 +16,7 @@ use Rattle.sch_plan.specs.declared.walker.PatternParts.{PatternParts}
 use Rattle.sch_plan.specs.Broken.{too_many_patterns}
 use Rattle.sch_plan.specs.Lets.{Seen, all_lets, nothing_before}
 use Rattle.sch_phases.specs.Phases.{chosen}
-use Rattle.sch_plan.specs.Rules.{all_patterns, diagnostic_of}
+use Rattle.sch_plan.specs.Rules.{Notes, all_patterns, notes_of}
 use Rattle.sch_phases.specs.Walk.{Stretch, Then, Unless, goes}
 
 abbrev pub lets_of_patterns : List FlatPattern → ℕ
@@ -58,10 +57,10 @@ global_lets seen lets phase_lets =
     Then (all_lets seen lets) (λ own.
     Then (all_lets own.0 phase_lets) (λ its. goes (its.0, map (in_force None) (own.1 ++ its.1))))
 
-abbrev pub walk : Head → List Ns → List LetDecl → List Diagnostic → Choice → Stretch Plan
-walk head ns lets diagnostics choice =
+abbrev pub walk : Head → List Ns → List LetDecl → Notes → Choice → Stretch Plan
+walk head ns lets notes choice =
     Then (global_lets (nothing_before ns) lets choice.lets) (λ globals.
-    Then (all_patterns (diagnostic_of diagnostics) (let_count lets choice) globals.0 choice.patterns) (λ patterns.
+    Then (all_patterns notes (let_count lets choice) globals.0 choice.patterns) (λ patterns.
     goes (plan_of head ns choice.phase globals.1 patterns.1)))
 
 abbrev pub are_too_many : List FlatPattern → Bool
@@ -72,4 +71,4 @@ abbrev pub compiled : FlatSchema → List ℕ → Stretch Plan
 compiled schema phase =
     Then (chosen schema.head schema.phases schema.patterns phase) (λ choice.
     Unless (are_too_many choice.patterns) (too_many_patterns schema.head.node)
-    (walk schema.head schema.ns schema.lets schema.diagnostics choice))
+    (walk schema.head schema.ns schema.lets (notes_of schema.diagnostics schema.properties) choice))

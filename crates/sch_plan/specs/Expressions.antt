@@ -58,6 +58,6 @@ abbrev pub is_node_set : ValueType → Bool
 is_node_set values.NodeSet = true
 is_node_set _ = false
 
--- the path of a name is a node-set
+-- the path of a name is a node-set, and so is a subject
 abbrev pub path : Scope → ℕ → List ℕ → Stretch TypedTree
 path S node text = Then (expression S node text) (λ t. Unless (not (is_node_set (type_of t))) (no_path node) (goes t))

@@ -132,7 +132,7 @@ pub(crate) fn match_pattern(
     short_pattern(alloc, env, node, text)
 }
 
-/// The path of a name: an expression whose value is a node-set.
+/// The path of a name, or a subject: an expression whose value is a node-set.
 pub(crate) fn path(alloc: Global, env: &Env, node: NodeId, text: &str) -> Result<Typed, SchemaError>
     requires { env.now.in_pattern ≡ false }
     ensures { Answers (path env.now node text.now) result }

@@ -1,4 +1,4 @@
-//! Messages and diagnostics.
+//! Messages, diagnostics and properties.
 
 ghost use Rattle.sch_plan.specs.Rules.{message, name_part, one_diagnostic, one_part, value_part};
 ghost use Rattle.sch_phases.specs.Walk.{Answers};
@@ -23,13 +23,8 @@ impl Scopes {
     fn name_part(&self, node: NodeId, path: &Option<Text>) -> Result<PlanPart, SchemaError>
         ensures { Answers (name_part self.now node path.now) result }
     {
-        match path {
-            Some(text) => {
-                let expr = self.path(node, text.as_str())?;
-                Ok(PlanPart::Name(Some(expr)))
-            }
-            None => Ok(PlanPart::Name(None)),
-        }
+        let path = self.optional_path(node, path)?;
+        Ok(PlanPart::Name(path))
     }
 
     /// A part of a message. Its characters are copied.
@@ -54,7 +49,7 @@ impl Scopes {
         Ok(list)
     }
 
-    /// A diagnostic. Several assertions may name it, so its texts are copied.
+    /// A diagnostic, or a property. Several assertions may name it, so its texts are copied.
     pub(crate) fn one_diagnostic(
         &self,
         alloc: Global,

@@ -3,10 +3,12 @@
 ghost use Rattle.std.specs.Prelude.{◌≡◌, ◌<◌, ◌^◌, false, [], length, take, IfOk, OnOk};
 ghost use Rattle.sch_plan.specs.Expressions.{expression, match_pattern, path};
 ghost use Rattle.sch_plan.specs.Lets.{is_seen, nothing_before, pattern_scope, scope, seen_after, with_prefix, with_prefixes};
+ghost use Rattle.sch_plan.specs.Rules.{optional_path};
 ghost use Rattle.sch_phases.specs.Walk.{Answers};
 
 use crate::expressions::{expression, match_pattern, path};
 use doc_tree::NodeId;
+use sch_base::Text;
 use sch_model::{Ns, SchemaError};
 use std::alloc::{AllocError, Global};
 use std::marker::Model;
@@ -81,11 +83,28 @@ impl Scopes {
         expression(self.alloc, &self.expressions, node, text)
     }
 
-    /// The path of a name at an element.
+    /// The path of a name, or a subject, at an element.
     pub(crate) fn path(&self, node: NodeId, text: &str) -> Result<Typed, SchemaError>
         ensures { Answers (path (scope self.now) node text.now) result }
     {
         path(self.alloc, &self.expressions, node, text)
+    }
+
+    /// The path of a name, or a subject, at an element, where there is one.
+    pub(crate) fn optional_path(
+        &self,
+        node: NodeId,
+        path: &Option<Text>,
+    ) -> Result<Option<Typed>, SchemaError>
+        ensures { Answers (optional_path self.now node path.now) result }
+    {
+        match path {
+            Some(text) => {
+                let expr = self.path(node, text.as_str())?;
+                Ok(Some(expr))
+            }
+            None => Ok(None),
+        }
     }
 
     /// A match pattern at an element.

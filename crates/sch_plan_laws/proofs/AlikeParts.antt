@@ -27,7 +27,7 @@ use Rattle.sch_plan.specs.Compiled.{are_too_many, compiled, global_lets, let_cou
 use Rattle.sch_plan.specs.Expressions.{expression, is_node_set, is_too_long, match_pattern, path, pattern_spelled, pattern_typed_in, short_expression, short_pattern, spelled, typed_in}
 use Rattle.sch_plan.specs.Lets.{Seen, all_lets, is_seen, nothing_before, one_let, pattern_scope, scope, with_prefix, with_prefixes}
 use Rattle.sch_phases.specs.Phases.{active_patterns, all_chosen, choice_of, chosen_by, chosen_name, is_active, is_named, no_phase, of_phase, phase_of}
-use Rattle.sch_plan.specs.Rules.{all_patterns, diagnostic_of, diagnostics_of, message, one_assertion, one_diagnostic, one_part, one_pattern, one_rule}
+use Rattle.sch_plan.specs.Rules.{Notes, all_patterns, diagnostic_of, diagnostics_of, message, named, notes_of, one_assertion, one_diagnostic, one_part, one_pattern, one_rule, optional_path, texts}
 use Rattle.sch_phases.specs.Walk.{Stretch, Then, Unless, every, goes}
 use Rattle.sch_plan_laws.specs.Places.{PlansNeedNoPlaces}
 use Rattle.sch_plan_laws.proofs.Alike.{Alike, alike-each, alike-every, alike-goes, alike-same, alike-stops, alike-then, alike-unless}
@@ -78,14 +78,19 @@ let-alike seen decl =
 lets-alike : (seen : Seen) (lets : List LetDecl) → Alike (all_lets seen lets) (all_lets seen (map placeless_let lets))
 lets-alike = alike-each one_let one_let placeless_let let-alike
 
+-- paths of names, and subjects
+optional_path-alike : (seen : Seen) (a b : ℕ) (text : Option (List ℕ)) → Alike (optional_path seen a text) (optional_path seen b text)
+optional_path-alike seen a b None = alike-same _
+optional_path-alike seen a b (Some text) =
+    alike-then (path (scope seen) a text) (path (scope seen) b text) _ _ (path-alike (scope seen) a b text) (λ t. alike-same _)
+
 -- messages
 part-alike : (seen : Seen) (part : Part) → Alike (one_part seen part) (one_part seen (placeless_part part))
 part-alike seen (written.Chars text) = alike-same _
 part-alike seen (written.ValueOf node select) =
     alike-then (expression (scope seen) node select) (expression (scope seen) 0 select) _ _ (expression-alike (scope seen) node 0 select) (λ t. alike-same _)
-part-alike seen (written.Name node None) = alike-same _
-part-alike seen (written.Name node (Some text)) =
-    alike-then (path (scope seen) node text) (path (scope seen) 0 text) _ _ (path-alike (scope seen) node 0 text) (λ t. alike-same _)
+part-alike seen (written.Name node text) =
+    alike-then (optional_path seen node text) (optional_path seen 0 text) _ _ (optional_path-alike seen node 0 text) (λ path. alike-same _)
 
 message-alike : (seen : Seen) (parts : List Part) → Alike (message seen parts) (message seen (map placeless_part parts))
 message-alike seen = alike-every (one_part seen) (one_part seen) placeless_part (part-alike seen)
@@ -94,7 +99,7 @@ diagnostic-alike : (seen : Seen) (d : Diagnostic) → Alike (one_diagnostic seen
 diagnostic-alike seen d =
     alike-then (message seen d.message) (message seen (map placeless_part d.message)) _ _ (message-alike seen d.message) (λ parts. alike-same _)
 
--- the diagnostics that are found
+-- the diagnostics, or the properties, that are found
 diagnostic-found-if : (b : Bool) (d : Diagnostic) (found : Option Diagnostic) → cond b (Some (placeless_diagnostic d)) (option_map placeless_diagnostic found) ≡ option_map placeless_diagnostic (cond b (Some d) found)
 diagnostic-found-if true d found = refl
 diagnostic-found-if false d found = refl
@@ -119,38 +124,48 @@ diagnostics-found ds (id ∷ ids) =
     ap₂ (λ l m. l ++ m) (ap option_to_list (diagnostic-found ds id) ∙ listed (diagnostic_of ds id)) (diagnostics-found ds ids)
     ∙ map-append placeless_diagnostic (option_to_list (diagnostic_of ds id)) (diagnostics_of (diagnostic_of ds) ids)
 
-module _ (ds : List Diagnostic) where
-  abbrev forgotten : List Diagnostic
-  forgotten = map placeless_diagnostic ds
+named-alike : (ds : List Diagnostic) (seen : Seen) (ids : List (List ℕ)) → Alike (named seen (diagnostic_of ds) ids) (named seen (diagnostic_of (map placeless_diagnostic ds)) ids)
+named-alike ds seen ids =
+    subst (λ found. Alike (named seen (diagnostic_of ds) ids) (every (one_diagnostic seen) found)) (sym (diagnostics-found ds ids))
+    (alike-every (one_diagnostic seen) (one_diagnostic seen) placeless_diagnostic (diagnostic-alike seen) (diagnostics_of (diagnostic_of ds) ids))
 
-  diagnostics-alike : (seen : Seen) (ids : List (List ℕ)) → Alike (every (one_diagnostic seen) (diagnostics_of (diagnostic_of ds) ids)) (every (one_diagnostic seen) (diagnostics_of (diagnostic_of forgotten) ids))
-  diagnostics-alike seen ids =
-      subst (λ found. Alike (every (one_diagnostic seen) (diagnostics_of (diagnostic_of ds) ids)) (every (one_diagnostic seen) found)) (sym (diagnostics-found ds ids))
-      (alike-every (one_diagnostic seen) (one_diagnostic seen) placeless_diagnostic (diagnostic-alike seen) (diagnostics_of (diagnostic_of ds) ids))
+module _ (ds ps : List Diagnostic) where
+  abbrev notes : Notes
+  notes = notes_of ds ps
 
-  assertion-alike : (seen : Seen) (a : Assertion) → Alike (one_assertion (diagnostic_of ds) seen a) (one_assertion (diagnostic_of forgotten) seen (placeless_assertion a))
+  abbrev forgotten : Notes
+  forgotten = notes_of (map placeless_diagnostic ds) (map placeless_diagnostic ps)
+
+  texts-alike : (seen : Seen) (a : Assertion) → Alike (texts notes seen a) (texts forgotten seen (placeless_assertion a))
+  texts-alike seen a =
+      alike-then (named seen notes.diagnostic a.diagnostics) (named seen forgotten.diagnostic a.diagnostics) _ _ (named-alike ds seen a.diagnostics)
+      (λ found. alike-then (named seen notes.property a.properties) (named seen forgotten.property a.properties) _ _ (named-alike ps seen a.properties)
+      (λ more. alike-then (message seen a.message) (message seen (map placeless_part a.message)) _ _ (message-alike seen a.message) (λ parts. alike-same _)))
+
+  assertion-alike : (seen : Seen) (a : Assertion) → Alike (one_assertion notes seen a) (one_assertion forgotten seen (placeless_assertion a))
   assertion-alike seen a =
       alike-then (expression (scope seen) a.node a.test) (expression (scope seen) 0 a.test) _ _ (expression-alike (scope seen) a.node 0 a.test)
-      (λ t. alike-then (every (one_diagnostic seen) (diagnostics_of (diagnostic_of ds) a.diagnostics)) (every (one_diagnostic seen) (diagnostics_of (diagnostic_of forgotten) a.diagnostics)) _ _ (diagnostics-alike seen a.diagnostics)
-      (λ found. alike-then (message seen a.message) (message seen (map placeless_part a.message)) _ _ (message-alike seen a.message) (λ parts. alike-same _)))
+      (λ t. alike-then (optional_path seen a.node a.subject) (optional_path seen 0 a.subject) _ _ (optional_path-alike seen a.node 0 a.subject)
+      (λ subject. alike-then (texts notes seen a) (texts forgotten seen (placeless_assertion a)) _ _ (texts-alike seen a) (λ its. alike-same _)))
 
-  rule-alike : (count : ℕ) (seen : Seen) (rule : FlatRule) → Alike (one_rule (diagnostic_of ds) count seen rule) (one_rule (diagnostic_of forgotten) count seen (placeless_flat_rule rule))
+  rule-alike : (count : ℕ) (seen : Seen) (rule : FlatRule) → Alike (one_rule notes count seen rule) (one_rule forgotten count seen (placeless_flat_rule rule))
   rule-alike count seen rule =
       alike-then (match_pattern (pattern_scope seen) rule.node rule.context) (match_pattern (pattern_scope seen) 0 rule.context) _ _ (match_pattern-alike (pattern_scope seen) rule.node 0 rule.context)
       (λ context. alike-then (all_lets (record seen { next = count }) rule.lets) (all_lets (record seen { next = count }) (map placeless_let rule.lets)) _ _ (lets-alike (record seen { next = count }) rule.lets)
-      (λ lets. alike-then (every (one_assertion (diagnostic_of ds) lets.0) rule.assertions) (every (one_assertion (diagnostic_of forgotten) lets.0) (map placeless_assertion rule.assertions)) _ _
-      (alike-every (one_assertion (diagnostic_of ds) lets.0) (one_assertion (diagnostic_of forgotten) lets.0) placeless_assertion (assertion-alike lets.0) rule.assertions)
-      (λ assertions. alike-same _)))
+      (λ lets. alike-then (optional_path lets.0 rule.node rule.subject) (optional_path lets.0 0 rule.subject) _ _ (optional_path-alike lets.0 rule.node 0 rule.subject)
+      (λ subject. alike-then (every (one_assertion notes lets.0) rule.assertions) (every (one_assertion forgotten lets.0) (map placeless_assertion rule.assertions)) _ _
+      (alike-every (one_assertion notes lets.0) (one_assertion forgotten lets.0) placeless_assertion (assertion-alike lets.0) rule.assertions)
+      (λ assertions. alike-same _))))
 
-  pattern-alike : (count : ℕ) (seen : Seen) (pattern : FlatPattern) → Alike (one_pattern (diagnostic_of ds) count seen pattern) (one_pattern (diagnostic_of forgotten) count seen (placeless_flat_pattern pattern))
+  pattern-alike : (count : ℕ) (seen : Seen) (pattern : FlatPattern) → Alike (one_pattern notes count seen pattern) (one_pattern forgotten count seen (placeless_flat_pattern pattern))
   pattern-alike count seen pattern =
       alike-then (all_lets seen pattern.lets) (all_lets seen (map placeless_let pattern.lets)) _ _ (lets-alike seen pattern.lets)
-      (λ lets. alike-then (every (one_rule (diagnostic_of ds) count lets.0) pattern.rules) (every (one_rule (diagnostic_of forgotten) count lets.0) (map placeless_flat_rule pattern.rules)) _ _
-      (alike-every (one_rule (diagnostic_of ds) count lets.0) (one_rule (diagnostic_of forgotten) count lets.0) placeless_flat_rule (rule-alike count lets.0) pattern.rules)
+      (λ lets. alike-then (every (one_rule notes count lets.0) pattern.rules) (every (one_rule forgotten count lets.0) (map placeless_flat_rule pattern.rules)) _ _
+      (alike-every (one_rule notes count lets.0) (one_rule forgotten count lets.0) placeless_flat_rule (rule-alike count lets.0) pattern.rules)
       (λ rules. alike-same _))
 
-  patterns-alike : (count : ℕ) (seen : Seen) (patterns : List FlatPattern) → Alike (all_patterns (diagnostic_of ds) count seen patterns) (all_patterns (diagnostic_of forgotten) count seen (map placeless_flat_pattern patterns))
-  patterns-alike count = alike-each (one_pattern (diagnostic_of ds) count) (one_pattern (diagnostic_of forgotten) count) placeless_flat_pattern (pattern-alike count)
+  patterns-alike : (count : ℕ) (seen : Seen) (patterns : List FlatPattern) → Alike (all_patterns notes count seen patterns) (all_patterns forgotten count seen (map placeless_flat_pattern patterns))
+  patterns-alike count = alike-each (one_pattern notes count) (one_pattern forgotten count) placeless_flat_pattern (pattern-alike count)
 
 -- the schema as a whole
 abbrev placeless_choice : Choice → Choice
@@ -232,35 +247,35 @@ module _ (next after : Choice → Stretch Plan) (alike : (choice : Choice) → A
       subst (λ found. Alike (Then (of_phase head.node name patterns (phase_of phases name)) next) (Then (of_phase 0 name (map placeless_flat_pattern patterns) found) after))
       (sym (phase-found phases name)) (of_phase-alike head.node 0 name patterns (phase_of phases name))
 
-module _ (head : Head) (ns : List Ns) (lets : List LetDecl) (ds : List Diagnostic) (choice : Choice) where
+module _ (head : Head) (ns : List Ns) (lets : List LetDecl) (ds ps : List Diagnostic) (choice : Choice) where
   first-alike : Alike (global_lets (nothing_before ns) lets choice.lets) (global_lets (nothing_before (map placeless_ns ns)) (map placeless_let lets) (map placeless_let choice.lets))
   first-alike =
       subst (λ seen. Alike (global_lets (nothing_before ns) lets choice.lets) (global_lets seen (map placeless_let lets) (map placeless_let choice.lets)))
       (sym (same-seen ns)) (global-alike (nothing_before ns) lets choice.lets)
 
-  then-alike : (seen : Seen) → Alike (all_patterns (diagnostic_of ds) (let_count lets choice) seen choice.patterns) (all_patterns (diagnostic_of (map placeless_diagnostic ds)) (let_count (map placeless_let lets) (placeless_choice choice)) seen (map placeless_flat_pattern choice.patterns))
+  then-alike : (seen : Seen) → Alike (all_patterns (notes ds ps) (let_count lets choice) seen choice.patterns) (all_patterns (forgotten ds ps) (let_count (map placeless_let lets) (placeless_choice choice)) seen (map placeless_flat_pattern choice.patterns))
   then-alike seen =
-      subst (λ count. Alike (all_patterns (diagnostic_of ds) (let_count lets choice) seen choice.patterns) (all_patterns (diagnostic_of (map placeless_diagnostic ds)) count seen (map placeless_flat_pattern choice.patterns)))
-      (sym (all-counted lets choice)) (patterns-alike ds (let_count lets choice) seen choice.patterns)
+      subst (λ count. Alike (all_patterns (notes ds ps) (let_count lets choice) seen choice.patterns) (all_patterns (forgotten ds ps) count seen (map placeless_flat_pattern choice.patterns)))
+      (sym (all-counted lets choice)) (patterns-alike ds ps (let_count lets choice) seen choice.patterns)
 
   same-plan : (forced : List LetInForce) (parts : List PatternParts) → plan_of head ns choice.phase forced parts ≡ plan_of (placeless_head head) (map placeless_ns ns) choice.phase forced parts
   same-plan forced parts = ap (λ namespaces. record (plan_of head ns choice.phase forced parts) { namespaces = namespaces }) (sym (same-namespaces ns))
 
-  walk-alike : Alike (walk head ns lets ds choice) (walk (placeless_head head) (map placeless_ns ns) (map placeless_let lets) (map placeless_diagnostic ds) (placeless_choice choice))
+  walk-alike : Alike (walk head ns lets (notes ds ps) choice) (walk (placeless_head head) (map placeless_ns ns) (map placeless_let lets) (forgotten ds ps) (placeless_choice choice))
   walk-alike =
       alike-then (global_lets (nothing_before ns) lets choice.lets) (global_lets (nothing_before (map placeless_ns ns)) (map placeless_let lets) (map placeless_let choice.lets)) _ _ first-alike
-      (λ globals. alike-then (all_patterns (diagnostic_of ds) (let_count lets choice) globals.0 choice.patterns) (all_patterns (diagnostic_of (map placeless_diagnostic ds)) (let_count (map placeless_let lets) (placeless_choice choice)) globals.0 (map placeless_flat_pattern choice.patterns)) _ _ (then-alike globals.0)
+      (λ globals. alike-then (all_patterns (notes ds ps) (let_count lets choice) globals.0 choice.patterns) (all_patterns (forgotten ds ps) (let_count (map placeless_let lets) (placeless_choice choice)) globals.0 (map placeless_flat_pattern choice.patterns)) _ _ (then-alike globals.0)
       (λ parts. subst (λ plan. Alike (goes (plan_of head ns choice.phase globals.1 parts.1)) (goes plan)) (same-plan globals.1 parts.1) (alike-same _)))
 
-  few-alike : Alike (Unless (are_too_many choice.patterns) (too_many_patterns head.node) (walk head ns lets ds choice)) (Unless (are_too_many (map placeless_flat_pattern choice.patterns)) (too_many_patterns 0) (walk (placeless_head head) (map placeless_ns ns) (map placeless_let lets) (map placeless_diagnostic ds) (placeless_choice choice)))
+  few-alike : Alike (Unless (are_too_many choice.patterns) (too_many_patterns head.node) (walk head ns lets (notes ds ps) choice)) (Unless (are_too_many (map placeless_flat_pattern choice.patterns)) (too_many_patterns 0) (walk (placeless_head head) (map placeless_ns ns) (map placeless_let lets) (forgotten ds ps) (placeless_choice choice)))
   few-alike =
-      subst (λ n. Alike (Unless (are_too_many choice.patterns) (too_many_patterns head.node) (walk head ns lets ds choice)) (Unless (nat_lt MAX_ACTIVE_PATTERNS n) (too_many_patterns 0) (walk (placeless_head head) (map placeless_ns ns) (map placeless_let lets) (map placeless_diagnostic ds) (placeless_choice choice))))
+      subst (λ n. Alike (Unless (are_too_many choice.patterns) (too_many_patterns head.node) (walk head ns lets (notes ds ps) choice)) (Unless (nat_lt MAX_ACTIVE_PATTERNS n) (too_many_patterns 0) (walk (placeless_head head) (map placeless_ns ns) (map placeless_let lets) (forgotten ds ps) (placeless_choice choice))))
       (sym (length-map choice.patterns placeless_flat_pattern))
       (alike-unless (are_too_many choice.patterns) (too_many_patterns head.node) (too_many_patterns 0) _ _ walk-alike)
 
 compiled-alike : (schema : FlatSchema) (phase : List ℕ) → Alike (compiled schema phase) (compiled (placeless_flat schema) phase)
 compiled-alike schema phase =
-    chosen-alike _ _ (few-alike schema.head schema.ns schema.lets schema.diagnostics)
+    chosen-alike _ _ (few-alike schema.head schema.ns schema.lets schema.diagnostics schema.properties)
     (bytes_eq (chosen_name schema.head phase) (codes "#ALL")) schema.head schema.phases schema.patterns (chosen_name schema.head phase)
 
 pub same-plans : PlansNeedNoPlaces

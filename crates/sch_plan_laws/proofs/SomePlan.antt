@@ -36,7 +36,7 @@ use Rattle.sch_plan.specs.Compiled.{are_too_many, compiled, global_lets, let_cou
 use Rattle.sch_plan.specs.Expressions.{expression, is_node_set, is_too_long, match_pattern, path, pattern_spelled, pattern_typed_in, short_expression, short_pattern, spelled, typed_in}
 use Rattle.sch_plan.specs.Lets.{Seen, all_lets, is_seen, nothing_before, one_let, pattern_scope, scope}
 use Rattle.sch_phases.specs.Phases.{chosen, chosen_by, chosen_name, of_phase, phase_of}
-use Rattle.sch_plan.specs.Rules.{all_patterns, diagnostic_of, diagnostics_of, message, one_assertion, one_diagnostic, one_part, one_pattern, one_rule}
+use Rattle.sch_plan.specs.Rules.{Notes, all_patterns, diagnostics_of, message, named, notes_of, one_assertion, one_diagnostic, one_part, one_pattern, one_rule, optional_path, texts}
 use Rattle.sch_phases.specs.Walk.{Unless, every, goes}
 use Rattle.sch_plan_laws.proofs.Outcomes.{IsSome, each-some, every-some, goes-some, stops-some, then-some, unless-some}
 
@@ -119,11 +119,14 @@ module _ (j : Judged) where
   all_lets-some : (seen : Seen) (lets : List LetDecl) → IsSome (all_lets seen lets)
   all_lets-some = each-some one_let one_let-some
 
+  optional_path-some : (seen : Seen) (node : ℕ) (text : Option (List ℕ)) → IsSome (optional_path seen node text)
+  optional_path-some seen node None = goes-some _
+  optional_path-some seen node (Some text) = then-some (path (scope seen) node text) _ (path-some (scope seen) node text) (λ t. goes-some _)
+
   part-some : (seen : Seen) (part : Part) → IsSome (one_part seen part)
   part-some seen (written.Chars text) = goes-some _
   part-some seen (written.ValueOf node select) = then-some (expression (scope seen) node select) _ (expression-some (scope seen) node select) (λ t. goes-some _)
-  part-some seen (written.Name node None) = goes-some _
-  part-some seen (written.Name node (Some text)) = then-some (path (scope seen) node text) _ (path-some (scope seen) node text) (λ t. goes-some _)
+  part-some seen (written.Name node text) = then-some (optional_path seen node text) _ (optional_path-some seen node text) (λ path. goes-some _)
 
   message-some : (seen : Seen) (parts : List Part) → IsSome (message seen parts)
   message-some seen = every-some (one_part seen) (part-some seen)
@@ -131,23 +134,33 @@ module _ (j : Judged) where
   diagnostic-some : (seen : Seen) (d : Diagnostic) → IsSome (one_diagnostic seen d)
   diagnostic-some seen d = then-some (message seen d.message) _ (message-some seen d.message) (λ parts. goes-some _)
 
-  assertion-some : (find : List ℕ → Option Diagnostic) (seen : Seen) (a : Assertion) → IsSome (one_assertion find seen a)
-  assertion-some find seen a =
-      then-some (expression (scope seen) a.node a.test) _ (expression-some (scope seen) a.node a.test)
-      (λ t. then-some (every (one_diagnostic seen) (diagnostics_of find a.diagnostics)) _ (every-some (one_diagnostic seen) (diagnostic-some seen) (diagnostics_of find a.diagnostics))
-      (λ ds. then-some (message seen a.message) _ (message-some seen a.message) (λ parts. goes-some _)))
+  named-some : (seen : Seen) (find : List ℕ → Option Diagnostic) (ids : List (List ℕ)) → IsSome (named seen find ids)
+  named-some seen find ids = every-some (one_diagnostic seen) (diagnostic-some seen) (diagnostics_of find ids)
 
-  rule-some : (find : List ℕ → Option Diagnostic) (count : ℕ) (seen : Seen) (rule : FlatRule) → IsSome (one_rule find count seen rule)
-  rule-some find count seen rule =
+  texts-some : (notes : Notes) (seen : Seen) (a : Assertion) → IsSome (texts notes seen a)
+  texts-some notes seen a =
+      then-some (named seen notes.diagnostic a.diagnostics) _ (named-some seen notes.diagnostic a.diagnostics)
+      (λ ds. then-some (named seen notes.property a.properties) _ (named-some seen notes.property a.properties)
+      (λ ps. then-some (message seen a.message) _ (message-some seen a.message) (λ parts. goes-some _)))
+
+  assertion-some : (notes : Notes) (seen : Seen) (a : Assertion) → IsSome (one_assertion notes seen a)
+  assertion-some notes seen a =
+      then-some (expression (scope seen) a.node a.test) _ (expression-some (scope seen) a.node a.test)
+      (λ t. then-some (optional_path seen a.node a.subject) _ (optional_path-some seen a.node a.subject)
+      (λ subject. then-some (texts notes seen a) _ (texts-some notes seen a) (λ its. goes-some _)))
+
+  rule-some : (notes : Notes) (count : ℕ) (seen : Seen) (rule : FlatRule) → IsSome (one_rule notes count seen rule)
+  rule-some notes count seen rule =
       then-some (match_pattern (pattern_scope seen) rule.node rule.context) _ (match_pattern-some (pattern_scope seen) rule.node rule.context)
       (λ context. then-some (all_lets (record seen { next = count }) rule.lets) _ (all_lets-some (record seen { next = count }) rule.lets)
-      (λ lets. then-some (every (one_assertion find lets.0) rule.assertions) _ (every-some (one_assertion find lets.0) (assertion-some find lets.0) rule.assertions)
-      (λ assertions. goes-some _)))
+      (λ lets. then-some (optional_path lets.0 rule.node rule.subject) _ (optional_path-some lets.0 rule.node rule.subject)
+      (λ subject. then-some (every (one_assertion notes lets.0) rule.assertions) _ (every-some (one_assertion notes lets.0) (assertion-some notes lets.0) rule.assertions)
+      (λ assertions. goes-some _))))
 
-  pattern-some : (find : List ℕ → Option Diagnostic) (count : ℕ) (seen : Seen) (pattern : FlatPattern) → IsSome (one_pattern find count seen pattern)
-  pattern-some find count seen pattern =
+  pattern-some : (notes : Notes) (count : ℕ) (seen : Seen) (pattern : FlatPattern) → IsSome (one_pattern notes count seen pattern)
+  pattern-some notes count seen pattern =
       then-some (all_lets seen pattern.lets) _ (all_lets-some seen pattern.lets)
-      (λ lets. then-some (every (one_rule find count lets.0) pattern.rules) _ (every-some (one_rule find count lets.0) (rule-some find count lets.0) pattern.rules)
+      (λ lets. then-some (every (one_rule notes count lets.0) pattern.rules) _ (every-some (one_rule notes count lets.0) (rule-some notes count lets.0) pattern.rules)
       (λ rules. goes-some _))
 
   global_lets-some : (seen : Seen) (lets more : List LetDecl) → IsSome (global_lets seen lets more)
@@ -163,14 +176,14 @@ module _ (j : Judged) where
   chosen_by-some true head phases patterns name = goes-some _
   chosen_by-some false head phases patterns name = of_phase-some head.node name patterns (phase_of phases name)
 
-  walk-some : (head : Head) (ns : List Ns) (lets : List LetDecl) (diagnostics : List Diagnostic) (choice : Choice) → IsSome (walk head ns lets diagnostics choice)
-  walk-some head ns lets diagnostics choice =
+  walk-some : (head : Head) (ns : List Ns) (lets : List LetDecl) (notes : Notes) (choice : Choice) → IsSome (walk head ns lets notes choice)
+  walk-some head ns lets notes choice =
       then-some (global_lets (nothing_before ns) lets choice.lets) _ (global_lets-some (nothing_before ns) lets choice.lets)
-      (λ globals. then-some (all_patterns (diagnostic_of diagnostics) (let_count lets choice) globals.0 choice.patterns) _
-      (each-some (one_pattern (diagnostic_of diagnostics) (let_count lets choice)) (pattern-some (diagnostic_of diagnostics) (let_count lets choice)) globals.0 choice.patterns)
+      (λ globals. then-some (all_patterns notes (let_count lets choice) globals.0 choice.patterns) _
+      (each-some (one_pattern notes (let_count lets choice)) (pattern-some notes (let_count lets choice)) globals.0 choice.patterns)
       (λ patterns. goes-some _))
 
   pub compiled-some : (schema : FlatSchema) (phase : List ℕ) → IsSome (compiled schema phase)
   compiled-some schema phase =
       then-some (chosen schema.head schema.phases schema.patterns phase) _ (chosen_by-some _ schema.head schema.phases schema.patterns (chosen_name schema.head phase))
-      (λ choice. unless-some (are_too_many choice.patterns) (too_many_patterns schema.head.node) _ (walk-some schema.head schema.ns schema.lets schema.diagnostics choice))
+      (λ choice. unless-some (are_too_many choice.patterns) (too_many_patterns schema.head.node) _ (walk-some schema.head schema.ns schema.lets (notes_of schema.diagnostics schema.properties) choice))

@@ -263,6 +263,7 @@ known-parts rules schema same =
       is_pattern = is_among (flat_map concrete_id schema.patterns);
       is_phase = is_among (map (λ phase. phase.id) schema.phases);
       is_diagnostic = is_among (map (λ diagnostic. diagnostic.id) schema.diagnostics);
+      is_property = is_among (map (λ property. property.id) schema.properties);
     }
   where
     one : (name : List ℕ) → is_named rules name ≡ is_named (abstract_rules schema) name

@@ -21,13 +21,15 @@ use Rattle.sch_rules.specs.Rules.{name_if}
 abbrev pub is_among : List (List ℕ) → List ℕ → Bool
 is_among ids name = list_any (bytes_eq name) ids
 
--- which names a schema has: ids of abstract rules, of abstract patterns and of those that aren't, of phases, and of diagnostics
+-- which names a schema has: ids of abstract rules, of abstract patterns and of those that aren't, of phases, of diagnostics, and
+-- of properties
 pub record Known : Type 0 where
   pub is_abstract_rule : List ℕ → Bool
   pub is_abstract_pattern : List ℕ → Bool
   pub is_pattern : List ℕ → Bool
   pub is_phase : List ℕ → Bool
   pub is_diagnostic : List ℕ → Bool
+  pub is_property : List ℕ → Bool
 
 abbrev pub abstract_id : RawPattern → List (List ℕ)
 abstract_id pattern = if pattern.is_abstract then option_to_list pattern.id else []
@@ -42,6 +44,7 @@ known_in schema = record {
   is_pattern = is_among (flat_map concrete_id schema.patterns);
   is_phase = is_among (map (λ phase. phase.id) schema.phases);
   is_diagnostic = is_among (map (λ diagnostic. diagnostic.id) schema.diagnostics);
+  is_property = is_among (map (λ property. property.id) schema.properties);
 }
 
 -- 10: an `extends` names no abstract rule
@@ -66,10 +69,18 @@ abbrev pub unknown_phase : Known → Option (List ℕ) → Option (List ℕ)
 unknown_phase known None = None
 unknown_phase known (Some name) = if bytes_eq name (codes "#ALL") then None else name_if (not (known.is_phase name)) name
 
+-- the first of some names that isn't known
+abbrev pub first_unknown : (List ℕ → Bool) → List (List ℕ) → Option (List ℕ)
+first_unknown is_known [] = None
+first_unknown is_known (name ∷ names) = if is_known name then first_unknown is_known names else Some name
+
 -- 15: the first name of a diagnostic that isn't there
 abbrev pub unknown_diagnostic : Known → List (List ℕ) → Option (List ℕ)
-unknown_diagnostic known [] = None
-unknown_diagnostic known (name ∷ names) = if known.is_diagnostic name then unknown_diagnostic known names else Some name
+unknown_diagnostic known names = first_unknown known.is_diagnostic names
+
+-- 32: the first name of a property that isn't there
+abbrev pub unknown_property : Known → List (List ℕ) → Option (List ℕ)
+unknown_property known names = first_unknown known.is_property names
 
 -- the places of a schema at which these rules can be broken
 abbrev pub head_place : Known → Head → Place
@@ -82,7 +93,10 @@ abbrev pub phase_places : Known → Phase → List Place
 phase_places known phase = map (active_place known) phase.active
 
 abbrev pub assertion_place : Known → Assertion → Place
-assertion_place known assertion = record { node = assertion.node; rules = (15, unknown_diagnostic known assertion.diagnostics) ∷ [] }
+assertion_place known assertion = record {
+  node = assertion.node;
+  rules = (15, unknown_diagnostic known assertion.diagnostics) ∷ (32, unknown_property known assertion.properties) ∷ [];
+}
 
 abbrev pub extends_place : Known → List RawRule → RawRule → ℕ → List ℕ → Place
 extends_place known rules rule node name =

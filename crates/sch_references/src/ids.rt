@@ -2,15 +2,17 @@
 
 ghost use Rattle.std.specs.Prelude.{◌≡◌, ◌∷◌, [], Some, map, IsSome, OnOk, IfOk};
 ghost use Rattle.std.specs.List.{flat_map};
+ghost use Rattle.std.specs.Option.{option_copied};
 ghost use Rattle.sch_references.specs.Cycles.{leads_back, leads_to};
 ghost use Rattle.sch_references.specs.Extends.{abstract_rules};
-ghost use Rattle.sch_references.specs.References.{abstract_id, concrete_id, is_among, known_in};
+ghost use Rattle.sch_references.specs.References.{abstract_id, concrete_id, first_unknown, is_among, known_in};
 ghost use Rattle.sch_references.specs.inner.Firsts.{with_rules};
 ghost use Rattle.sch_references.specs.inner.Order.{Found};
 ghost use Rattle.sch_references.specs.inner.KnownIds.{known_by, no_parts, with_ids, with_parts};
 
 use crate::order::RuleOrder;
 use indexmap::IndexSet;
+use sch_base::Text;
 use sch_model::{Diagnostic, Phase, RawPattern, RawRule, RawSchema};
 use std::alloc::{AllocError, Global};
 use std::marker::Model;
@@ -108,7 +110,7 @@ impl IdSet {
         Ok(())
     }
 
-    /// Adds the ids of diagnostics.
+    /// Adds the ids of diagnostics, or of properties.
     fn add_diagnostics(&mut self, diagnostics: &[Diagnostic]) -> Result<(), AllocError>
         ensures { OnOk result (is_among self.new ≡ with_ids (is_among self.old) (map (λ diagnostic. diagnostic.id) diagnostics.now)) }
     {
@@ -116,6 +118,18 @@ impl IdSet {
             self.add(diagnostic.id.as_str())?;
         }
         Ok(())
+    }
+
+    /// The first of some names that is none of the ids.
+    pub(crate) fn first_unknown<'a>(&self, names: &'a [Text]) -> Option<&'a str>
+        ensures { option_copied result ≡ first_unknown (is_among self.now) names.now }
+    {
+        for name in names {
+            if !self.has(name.as_str()) {
+                return Some(name.as_str());
+            }
+        }
+        None
     }
 
     /// Whether the name is one of the ids.
@@ -137,6 +151,7 @@ pub(crate) struct Ids<'a> {
     pub(crate) patterns: IdSet,
     pub(crate) phases: IdSet,
     pub(crate) diagnostics: IdSet,
+    pub(crate) properties: IdSet,
 }
 
 impl<'a> Ids<'a> {
@@ -174,6 +189,7 @@ impl<'a> Ids<'a> {
             patterns: IdSet::new(alloc),
             phases: IdSet::new(alloc),
             diagnostics: IdSet::new(alloc),
+            properties: IdSet::new(alloc),
         };
         match ids.fill(schema) {
             Ok(()) => Ok(ids),
@@ -196,6 +212,8 @@ impl<'a> Ids<'a> {
         self.phases.add_phases(schema.phases.as_slice())?;
         self.diagnostics
             .add_diagnostics(schema.diagnostics.as_slice())?;
+        self.properties
+            .add_diagnostics(schema.properties.as_slice())?;
         Ok(())
     }
 

@@ -1,5 +1,5 @@
-//! The names to which a Schematron schema refers: abstract rules and patterns, patterns, phases and diagnostics (ISO/IEC
-//! 19757-3:2016, section 5.4), and the order in which abstract rules extend one another.
+//! The names to which a Schematron schema refers: abstract rules and patterns, patterns, phases, diagnostics and
+//! properties (ISO/IEC 19757-3:2016, section 5.4), and the order in which abstract rules extend one another.
 #![tactic(auto)]
 
 mod ids;

@@ -2,9 +2,8 @@
 
 ghost use Rattle.std.specs.Prelude.{◌≡◌, ◌∷◌, [], None, Some, IfErr, IfOk, OnOk};
 ghost use Rattle.std.specs.List.{flat_map};
-ghost use Rattle.std.specs.Option.{option_copied};
 ghost use Rattle.sch_references.specs.Places.{first_among};
-ghost use Rattle.sch_references.specs.References.{active_place, assertion_place, extends_place, head_place, item_places, origin_place, pattern_places, phase_places, places_with, reference_places, rule_places, unknown_diagnostic, unknown_phase};
+ghost use Rattle.sch_references.specs.References.{active_place, assertion_place, extends_place, head_place, item_places, origin_place, pattern_places, phase_places, places_with, reference_places, rule_places, unknown_phase, unknown_property};
 ghost use Rattle.sch_references.specs.Ended.{Ended, Refuses};
 ghost use Rattle.sch_references.specs.Extends.{abstract_rules};
 ghost use Rattle.sch_references.specs.Order.{IsOrderOf};
@@ -14,7 +13,6 @@ ghost use Rattle.sch_references.specs.inner.Onto.{onto};
 
 use crate::ids::Ids;
 use crate::order::RuleOrder;
-use sch_base::Text;
 use sch_first_fault::FirstFault;
 use sch_model::{
     Active, Assertion, Head, NodeId, Phase, RawItem, RawPattern, RawRule, RawSchema, SchemaError,
@@ -121,7 +119,7 @@ impl Ids<'_> {
         Ok(())
     }
 
-    /// Rule 15: there is no such diagnostic.
+    /// Rule 15: there is no such diagnostic. Rule 32, where it keeps that one: there is no such property.
     fn check_assertion(
         &self,
         first: &mut FirstFault,
@@ -129,22 +127,26 @@ impl Ids<'_> {
     ) -> Result<(), AllocError>
         ensures { OnOk result (first.new ≡ onto first.old (assertion_place (known_by self.now) assertion.now ∷ [])) }
     {
-        match self.unknown_diagnostic(assertion.diagnostics.as_slice()) {
+        let named = assertion.diagnostics.as_slice();
+        match self.diagnostics.first_unknown(named) {
             Some(name) => first.tell(15, assertion.node, name),
-            None => Ok(()),
+            None => self.check_properties(first, assertion),
         }
     }
 
-    /// The first name of no diagnostic.
-    fn unknown_diagnostic<'a>(&self, names: &'a [Text]) -> Option<&'a str>
-        ensures { option_copied result ≡ unknown_diagnostic (known_by self.now) names.now }
+    /// Rule 32: there is no such property.
+    fn check_properties(
+        &self,
+        first: &mut FirstFault,
+        assertion: &Assertion,
+    ) -> Result<(), AllocError>
+        ensures { OnOk result (first.new ≡ onto first.old (record { node = assertion.now.node; rules = (32, unknown_property (known_by self.now) assertion.now.properties) ∷ [] } ∷ [])) }
     {
-        for name in names {
-            if !self.diagnostics.has(name.as_str()) {
-                return Some(name.as_str());
-            }
+        let named = assertion.properties.as_slice();
+        match self.properties.first_unknown(named) {
+            Some(name) => first.tell(32, assertion.node, name),
+            None => Ok(()),
         }
-        None
     }
 
     /// Rules 10 and 11: there is no such abstract rule, or it leads back to the rule that extends it.

@@ -127,7 +127,9 @@ assertion_of T report n = record {
   role = said T n (codes "role");
   flag = said T n (codes "flag");
   test = said_text T n (codes "test");
+  subject = said T n (codes "subject");
   diagnostics = ids_in (said_text T n (codes "diagnostics"));
+  properties = ids_in (said_text T n (codes "properties"));
   message = message_of T n;
 }
 
@@ -148,6 +150,7 @@ rule_of T n = record {
   is_abstract = is_abstract T n;
   id = said T n (codes "id");
   context = said T n (codes "context");
+  subject = said T n (codes "subject");
   role = said T n (codes "role");
   flag = said T n (codes "flag");
   items = flat_map (item_at T) (kids_of T n);
@@ -164,12 +167,19 @@ pattern_of T n = record {
   rules = read_kids T word.Rule (rule_of T) n;
 }
 
+-- a diagnostic, or a property
 abbrev pub diagnostic_of : Table → ℕ → Diagnostic
 diagnostic_of T n = record { node = n; id = said_text T n (codes "id"); message = message_of T n }
 
--- the diagnostics of a `diagnostics` element
+-- what an element holds of diagnostics, where it is `diagnostics`, or of properties, where it is `properties`
+abbrev pub notes_at : Table → Word → Word → ℕ → List Diagnostic
+notes_at T group note n = if is_word group (word_at T n) then read_kids T note (diagnostic_of T) n else []
+
 abbrev pub diagnostics_at : Table → ℕ → List Diagnostic
-diagnostics_at T n = if is_word word.Diagnostics (word_at T n) then read_kids T word.Diagnostic (diagnostic_of T) n else []
+diagnostics_at T n = notes_at T word.Diagnostics word.Diagnostic n
+
+abbrev pub properties_at : Table → ℕ → List Diagnostic
+properties_at T n = notes_at T word.Properties word.Property n
 
 abbrev pub head_of : Table → ℕ → Head
 head_of T n = record {
@@ -187,6 +197,7 @@ schema_of T n = record {
   phases = read_kids T word.Phase (phase_of T) n;
   patterns = read_kids T word.Pattern (pattern_of T) n;
   diagnostics = flat_map (diagnostics_at T) (kids_of T n);
+  properties = flat_map (properties_at T) (kids_of T n);
 }
 
 abbrev pub raw_schema : Table → RawSchema

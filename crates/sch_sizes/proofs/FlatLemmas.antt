@@ -17,7 +17,7 @@ use Rattle.pyx_core.specs.declared.event.Event.{Event}
 use Rattle.pyx_core.specs.declared.event.Event.TheVariants.{Start, End}
 use Rattle.sch_expansion.specs.Flat.{assertion_in, assertion_with, bare_pattern, concrete_patterns, concrete_rules, flat_pattern, flat_rule, flat_schema, let_in, let_with, pattern_from, rule_with}
 use Rattle.sch_expansion.specs.Stands.{replaced, stands_for}
-use Rattle.sch_flat.specs.FlatDocument.{assertion_events, element, let_events, only_given, pattern_events, rule_events}
+use Rattle.sch_flat.specs.FlatDocument.{assertion_events, element, let_events, only_given, pattern_events, rule_attributes, rule_events}
 use Rattle.sch_flat.proofs.SizeLemmas.{bytes-append, nodes-append}
 use Rattle.sch_sizes.specs.inner.Amounts.{many, nothing, of_events, plus, sum_all}
 use Rattle.sch_sizes.specs.inner.Schemas.{concrete_meant, phase_lets}
@@ -104,7 +104,7 @@ rule_sized rule =
     let assertions = flat_map assertion_events rule.assertions in
     ap (plus (sizes.flat_rule rule))
     (ap₂ plus (sym (of-flat let_events rule.lets)) (sym (of-flat assertion_events rule.assertions)) ∙ sym (of-append lets assertions))
-    ∙ sym (of-element (codes "sch:rule") ((codes "id", rule.id) ∷ (codes "context", Some rule.context) ∷ (codes "role", rule.role) ∷ (codes "flag", rule.flag) ∷ []) (lets ++ assertions))
+    ∙ sym (of-element (codes "sch:rule") (rule_attributes rule) (lets ++ assertions))
 
 pub pattern_sized : (pattern : FlatPattern) → flat_amount sizes pattern ≡ of_events (pattern_events pattern)
 pattern_sized pattern =

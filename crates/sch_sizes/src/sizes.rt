@@ -119,6 +119,7 @@ fn fits(schema: &RawSchema, patterns: FlatSize) -> bool
         lets: &schema.lets,
         phases: &schema.phases,
         diagnostics: &schema.diagnostics,
+        properties: &schema.properties,
     };
     let size = size_with_patterns(parts, patterns);
     size.bytes <= MAX_TEXT_BYTES as u64 && size.nodes < MAX_LIVE_NODES as u64

@@ -1,6 +1,6 @@
 //! How large the parts of a pattern are in the document of the schema without its abstract parts.
 
-ghost use Rattle.std.specs.Prelude.{◌≡◌, None, Some, IfOk};
+ghost use Rattle.std.specs.Prelude.{◌≡◌, None, Some, IfOk, option_map};
 ghost use Rattle.sch_expansion.specs.Flat.{part_with, text_or_empty};
 ghost use Rattle.sch_flat.specs.FlatDocument.{part_events};
 ghost use Rattle.sch_flat.specs.FlatSize.{escapes_len, size_of};
@@ -12,8 +12,8 @@ use crate::filled_len::FilledLen;
 use crate::pattern::Scale;
 use crate::sum::{Weighing, sum_over};
 use sch_flat::{
-    FlatSize, assertion_size, characters_size, escaped_len, let_size, name_size, pattern_size,
-    rule_size, value_of_size,
+    FlatSize, RuleLabels, assertion_size, characters_size, escaped_len, let_size, name_size,
+    pattern_size, rule_size, value_of_size,
 };
 use sch_model::{Assertion, LetDecl, Param, Part, RawPattern, RawRule, Text};
 use std::alloc::{AllocError, Global};
@@ -64,6 +64,16 @@ impl<'a> Sizing<'a> {
         }
     }
 
+    /// The bytes of a text, with its escapes, where there is one.
+    fn optional_len(&self, text: &Option<Text>) -> Option<u64>
+        ensures { result ≡ option_map escapes_len (option_map (change_by self.now.filled) text.now) }
+    {
+        match text {
+            Some(text) => Some(self.len(text.as_str())),
+            None => None,
+        }
+    }
+
     /// How large a part of a message is.
     fn part_size(&self, part: &Part) -> FlatSize
         ensures { result ≡ size_of (part_events (part_with (change_by self.now.filled) part.now)) }
@@ -71,11 +81,7 @@ impl<'a> Sizing<'a> {
         match part {
             Part::Chars(text) => characters_size(text),
             Part::ValueOf { select, .. } => value_of_size(self.len(select.as_str())),
-            Part::Name {
-                path: Some(path),
-                ..
-            } => name_size(Some(self.len(path.as_str()))),
-            Part::Name { path: None, .. } => name_size(None),
+            Part::Name { path, .. } => name_size(self.optional_len(path)),
         }
     }
 }
@@ -98,18 +104,19 @@ impl<'a> Scale for Sizing<'a> {
     fn of_assertion(&self, assertion: &Assertion) -> Amount {
         let held = sum_over::<Part, _>(self, assertion.message.as_slice());
         let test_len = self.len(assertion.test.as_str());
-        Amount::of_size(assertion_size(assertion, test_len, held.size()))
+        let subject_len = self.optional_len(&assertion.subject);
+        Amount::of_size(assertion_size(assertion, test_len, subject_len, held.size()))
     }
 
     fn of_rule(&self, rule: &RawRule) -> Amount {
         let context_len = self.len_or_empty(&rule.context);
-        let size = rule_size(
-            &rule.id,
-            &rule.role,
-            &rule.flag,
-            context_len,
-            FlatSize::none(),
-        );
+        let subject_len = self.optional_len(&rule.subject);
+        let labels = RuleLabels {
+            id: &rule.id,
+            role: &rule.role,
+            flag: &rule.flag,
+        };
+        let size = rule_size(labels, context_len, subject_len, FlatSize::none());
         Amount::of_size(size)
     }
 

@@ -1,4 +1,4 @@
-//! The patterns that a document says, with their rules and assertions, and its diagnostics.
+//! The patterns that a document says, with their rules and assertions, and its diagnostics and properties.
 
 ghost use Rattle.std.specs.Prelude.{◌≡◌, ◌∷◌, [], ◌++◌, codes, IfOk, OnOk};
 ghost use Rattle.std.specs.List.{flat_map};
@@ -6,7 +6,7 @@ ghost use Rattle.doc_tree.specs.Table.{kids_of};
 ghost use Rattle.sch_model.specs.declared.raw.RawItem.TheVariants as item;
 ghost use Rattle.sch_rules.specs.Attributes.{said, said_text};
 ghost use Rattle.sch_rules.specs.declared.word.Word.TheVariants as word;
-ghost use Rattle.sch_rules.specs.RawSchema.{assertion_of, diagnostic_of, diagnostics_at, ids_in, item_at, let_of, pattern_of, read_if, read_kids, rule_of};
+ghost use Rattle.sch_rules.specs.RawSchema.{assertion_of, diagnostic_of, ids_in, item_at, let_of, message_of, notes_at, pattern_of, read_if, read_kids, rule_of};
 ghost use Rattle.sch_source.specs.Counts.{Counts, Stands};
 
 use crate::ids::ids_in;
@@ -53,7 +53,9 @@ impl Source<'_> {
             role: None,
             flag: None,
             test,
+            subject: None,
             diagnostics: ItemList::new(self.alloc),
+            properties: ItemList::new(self.alloc),
             message: ItemList::new(self.alloc),
         };
         match self.read_assertion(&mut assertion, n) {
@@ -65,11 +67,11 @@ impl Source<'_> {
         }
     }
 
-    /// The ids of the diagnostics that an assertion names.
-    fn diagnostic_ids(&self, n: NodeId) -> Result<TextList, AllocError>
-        ensures { IfOk result (λ ids. ids ≡ ids_in (said_text self.now.tree.now.nodes n (codes "diagnostics"))) }
+    /// The ids in an attribute.
+    fn ids(&self, n: NodeId, name: &str) -> Result<TextList, AllocError>
+        ensures { IfOk result (λ ids. ids ≡ ids_in (said_text self.now.tree.now.nodes n name.now)) }
     {
-        ids_in(self.alloc, self.said_text(n, "diagnostics"))
+        ids_in(self.alloc, self.said_text(n, name))
     }
 
     /// Reads what an assertion says besides its test.
@@ -83,7 +85,21 @@ impl Source<'_> {
             &mut assertion.flag,
             n,
         )?;
-        put(&mut assertion.diagnostics, self.diagnostic_ids(n)?);
+        self.read_optional(&mut assertion.subject, n, "subject")?;
+        self.read_told(assertion, n)
+    }
+
+    /// Reads what an assertion tells: the ids of its diagnostics and properties, and its message.
+    fn read_told(&self, assertion: &mut Assertion, n: NodeId) -> Result<(), AllocError>
+        requires { Stands self.now.tree.now.nodes n }
+        ensures { OnOk result (assertion.new ≡ record assertion.old {
+          diagnostics = ids_in (said_text self.now.tree.now.nodes n (codes "diagnostics"));
+          properties = ids_in (said_text self.now.tree.now.nodes n (codes "properties"));
+          message = message_of self.now.tree.now.nodes n;
+        }) }
+    {
+        put(&mut assertion.diagnostics, self.ids(n, "diagnostics")?);
+        put(&mut assertion.properties, self.ids(n, "properties")?);
         put(&mut assertion.message, self.message(n)?);
         Ok(())
     }
@@ -155,6 +171,7 @@ impl Source<'_> {
             is_abstract: self.is_abstract(n),
             id: None,
             context: None,
+            subject: None,
             role: None,
             flag: None,
             items: ItemList::new(self.alloc),
@@ -175,6 +192,7 @@ impl Source<'_> {
     {
         self.read_labels(&mut rule.id, &mut rule.role, &mut rule.flag, n)?;
         self.read_optional(&mut rule.context, n, "context")?;
+        self.read_optional(&mut rule.subject, n, "subject")?;
         put(&mut rule.items, self.items(n)?);
         Ok(())
     }
@@ -223,7 +241,7 @@ impl Source<'_> {
         Ok(())
     }
 
-    /// A diagnostic.
+    /// A diagnostic, or a property.
     fn diagnostic(&self, n: NodeId) -> Result<Diagnostic, AllocError>
         requires { Stands self.now.tree.now.nodes n }
         ensures { IfOk result (λ diagnostic. diagnostic ≡ diagnostic_of self.now.tree.now.nodes n) }
@@ -285,41 +303,52 @@ impl Source<'_> {
         Ok(list)
     }
 
-    /// Puts a diagnostic at the end, where the node is one.
-    fn push_diagnostic(&self, list: &mut DiagnosticList, n: NodeId) -> Result<(), AllocError>
+    /// Puts a diagnostic or a property at the end, where the node is this element.
+    fn push_note(&self, list: &mut DiagnosticList, note: Word, n: NodeId) -> Result<(), AllocError>
         requires { Stands self.now.tree.now.nodes n }
-        ensures { OnOk result (list.new ≡ list.old ++ read_if self.now.tree.now.nodes word.Diagnostic (diagnostic_of self.now.tree.now.nodes) n) }
+        ensures { OnOk result (list.new ≡ list.old ++ read_if self.now.tree.now.nodes note (diagnostic_of self.now.tree.now.nodes) n) }
     {
-        if is_word(Word::Diagnostic, self.word_at(n)) {
+        if is_word(note, self.word_at(n)) {
             list.push(self.diagnostic(n)?)?;
         }
         Ok(())
     }
 
-    /// Puts the diagnostics of a `diagnostics` element at the end, where the node is one.
-    fn push_diagnostics(&self, list: &mut DiagnosticList, n: NodeId) -> Result<(), AllocError>
+    /// Puts what such an element holds of such elements at the end, where the node is one.
+    fn push_notes(
+        &self,
+        list: &mut DiagnosticList,
+        group: Word,
+        note: Word,
+        n: NodeId,
+    ) -> Result<(), AllocError>
         requires { Stands self.now.tree.now.nodes n }
-        ensures { OnOk result (list.new ≡ list.old ++ diagnostics_at self.now.tree.now.nodes n) }
+        ensures { OnOk result (list.new ≡ list.old ++ notes_at self.now.tree.now.nodes group note n) }
     {
-        if !is_word(Word::Diagnostics, self.word_at(n)) {
+        if !is_word(group, self.word_at(n)) {
             return Ok(());
         }
         self.tree.laws();
         for kid in self.tree.kids(n) {
-            self.push_diagnostic(list, *kid)?;
+            self.push_note(list, note, *kid)?;
         }
         Ok(())
     }
 
-    /// The diagnostics of a schema.
-    pub(crate) fn diagnostics(&self, n: NodeId) -> Result<DiagnosticList, AllocError>
+    /// The diagnostics of a schema, or its properties, by the elements that hold them and their own.
+    pub(crate) fn notes(
+        &self,
+        group: Word,
+        note: Word,
+        n: NodeId,
+    ) -> Result<DiagnosticList, AllocError>
         requires { Counts self.now.tree.now.nodes n }
-        ensures { IfOk result (λ list. list ≡ flat_map (diagnostics_at self.now.tree.now.nodes) (kids_of self.now.tree.now.nodes n)) }
+        ensures { IfOk result (λ list. list ≡ flat_map (notes_at self.now.tree.now.nodes group note) (kids_of self.now.tree.now.nodes n)) }
     {
         self.tree.laws();
         let mut list = ItemList::new(self.alloc);
         for kid in self.tree.kids(n) {
-            self.push_diagnostics(&mut list, *kid)?;
+            self.push_notes(&mut list, group, note, *kid)?;
         }
         Ok(list)
     }

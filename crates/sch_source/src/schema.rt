@@ -53,6 +53,7 @@ impl Source<'_> {
             phases: ItemList::new(self.alloc),
             patterns: ItemList::new(self.alloc),
             diagnostics: ItemList::new(self.alloc),
+            properties: ItemList::new(self.alloc),
         };
         match self.read_parts(&mut raw, n) {
             Ok(()) => Ok(raw),
@@ -70,13 +71,28 @@ impl Source<'_> {
     {
         self.read_declarations(raw, n)?;
         put(&mut raw.patterns, self.patterns(n)?);
-        put(&mut raw.diagnostics, self.diagnostics(n)?);
+        self.read_notes(raw, n)
+    }
+
+    /// Reads the diagnostics and the properties of a schema.
+    fn read_notes(&self, raw: &mut RawSchema, n: NodeId) -> Result<(), AllocError>
+        requires { Counts self.now.tree.now.nodes n }
+        ensures { OnOk result (raw.new ≡ record raw.old { diagnostics = (schema_of self.now.tree.now.nodes n).diagnostics; properties = (schema_of self.now.tree.now.nodes n).properties }) }
+    {
+        put(
+            &mut raw.diagnostics,
+            self.notes(Word::Diagnostics, Word::Diagnostic, n)?,
+        );
+        put(
+            &mut raw.properties,
+            self.notes(Word::Properties, Word::Property, n)?,
+        );
         Ok(())
     }
 
     /// Reads the prefixes, the lets and the phases of a schema.
     fn read_declarations(&self, raw: &mut RawSchema, n: NodeId) -> Result<(), AllocError>
-        ensures { OnOk result (raw.new ≡ record (schema_of self.now.tree.now.nodes n) { head = raw.old.head; patterns = raw.old.patterns; diagnostics = raw.old.diagnostics }) }
+        ensures { OnOk result (raw.new ≡ record (schema_of self.now.tree.now.nodes n) { head = raw.old.head; patterns = raw.old.patterns; diagnostics = raw.old.diagnostics; properties = raw.old.properties }) }
     {
         put(&mut raw.ns, self.ns_list(n)?);
         put(&mut raw.lets, self.lets(n)?);

@@ -1,10 +1,11 @@
 -- Where a rule fires, it is the first that matches, and what it finds are findings of its assertions.
 use Rattle.std.proofs.Common.{◌≡◌, ℕ, zero, suc, ◌+◌, ◌<◌, Bool, true, false, cond, List, [], ◌∷◌, ◌++◌, length, refl, sym, ◌∙◌, ap, subst, Ok, arith}
 use Rattle.std.specs.Prelude.{All, IsSomeAnd, Option, Some, None, slice_get}
-use Rattle.std.specs.Option.{option_to_list}
+use Rattle.std.specs.Option.{option_or, option_to_list}
 use Rattle.std.specs.List.{AllByRecursion as Each}
 use Rattle.std.proofs.lemmas.List.Elements.{All-from_recursion}
 use Rattle.doc_tree.specs.Table.{Table}
+use Rattle.xp_typed_tree.specs.TypedTree.{TypedTree}
 use Rattle.xp_outcome.specs.Evaluation.{Evaluation, done, bind, gather}
 use Rattle.xp_outcome.specs.Slots.{with_slot}
 use Rattle.xp_values.specs.declared.values.EvalFault.{EvalFault}
@@ -19,9 +20,11 @@ use Rattle.sch_compiled.specs.declared.parts.PlanRule.{PlanRule}
 use Rattle.sch_compiled.specs.declared.findings.Finding.{Finding}
 use Rattle.sch_compiled.specs.declared.findings.Outcome.{Outcome}
 use Rattle.sch_compiled.specs.declared.findings.Outcome.TheVariants.{NoRule, Fired, Fault}
+use Rattle.sch_compiled.specs.Findings.{HasTextsOf, IsFindingOf}
 use Rattle.sch_units.specs.Messages.{alone, message, diagnostic_texts}
-use Rattle.sch_units.specs.Firing.{is_found, found, asserted, fired_by, first_rule}
-use Rattle.sch_units.specs.Laws.{IsFindingOf, FiresAlone}
+use Rattle.sch_units.specs.Firing.{is_found, placed_at, found, asserted, fired_by, first_rule}
+use Rattle.sch_units.specs.Laws.{FiresAlone}
+use Rattle.sch_units.proofs.FindingParts.{finding_of, with_message, with_properties, with_texts}
 
 -- outcomes by their parts
 place_in : Outcome → ℕ
@@ -45,12 +48,12 @@ same_findings r s fs gs is = ap findings_in is
 -- a finding of an assertion at a place
 pub record OfPlace (i : ℕ) (a : PlanAssert) (f : Finding) : Type 0 where
   pub place : f.assertion ≡ i
-  pub texts : length f.diagnostics ≡ length a.diagnostics
+  pub texts : HasTextsOf f a
 
 each_placed : (all : List PlanAssert) (i : ℕ) (a : PlanAssert) (fs : List Finding) → slice_get all i ≡ Some a → Each (OfPlace i a) fs → Each (IsFindingOf all) fs
 each_placed all i a [] there h = tt
 each_placed all i a (f ∷ fs) there h =
-    (subst (λ o. IsSomeAnd o (λ b. length f.diagnostics ≡ length b.diagnostics)) (sym (ap (slice_get all) h.0.place ∙ there)) h.0.texts, each_placed all i a fs there h.1)
+    (subst (λ o. IsSomeAnd o (HasTextsOf f)) (sym (ap (slice_get all) h.0.place ∙ there)) h.0.texts, each_placed all i a fs there h.1)
 
 each_both : {X : Type 0} (P : X → Type 0) (xs ys : List X) → Each P xs → Each P ys → Each P (xs ++ ys)
 each_both P [] ys h k = k
@@ -72,7 +75,7 @@ from_none k = omega arith
 same_rule : (u v : PlanRule) → Some u ≡ Some v → u ≡ v
 same_rule u v is = cc
 
-module _ (T : Table) (n : ℕ) where
+module _ (T : Table) (n : ℕ) (subject : Option TypedTree) where
   -- as many texts come of diagnostics as there are
   texts_of : (L : Lets) (i : ℕ) (ds : List PlanDiagnostic) (texts : List (List ℕ)) →
       (gather (λ _ d. message T L n d.message) (λ _ _ text. text ∷ []) i ds).answer ≡ Ok texts → length texts ≡ length ds
@@ -84,49 +87,51 @@ module _ (T : Table) (n : ℕ) where
       let all : length texts ≡ length ((one.first ∷ []) ++ more.first) = ap length (sym (same_ok {F = EvalFault} ((one.first ∷ []) ++ more.first) texts more.then)) in
       omega (arith, all, texts_of L (i + 1) ds more.first more.is)
 
-  found_of : (L : Lets) (i : ℕ) (a : PlanAssert) (f : Finding) → (found T L n i a).answer ≡ Ok f → OfPlace i a f
+  found_of : (L : Lets) (i : ℕ) (a : PlanAssert) (f : Finding) → (found T L n subject i a).answer ≡ Ok f → OfPlace i a f
   unfolding done
   found_of L i a f is =
-      let ds = came_before (diagnostic_texts T L n a.diagnostics) (λ texts. bind (message T L n a.message) (λ text. done (record { assertion = i; diagnostics = texts; message = text }))) f is in
-      let text = came_before (message T L n a.message) (λ text. done (record { assertion = i; diagnostics = ds.first; message = text })) f ds.then in
-      subst (OfPlace i a) (same_ok {F = EvalFault} (record { assertion = i; diagnostics = ds.first; message = text.first }) f text.then)
-      (record { place = refl; texts = texts_of L 0 a.diagnostics ds.first ds.is })
+      let place = came_before (placed_at T L n (option_or a.subject subject)) (with_texts T L n i a) f is in
+      let ds = came_before (diagnostic_texts T L n a.diagnostics) (with_properties T L n i a place.first) f place.then in
+      let ps = came_before (diagnostic_texts T L n a.properties) (with_message T L n i a place.first ds.first) f ds.then in
+      let text = came_before (message T L n a.message) (λ t. done (finding_of i place.first ds.first ps.first t)) f ps.then in
+      subst (OfPlace i a) (same_ok {F = EvalFault} (finding_of i place.first ds.first ps.first text.first) f text.then)
+      (record { place = refl; texts = record { diagnostics = texts_of L 0 a.diagnostics ds.first ds.is; properties = texts_of L 0 a.properties ps.first ps.is } })
 
-  asserted_of : (L : Lets) (i : ℕ) (a : PlanAssert) (o : Option Finding) → (asserted T L n i a).answer ≡ Ok o → Each (OfPlace i a) (option_to_list o)
+  asserted_of : (L : Lets) (i : ℕ) (a : PlanAssert) (o : Option Finding) → (asserted T L n subject i a).answer ≡ Ok o → Each (OfPlace i a) (option_to_list o)
   unfolding done
   asserted_of L i a o is =
-      let v = came_before (meaning T L a.test (alone n)) (λ w. cond (is_found a.report (to_truth w)) (bind (found T L n i a) (λ finding. done (Some finding))) (done None)) o is in
+      let v = came_before (meaning T L a.test (alone n)) (λ w. cond (is_found a.report (to_truth w)) (bind (found T L n subject i a) (λ finding. done (Some finding))) (done None)) o is in
       by (is_found a.report (to_truth v.first)) v.then
     where
-      by : (b : Bool) → (cond b (bind (found T L n i a) (λ finding. done (Some finding))) (done None)).answer ≡ Ok o → Each (OfPlace i a) (option_to_list o)
+      by : (b : Bool) → (cond b (bind (found T L n subject i a) (λ finding. done (Some finding))) (done None)).answer ≡ Ok o → Each (OfPlace i a) (option_to_list o)
       by true h =
-          let f = came_before (found T L n i a) (λ finding. done (Some finding)) o h in
+          let f = came_before (found T L n subject i a) (λ finding. done (Some finding)) o h in
           subst (λ p. Each (OfPlace i a) (option_to_list p)) (same_ok {F = EvalFault} (Some f.first) o f.then) (found_of L i a f.first f.is, tt)
       by false h = subst (λ p. Each (OfPlace i a) (option_to_list p)) (same_ok {F = EvalFault} None o h) tt
 
   all_of : (L : Lets) (all : List PlanAssert) (i : ℕ) (xs : List PlanAssert) (fs : List Finding) → StandFrom all i xs →
-      (gather (λ j a. asserted T L n j a) (λ _ _ finding. option_to_list finding) i xs).answer ≡ Ok fs → Each (IsFindingOf all) fs
+      (gather (λ j a. asserted T L n subject j a) (λ _ _ finding. option_to_list finding) i xs).answer ≡ Ok fs → Each (IsFindingOf all) fs
   unfolding done
   all_of L all i [] fs from is = subst (Each (IsFindingOf all)) (same_ok {F = EvalFault} [] fs is) tt
   all_of L all i (a ∷ xs) fs from is =
-      let one = came_before (asserted T L n i a) (λ o. bind (gather (λ j b. asserted T L n j b) (λ _ _ finding. option_to_list finding) (i + 1) xs) (λ rest. done (option_to_list o ++ rest))) fs is in
-      let more = came_before (gather (λ j b. asserted T L n j b) (λ _ _ finding. option_to_list finding) (i + 1) xs) (λ rest. done (option_to_list one.first ++ rest)) fs one.then in
+      let one = came_before (asserted T L n subject i a) (λ o. bind (gather (λ j b. asserted T L n subject j b) (λ _ _ finding. option_to_list finding) (i + 1) xs) (λ rest. done (option_to_list o ++ rest))) fs is in
+      let more = came_before (gather (λ j b. asserted T L n subject j b) (λ _ _ finding. option_to_list finding) (i + 1) xs) (λ rest. done (option_to_list one.first ++ rest)) fs one.then in
       let here : slice_get all i ≡ Some a = ap (slice_get all) (no_further i) ∙ from 0 in
       subst (Each (IsFindingOf all)) (same_ok {F = EvalFault} (option_to_list one.first ++ more.first) fs more.then)
       (each_both (IsFindingOf all) (option_to_list one.first) more.first (each_placed all i a (option_to_list one.first) here (asserted_of L i a one.first one.is))
       (all_of L all (i + 1) xs more.first (λ k. ap (slice_get all) (next_place i k) ∙ from (suc k)) more.is))
 
-  pub fired_of : (L : Lets) (slot : ℕ) (ts : List PlanLet) (xs : List PlanAssert) (fs : List Finding) → (fired_by T L n slot ts xs).answer ≡ Ok fs → Each (IsFindingOf xs) fs
+  pub fired_of : (L : Lets) (slot : ℕ) (ts : List PlanLet) (xs : List PlanAssert) (fs : List Finding) → (fired_by T L n slot subject ts xs).answer ≡ Ok fs → Each (IsFindingOf xs) fs
   fired_of L slot [] xs fs is = all_of L xs 0 xs fs (λ k. ap (slice_get xs) (from_none k)) is
   fired_of L slot (t ∷ ts) xs fs is =
-      let v = came_before (meaning T L t.expr (alone n)) (λ w. fired_by T (with_slot L slot (Ok w)) n (slot + 1) ts xs) fs is in
+      let v = came_before (meaning T L t.expr (alone n)) (λ w. fired_by T (with_slot L slot (Ok w)) n (slot + 1) subject ts xs) fs is in
       fired_of (with_slot L slot (Ok v.first)) (slot + 1) ts xs fs v.then
 
 module _ (T : Table) (n : ℕ) (L : Lets) (count : ℕ) where
   -- what comes after a rule was tried
   abbrev Tried : ℕ → PlanRule → List PlanRule → Bool → Evaluation EvalFault Outcome
   Tried r rule rules matches =
-      cond matches (bind (fired_by T L n count rule.lets rule.assertions) (λ findings. done (Fired r findings))) (first_rule T count L n (r + 1) rules)
+      cond matches (bind (fired_by T L n count rule.subject rule.lets rule.assertions) (λ findings. done (Fired r findings))) (first_rule T count L n (r + 1) rules)
 
   -- the rule that fires stands so many places behind the first one
   pub record FiresBehind (first : ℕ) (rules : List PlanRule) (r : ℕ) (fs : List Finding) : Type 0 where
@@ -135,7 +140,7 @@ module _ (T : Table) (n : ℕ) (L : Lets) (count : ℕ) where
     pub fires : FiresAlone T L n rules behind fs
 
   here : (r s : ℕ) (rule : PlanRule) (rules : List PlanRule) (fs gs : List Finding) → (matching T L rule.context n).answer ≡ Ok true →
-      (fired_by T L n count rule.lets rule.assertions).answer ≡ Ok gs → Fired r gs ≡ Fired s fs → FiresBehind r (rule ∷ rules) s fs
+      (fired_by T L n count rule.subject rule.lets rule.assertions).answer ≡ Ok gs → Fired r gs ≡ Fired s fs → FiresBehind r (rule ∷ rules) s fs
   here r s rule rules fs gs matched fired same =
       record {
         behind = 0;
@@ -146,7 +151,7 @@ module _ (T : Table) (n : ℕ) (L : Lets) (count : ℕ) where
           matches = matched;
           earlier = λ k other below there. absurd (omega (arith, below));
           findings = subst (All (IsFindingOf rule.assertions)) (same_findings r s gs fs same)
-              (All-from_recursion (IsFindingOf rule.assertions) gs (fired_of T n L count rule.lets rule.assertions gs fired));
+              (All-from_recursion (IsFindingOf rule.assertions) gs (fired_of T n rule.subject L count rule.lets rule.assertions gs fired));
         };
       }
 
@@ -181,7 +186,7 @@ module _ (T : Table) (n : ℕ) (L : Lets) (count : ℕ) where
       by : ((first_rule T count L n (r + 1) rules).answer ≡ Ok (Fired s fs) → FiresBehind (r + 1) rules s fs) →
           (b : Bool) → (matching T L rule.context n).answer ≡ Ok b → (Tried r rule rules b).answer ≡ Ok (Fired s fs) → FiresBehind r (rule ∷ rules) s fs
       by after true matched h =
-          let gs = came_before (fired_by T L n count rule.lets rule.assertions) (λ findings. done (Fired r findings)) (Fired s fs) h in
+          let gs = came_before (fired_by T L n count rule.subject rule.lets rule.assertions) (λ findings. done (Fired r findings)) (Fired s fs) h in
           here r s rule rules fs gs.first matched gs.is (same_ok {F = EvalFault} (Fired r gs.first) (Fired s fs) gs.then)
       by after false refused h = later r s rule rules fs refused (after h)
 
@@ -198,7 +203,7 @@ module _ (T : Table) (n : ℕ) (L : Lets) (count : ℕ) where
           (b : Bool) → (matching T L rule.context n).answer ≡ Ok b → (Tried r rule rules b).answer ≡ Ok NoRule →
           Each (λ rule. (matching T L rule.context n).answer ≡ Ok false) (rule ∷ rules)
       by after true matched h =
-          let gs = came_before (fired_by T L n count rule.lets rule.assertions) (λ findings. done (Fired r findings)) NoRule h in
+          let gs = came_before (fired_by T L n count rule.subject rule.lets rule.assertions) (λ findings. done (Fired r findings)) NoRule h in
           let bad : Fired r gs.first ≡ NoRule = same_ok {F = EvalFault} (Fired r gs.first) NoRule gs.then in absurd (cc)
       by after false refused h = (refused, after h)
 
@@ -212,7 +217,7 @@ module _ (T : Table) (n : ℕ) (L : Lets) (count : ℕ) where
     where
       by : ((first_rule T count L n (r + 1) rules).answer ≡ Ok (Fault f) → ⊥) → (b : Bool) → (Tried r rule rules b).answer ≡ Ok (Fault f) → ⊥
       by after true h =
-          let gs = came_before (fired_by T L n count rule.lets rule.assertions) (λ findings. done (Fired r findings)) (Fault f) h in
+          let gs = came_before (fired_by T L n count rule.subject rule.lets rule.assertions) (λ findings. done (Fired r findings)) (Fault f) h in
           let bad : Fired r gs.first ≡ Fault f = same_ok {F = EvalFault} (Fired r gs.first) (Fault f) gs.then in absurd (cc)
       by after false h = after h
 

@@ -1,3 +1,4 @@
+pub mod FindingParts
 pub mod FirstMatches
 pub mod KeptReads
 pub mod LetsInOrder

@@ -1,5 +1,5 @@
 -- Laws of units, in the words of ISO/IEC 19757-3, clause 6.
-use Rattle.std.specs.Prelude.{◌≡◌, ℕ, ◌<◌, true, false, List, [], ◌∷◌, ◌++◌, length, take, All, IsSomeAnd, Some, Result, Ok, slice_get}
+use Rattle.std.specs.Prelude.{◌≡◌, ℕ, ◌<◌, true, false, List, [], ◌∷◌, ◌++◌, length, take, All, Some, Result, Ok, slice_get}
 use Rattle.std.specs.List.{AllByRecursion as Each}
 use Rattle.doc_tree.specs.Table.{Table}
 use Rattle.xp_outcome.specs.Evaluation.{Read, cell, variable}
@@ -9,18 +9,13 @@ use Rattle.xp_values.specs.declared.values.EvalFault.{EvalFault}
 use Rattle.xp_meaning.specs.Evaluation.{Lets}
 use Rattle.xslt_match.specs.Matching.{matching}
 use Rattle.sch_compiled.specs.declared.parts.LetInForce.{LetInForce}
-use Rattle.sch_compiled.specs.declared.parts.PlanAssert.{PlanAssert}
 use Rattle.sch_compiled.specs.declared.parts.PlanRule.{PlanRule}
 use Rattle.sch_compiled.specs.declared.plan.Plan.{Plan}
 use Rattle.sch_compiled.specs.declared.findings.Finding.{Finding}
 use Rattle.sch_compiled.specs.declared.findings.Outcome.TheVariants.{NoRule, Fired, Fault}
+use Rattle.sch_compiled.specs.Findings.{IsFindingOf}
 use Rattle.sch_compiled.specs.Plan.{rules_of}
 use Rattle.sch_units.specs.Units.{unit_let, unit_pair, lets_of}
-
--- a finding is one of an assertion of a rule, with a text for each of its diagnostics
-abbrev pub IsFindingOf : List PlanAssert → Finding → Type 0
-IsFindingOf assertions finding =
-    IsSomeAnd (slice_get assertions finding.assertion) (λ assertion. length finding.diagnostics ≡ length assertion.diagnostics)
 
 -- the rule at a place matches a node under some lets, none before it does, and the findings are of its assertions
 pub record FiresAlone (T : Table) (L : Lets) (n : ℕ) (rules : List PlanRule) (r : ℕ) (said : List Finding) : Type 0 where

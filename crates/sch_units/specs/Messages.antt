@@ -1,4 +1,4 @@
--- The texts of messages and of diagnostics (ISO/IEC 19757-3, clauses 5.4 and 5.5).
+-- The texts of messages, of diagnostics and of properties (ISO/IEC 19757-3, clauses 5.4 and 5.5).
 use Rattle.std.specs.Prelude.{ℕ, List, [], ◌∷◌, Option, None, Some, slice_get}
 use Rattle.doc_tree.specs.QNames.{written_in}
 use Rattle.doc_tree.specs.Table.{Table}
@@ -39,6 +39,6 @@ joined T L n text (part ∷ parts) =
 abbrev pub message : Table → Lets → ℕ → List PlanPart → Evaluation EvalFault (List ℕ)
 message T L n parts = joined T L n [] parts
 
--- the texts of diagnostics, in order
+-- the texts of diagnostics, or of properties, in order
 abbrev pub diagnostic_texts : Table → Lets → ℕ → List PlanDiagnostic → Evaluation EvalFault (List (List ℕ))
 diagnostic_texts T L n diagnostics = gather (λ _ d. message T L n d.message) (λ _ _ text. text ∷ []) 0 diagnostics

@@ -1,7 +1,9 @@
 -- Reports and lines of faults where the nodes of a tree are renumbered: the same, since they tell locations and no numbers.
 use Rattle.std.proofs.Common.{◌≡◌, ℕ, Bool, cond, List, [], ◌∷◌, ◌++◌, Option, None, Some, refl, sym, ap, ap₂, ◌∙◌}
-use Rattle.std.specs.Prelude.{codes, option_map}
+use Rattle.std.specs.Prelude.{codes, map, option_map, slice_get}
 use Rattle.std.specs.List.{flat_map, enumerate_from}
+use Rattle.std.specs.Option.{option_map_or}
+use Rattle.std.proofs.lemmas.List.Folds.{flat_map-map}
 use Rattle.pyx_write.specs.Elements.{element}
 use Rattle.pyx_write.specs.Written.{pi_line}
 use Rattle.doc_tree.specs.Laws.{WellFormed}
@@ -10,16 +12,19 @@ use Rattle.doc_tree.specs.Walks.{order}
 use Rattle.xp_values.specs.FaultNames.{fault_name}
 use Rattle.tree_iso.specs.Renumbering.{Renumbers, SameTreesAreRenumbered, renumbered}
 use Rattle.tree_iso.proofs.NumberLemmas.{told-moved}
+use Rattle.sch_compiled.specs.declared.findings.Finding.{Finding}
 use Rattle.sch_compiled.specs.declared.findings.Outcome.{Outcome}
+use Rattle.sch_compiled.specs.declared.findings.Outcome.TheVariants.{Fault, Fired, NoRule}
+use Rattle.sch_compiled.specs.declared.parts.PlanAssert.{PlanAssert}
 use Rattle.sch_compiled.specs.declared.parts.PlanPattern.{PlanPattern}
 use Rattle.sch_compiled.specs.declared.parts.PlanRule.{PlanRule}
 use Rattle.sch_compiled.specs.declared.plan.Plan.{Plan}
 use Rattle.sch_compiled.specs.declared.state_fault.StateFault.{StateFault}
 use Rattle.sch_compiled.specs.declared.state_fault.StateFault.TheVariants.{AtNode, InLet}
 use Rattle.sch_units.specs.Validity.{first_fault, pair_outcome}
-use Rattle.sch_iso_laws.specs.Moves.{OwnLetsMove, VerdictsMove, moved_fault}
+use Rattle.sch_iso_laws.specs.Moves.{OwnLetsMove, VerdictsMove, moved_fault, moved_finding, moved_found}
 use Rattle.svrl_out.specs.FaultLine.{fault_line, node_fault}
-use Rattle.svrl_out.specs.Report.{active_pattern, node_lines, ns_lines, outcome_lines, output_attributes, pattern_lines}
+use Rattle.svrl_out.specs.Report.{active_pattern, assertion_lines, fired_rule, node_lines, ns_lines, outcome_lines, output_attributes, pattern_lines, placed_lines, rule_lines}
 use Rattle.edit_session.specs.State.{report_of, shown_by, text_by}
 use Rattle.edit_session.specs.declared.state.Shown.TheVariants.{Clean, Findings}
 use Rattle.state_iso_laws.specs.States.{LocationsStay, SameTreesShowTheSame, ShowTheSame}
@@ -30,10 +35,31 @@ told-same g h same (x ∷ xs) = ap₂ (λ (a b : List ℕ). a ++ b) (same x) (to
 
 module _ (stay : LocationsStay) (own : OwnLetsMove) (verdicts : VerdictsMove) (f : ℕ → ℕ) (plan : Plan) (T U : Table)
     (one : WellFormed T) (other : WellFormed U) (r : Renumbers f T U) where
+  -- a finding is told alike where its node went
+  finding-same : (assertions : List PlanAssert) (finding : Finding) → placed_lines U assertions (moved_finding f finding) ≡ placed_lines T assertions finding
+  finding-same assertions finding =
+      ap (λ (location : List ℕ). option_map_or (assertion_lines location finding) (slice_get assertions finding.assertion) []) (stay f T U finding.at one other r)
+
+  findings-same : (assertions : List PlanAssert) (findings : List Finding) →
+      flat_map (placed_lines U assertions) (map (moved_finding f) findings) ≡ flat_map (placed_lines T assertions) findings
+  findings-same assertions findings =
+      flat_map-map (placed_lines U assertions) (moved_finding f) findings
+      ∙ told-same (placed_lines T assertions) (λ finding. placed_lines U assertions (moved_finding f finding)) (finding-same assertions) findings
+
+  rule-same : (findings : List Finding) (found : Option PlanRule) →
+      option_map_or (rule_lines U (map (moved_finding f) findings)) found [] ≡ option_map_or (rule_lines T findings) found []
+  rule-same findings None = refl
+  rule-same findings (Some rule) = ap (λ (l : List ℕ). fired_rule rule ++ l) (findings-same rule.assertions findings)
+
+  outcome-same : (rules : List PlanRule) (outcome : Outcome) → outcome_lines U rules (Some (moved_found f outcome)) ≡ outcome_lines T rules (Some outcome)
+  outcome-same rules NoRule = refl
+  outcome-same rules (Fired rule findings) = rule-same findings (slice_get rules rule)
+  outcome-same rules (Fault kind) = refl
+
   node-same : (rules : List PlanRule) (p n : ℕ) →
       node_lines U rules (λ m. Some (pair_outcome plan U p m)) (f n) ≡ node_lines T rules (λ m. Some (pair_outcome plan T p m)) n
   node-same rules p n =
-      ap₂ (λ (location : List ℕ) (outcome : Outcome). outcome_lines rules location (Some outcome)) (stay f T U n one other r) (own.outcomes f plan T U p n one other r)
+      ap (λ (outcome : Outcome). outcome_lines U rules (Some outcome)) (own.outcomes f plan T U p n one other r) ∙ outcome-same rules (pair_outcome plan T p n)
 
   pattern-same : (item : ℕ × PlanPattern) →
       pattern_lines U (λ p n. Some (pair_outcome plan U p n)) item ≡ pattern_lines T (λ p n. Some (pair_outcome plan T p n)) item

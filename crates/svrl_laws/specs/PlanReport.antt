@@ -1,5 +1,5 @@
 -- What a plan says of a tree, as the value of a report: by the outcome of each node under each active pattern.
-use Rattle.std.specs.Prelude.{ℕ, not, List, [], ◌∷◌, map, Option, None, Some, false, slice_get}
+use Rattle.std.specs.Prelude.{ℕ, Bool, true, false, not, List, [], ◌∷◌, ◌++◌, map, Option, None, Some, slice_get}
 use Rattle.std.specs.List.{flat_map, zip, enumerate_from}
 use Rattle.std.specs.Option.{option_map_or}
 use Rattle.doc_locations.specs.Locations.{location_of}
@@ -25,9 +25,9 @@ use Rattle.svrl_read.specs.declared.value.SvrlReport.{SvrlReport}
 abbrev pub prefix_said : PlanNs → Prefix
 prefix_said ns = record { prefix = ns.prefix; uri = ns.uri }
 
--- a diagnostic, and what it says of the node
-abbrev pub diagnostic_said : PlanDiagnostic × List ℕ → Ref
-diagnostic_said (diagnostic, text) = record { property = false; name = diagnostic.id; body = text }
+-- a diagnostic or a property, and what it says
+abbrev pub reference_said : Bool → PlanDiagnostic × List ℕ → Ref
+reference_said property (named, text) = record { property = property; name = named.id; body = text }
 
 -- an assert is false, or a report true, at a location
 abbrev pub assertion_said : List ℕ → Finding → PlanAssert → SvrlFinding
@@ -38,38 +38,38 @@ assertion_said location finding assertion = record {
   role = assertion.role;
   flag = assertion.flag;
   test = assertion.test_text;
-  refs = map diagnostic_said (zip assertion.diagnostics finding.diagnostics);
+  refs =
+      map (reference_said false) (zip assertion.diagnostics finding.diagnostics) ++ map (reference_said true) (zip assertion.properties finding.properties);
   message = finding.message;
 }
 
--- a finding of a rule with these assertions
-abbrev pub finding_said : List ℕ → List PlanAssert → Finding → List SvrlFinding
-finding_said location assertions finding =
-    option_map_or (λ assertion. assertion_said location finding assertion ∷ []) (slice_get assertions finding.assertion) []
+-- a finding of a rule with these assertions, where it is
+abbrev pub finding_said : Table → List PlanAssert → Finding → List SvrlFinding
+finding_said T assertions finding =
+    option_map_or (λ assertion. assertion_said (location_of T finding.at) finding assertion ∷ []) (slice_get assertions finding.assertion) []
 
--- a rule that fires at a location, and its findings there in order
-abbrev pub rule_said : List ℕ → List Finding → PlanRule → FiredRule
-rule_said location findings rule = record {
+-- a rule that fires, and its findings in order
+abbrev pub rule_said : Table → List Finding → PlanRule → FiredRule
+rule_said T findings rule = record {
   id = rule.id;
   context = rule.context_text;
   role = rule.role;
   flag = rule.flag;
-  findings = flat_map (finding_said location rule.assertions) findings;
+  findings = flat_map (finding_said T rule.assertions) findings;
 }
 
 -- the rule that fires by an outcome under a pattern with these rules
-abbrev pub outcome_said : List PlanRule → List ℕ → Option Outcome → List FiredRule
-outcome_said rules location None = []
-outcome_said rules location (Some NoRule) = []
-outcome_said rules location (Some (Fired rule findings)) =
-    option_map_or (λ fired. rule_said location findings fired ∷ []) (slice_get rules rule) []
-outcome_said rules location (Some (Fault kind)) = []
+abbrev pub outcome_said : Table → List PlanRule → Option Outcome → List FiredRule
+outcome_said T rules None = []
+outcome_said T rules (Some NoRule) = []
+outcome_said T rules (Some (Fired rule findings)) = option_map_or (λ fired. rule_said T findings fired ∷ []) (slice_get rules rule) []
+outcome_said T rules (Some (Fault kind)) = []
 
 -- an active pattern, and the rule that fires at each node in document order
 abbrev pub pattern_said : Table → (ℕ → ℕ → Option Outcome) → ℕ × PlanPattern → SvrlPattern
 pattern_said T outcome (p, pattern) = record {
   id = pattern.id;
-  fired = flat_map (λ n. outcome_said pattern.rules (location_of T n) (outcome p n)) (order T);
+  fired = flat_map (λ n. outcome_said T pattern.rules (outcome p n)) (order T);
 }
 
 -- the report of a plan and a tree, by the outcome of each node under each pattern, counted from 0

@@ -22,11 +22,11 @@ lines-filter f among (n ∷ ns) none = by (among n) refl (lines-filter f among n
     by false is rest = rest ∙ sym (ap (λ (l : List ℕ). l ++ flat_map f ns) (none n is))
 
 -- an outcome that tells nothing has no line
-untold : (rules : List PlanRule) (location : List ℕ) (o : Option Outcome) → is_told o ≡ false → outcome_lines rules location o ≡ []
-untold rules location None not_so = refl
-untold rules location (Some NoRule) not_so = refl
-untold rules location (Some (Fired rule findings)) not_so = absurd (cc)
-untold rules location (Some (Fault kind)) not_so = refl
+untold : (T : Table) (rules : List PlanRule) (o : Option Outcome) → is_told o ≡ false → outcome_lines T rules o ≡ []
+untold T rules None not_so = refl
+untold T rules (Some NoRule) not_so = refl
+untold T rules (Some (Fired rule findings)) not_so = absurd (cc)
+untold T rules (Some (Fault kind)) not_so = refl
 
 -- the lines of all nodes
 pub told-lines : (T : Table) (found : OutcomeTable) (nodes : List ℕ) (rules : List PlanRule) (p : ℕ) → ToldInOrder T found nodes → p < found.patterns →
@@ -34,7 +34,7 @@ pub told-lines : (T : Table) (found : OutcomeTable) (nodes : List ℕ) (rules : 
 told-lines T found nodes rules p told low =
     ap (flat_map (node_lines T rules (outcome_at found p))) told.in_order
     ∙ lines-filter (node_lines T rules (outcome_at found p)) told.among (order T) (λ n out.
-    untold rules _ (outcome_at found p n) (false_from_ne_true (is_told (outcome_at found p n)) (λ (is : is_told (outcome_at found p n) ≡ true).
+    untold T rules (outcome_at found p n) (false_from_ne_true (is_told (outcome_at found p n)) (λ (is : is_told (outcome_at found p n) ≡ true).
     let there : told.among n ≡ true = told.all p n low is in absurd (cc))))
 
 mem-filter : (n : ℕ) (among : ℕ → Bool) (ns : List ℕ) → mem n (filter among ns) ≡ true → mem n ns ≡ true

@@ -17,7 +17,7 @@ use Rattle.sch_compiled.specs.declared.parts.PlanRule.{PlanRule}
 use Rattle.sch_compiled.specs.declared.findings.Finding.{Finding}
 use Rattle.sch_compiled.specs.declared.findings.Outcome.{Outcome}
 use Rattle.sch_compiled.specs.declared.findings.Outcome.TheVariants.{NoRule, Fired, Fault}
-use Rattle.sch_compiled.specs.Findings.{OutcomeTable, outcome_at}
+use Rattle.sch_compiled.specs.Findings.{IsAtLiveNode, IsFindingOf, OutcomeTable, outcome_at}
 use Rattle.sch_compiled.specs.Plan.{rules_of}
 use Rattle.svrl_out.specs.declared.report.OutError.{OutError}
 use Rattle.svrl_out.specs.declared.report.OutError.TheVariants.{Failed, Memory}
@@ -41,10 +41,17 @@ fired_rule rule = element (codes "svrl:fired-rule")
     ∷ (codes "flag", rule.flag) ∷ [])
     []
 
--- a diagnostic, and what it says of the node
+-- what is named by an id, and what it says of the node: in an element of one name, whose attribute of another holds the id
+abbrev pub reference_lines : List ℕ → List ℕ → PlanDiagnostic × List ℕ → List ℕ
+reference_lines name attribute (named, text) = element name ((attribute, Some named.id) ∷ []) (chars_line text)
+
+-- a diagnostic, and what it says
 abbrev pub diagnostic_lines : PlanDiagnostic × List ℕ → List ℕ
-diagnostic_lines (diagnostic, text) =
-    element (codes "svrl:diagnostic-reference") ((codes "diagnostic", Some diagnostic.id) ∷ []) (chars_line text)
+diagnostic_lines = reference_lines (codes "svrl:diagnostic-reference") (codes "diagnostic")
+
+-- a property, and what it says
+abbrev pub property_lines : PlanDiagnostic × List ℕ → List ℕ
+property_lines = reference_lines (codes "svrl:property-reference") (codes "property")
 
 -- the message of a finding
 abbrev pub message_lines : List ℕ → List ℕ
@@ -63,35 +70,40 @@ finding_attributes location assertion =
     ∷ (codes "flag", assertion.flag)
     ∷ (codes "test", Some assertion.test_text) ∷ []
 
--- diagnostics, each with its text in the finding, and the message
-abbrev pub finding_texts : List PlanDiagnostic → Finding → List ℕ
-finding_texts diagnostics finding =
-    flat_map diagnostic_lines (zip diagnostics finding.diagnostics) ++ message_lines finding.message
+-- the diagnostics of an assertion and then its properties, each with its text in the finding, and the message
+abbrev pub finding_texts : PlanAssert → Finding → List ℕ
+finding_texts assertion finding =
+    flat_map diagnostic_lines (zip assertion.diagnostics finding.diagnostics)
+    ++ (flat_map property_lines (zip assertion.properties finding.properties) ++ message_lines finding.message)
 
 -- an assert is false, or a report true, at a location
 abbrev pub assertion_lines : List ℕ → Finding → PlanAssert → List ℕ
 assertion_lines location finding assertion =
-    element (finding_name assertion.report) (finding_attributes location assertion) (finding_texts assertion.diagnostics finding)
+    element (finding_name assertion.report) (finding_attributes location assertion) (finding_texts assertion finding)
 
 -- a finding of a rule with these assertions
 abbrev pub finding_lines : List ℕ → List PlanAssert → Finding → List ℕ
 finding_lines location assertions finding =
     option_map_or (assertion_lines location finding) (slice_get assertions finding.assertion) []
 
--- a rule that fires at a location, and its findings there in order
-abbrev pub rule_lines : List ℕ → List Finding → PlanRule → List ℕ
-rule_lines location findings rule = fired_rule rule ++ flat_map (finding_lines location rule.assertions) findings
+-- the same where the finding is
+abbrev pub placed_lines : Table → List PlanAssert → Finding → List ℕ
+placed_lines T assertions finding = finding_lines (location_of T finding.at) assertions finding
 
--- what an outcome under a pattern with these rules says of a location
-abbrev pub outcome_lines : List PlanRule → List ℕ → Option Outcome → List ℕ
-outcome_lines rules location None = []
-outcome_lines rules location (Some NoRule) = []
-outcome_lines rules location (Some (Fired rule findings)) = option_map_or (rule_lines location findings) (slice_get rules rule) []
-outcome_lines rules location (Some (Fault kind)) = []
+-- a rule that fires, and its findings in order
+abbrev pub rule_lines : Table → List Finding → PlanRule → List ℕ
+rule_lines T findings rule = fired_rule rule ++ flat_map (placed_lines T rule.assertions) findings
+
+-- what an outcome under a pattern with these rules says
+abbrev pub outcome_lines : Table → List PlanRule → Option Outcome → List ℕ
+outcome_lines T rules None = []
+outcome_lines T rules (Some NoRule) = []
+outcome_lines T rules (Some (Fired rule findings)) = option_map_or (rule_lines T findings) (slice_get rules rule) []
+outcome_lines T rules (Some (Fault kind)) = []
 
 -- what a pattern with these rules says of a node
 abbrev pub node_lines : Table → List PlanRule → (ℕ → Option Outcome) → ℕ → List ℕ
-node_lines T rules outcome n = outcome_lines rules (location_of T n) (outcome n)
+node_lines T rules outcome n = outcome_lines T rules (outcome n)
 
 -- an active pattern, and what it says of each node in document order
 abbrev pub pattern_lines : Table → (ℕ → ℕ → Option Outcome) → ℕ × PlanPattern → List ℕ
@@ -110,22 +122,18 @@ abbrev pub report : Plan → Table → (ℕ → ℕ → Option Outcome) → List
 report plan T outcome = element (codes "svrl:schematron-output") (output_attributes plan)
     (flat_map ns_lines plan.namespaces ++ flat_map (pattern_lines T outcome) (enumerate_from 0 plan.patterns))
 
--- a finding names an assertion, and has a text for each diagnostic that the assertion names
-abbrev pub IsFindingOf : List PlanAssert → Finding → Type 0
-IsFindingOf assertions finding =
-    IsSomeAnd (slice_get assertions finding.assertion) (λ assertion. length finding.diagnostics ≡ length assertion.diagnostics)
-
--- an outcome is there and no fault, and it names a rule and its findings
-abbrev pub IsOutcomeOf : List PlanRule → Option Outcome → Type 0
-IsOutcomeOf rules None = ⊥
-IsOutcomeOf rules (Some NoRule) = Unit {0}
-IsOutcomeOf rules (Some (Fired rule findings)) = IsSomeAnd (slice_get rules rule) (λ fired. All (IsFindingOf fired.assertions) findings)
-IsOutcomeOf rules (Some (Fault kind)) = ⊥
+-- an outcome is there and no fault, and it names a rule and its findings, which are at live nodes
+abbrev pub IsOutcomeOf : Table → List PlanRule → Option Outcome → Type 0
+IsOutcomeOf T rules None = ⊥
+IsOutcomeOf T rules (Some NoRule) = Unit {0}
+IsOutcomeOf T rules (Some (Fired rule findings)) =
+    IsSomeAnd (slice_get rules rule) (λ fired. All (IsFindingOf fired.assertions) findings) × All (IsAtLiveNode T) findings
+IsOutcomeOf T rules (Some (Fault kind)) = ⊥
 
 -- what was found is of the plan's patterns, and each live node has such an outcome under each of them
 pub record IsReportable (plan : Plan) (T : Table) (found : OutcomeTable) : Type 0 where
   pub patterns : found.patterns ≡ length plan.patterns
-  pub outcomes : (p n : ℕ) → p < length plan.patterns → is_live T n ≡ true → IsOutcomeOf (rules_of plan p) (outcome_at found p n)
+  pub outcomes : (p n : ℕ) → p < length plan.patterns → is_live T n ≡ true → IsOutcomeOf T (rules_of plan p) (outcome_at found p n)
 
 -- a report adds one to the sink's faults where a write failed, and none else
 abbrev pub faults_of_report : Result (Unit {0}) OutError → ℕ → ℕ

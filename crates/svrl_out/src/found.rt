@@ -1,15 +1,16 @@
-//! The nodes of which findings are told.
+//! The nodes that findings are at.
 
 ghost use Rattle.std.specs.Prelude.{◌<◌};
 
 use doc_tree::NodeId;
-use sch_compiled::{Findings, Outcome};
+use sch_compiled::{FindingList, Findings, Outcome};
 use std::alloc::{AllocError, Global};
 
-/// Those of the nodes that have findings, once for each pattern that has some there: so often their locations are written.
+/// The nodes that the findings at some nodes are at, once for each pattern, node and run of findings at one of them: so often
+/// their locations are written.
 ///
-/// Looks at the outcomes of each.
-pub(crate) fn nodes_with_findings(
+/// Looks at the outcomes of each, and at their findings.
+pub(crate) fn nodes_of_findings(
     alloc: Global,
     found: &Findings,
     nodes: &[NodeId],
@@ -21,7 +22,7 @@ pub(crate) fn nodes_with_findings(
     Ok(some)
 }
 
-/// Puts those of the nodes at which that pattern has findings at the end.
+/// Puts the nodes that the findings of a pattern at some nodes are at at the end.
 fn push_found(
     some: &mut Vec<NodeId>,
     found: &Findings,
@@ -31,19 +32,21 @@ fn push_found(
     requires { p < found.now.patterns }
 {
     for n in nodes {
-        if finds(found, p, *n) {
-            some.push(*n)?;
+        if let Some(Outcome::Fired { findings, .. }) = found.get(p, *n) {
+            push_runs(some, findings)?;
         }
     }
     Ok(())
 }
 
-/// Whether that pattern has findings at the node.
-fn finds(found: &Findings, p: u32, n: NodeId) -> bool
-    requires { p < found.now.patterns }
-{
-    match found.get(p, n) {
-        Some(Outcome::Fired { findings, .. }) => !findings.is_empty(),
-        _ => false,
+/// Puts the node of each finding at the end, but for those that are where the finding before them is.
+fn push_runs(some: &mut Vec<NodeId>, findings: &FindingList) -> Result<(), AllocError> {
+    let mut last = None;
+    for finding in findings.as_slice() {
+        if last != Some(finding.at) {
+            some.push(finding.at)?;
+            last = Some(finding.at);
+        }
     }
+    Ok(())
 }

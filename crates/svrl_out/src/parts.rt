@@ -1,16 +1,17 @@
 //! The parts of a report.
 
-ghost use Rattle.std.specs.Prelude.{◌≡◌, All, codes};
+ghost use Rattle.std.specs.Prelude.{◌≡◌, codes};
 ghost use Rattle.std.specs.List.{flat_map, zip};
 ghost use Rattle.sch_io.specs.Wrote.{Wrote};
 ghost use Rattle.pyx_write.specs.Elements.{opening};
-ghost use Rattle.svrl_out.specs.Report.{IsFindingOf, active_pattern, assertion_lines, diagnostic_lines, finding_lines, finding_name, finding_texts, fired_rule, message_lines, ns_lines, output_attributes};
+ghost use Rattle.sch_compiled.specs.Findings.{IsFindingOf};
+ghost use Rattle.svrl_out.specs.Report.{active_pattern, assertion_lines, diagnostic_lines, finding_lines, finding_name, finding_texts, fired_rule, message_lines, ns_lines, output_attributes, property_lines, reference_lines};
 
 use pyx_write::{Given, write_empty, write_end, write_opening, write_text};
 use sch_base::Text;
 use sch_compiled::{
-    Finding, FindingList, Plan, PlanAssert, PlanAssertList, PlanDiagnostic, PlanDiagnosticList,
-    PlanNs, PlanNsList, PlanPattern, PlanRule, TextList,
+    Finding, Plan, PlanAssert, PlanAssertList, PlanDiagnostic, PlanDiagnosticList, PlanNs,
+    PlanNsList, PlanPattern, PlanRule, TextList,
 };
 use sch_io::{Failed, Sink};
 
@@ -84,25 +85,8 @@ pub(crate) fn write_fired_rule<O: Sink>(sink: &mut O, rule: &PlanRule) -> Result
     )
 }
 
-/// Writes the findings at a location, of a rule with these assertions.
-pub(crate) fn write_findings<O: Sink>(
-    sink: &mut O,
-    location: &Text,
-    assertions: &PlanAssertList,
-    findings: &FindingList,
-) -> Result<(), Failed>
-    requires { All (IsFindingOf assertions.now) findings.now }
-    ensures { Wrote (O.log sink.old) (O.log sink.new)
-        (flat_map (finding_lines location.now assertions.now) findings.now) result }
-{
-    for finding in findings.as_slice() {
-        write_finding(sink, location, assertions, finding)?;
-    }
-    Ok(())
-}
-
-/// Writes a finding.
-fn write_finding<O: Sink>(
+/// Writes a finding at a location, of a rule with these assertions.
+pub(crate) fn write_finding<O: Sink>(
     sink: &mut O,
     location: &Text,
     assertions: &PlanAssertList,
@@ -139,7 +123,7 @@ fn write_found<O: Sink>(
             Given::Always("test", &assertion.test_text),
         ],
     )?;
-    write_texts(sink, &assertion.diagnostics, finding)?;
+    write_texts(sink, assertion, finding)?;
     write_end(sink, name)
 }
 
@@ -154,16 +138,17 @@ fn finding_name(report: bool) -> &'static str
     }
 }
 
-/// Writes the texts of a finding: those of its diagnostics, then its message.
+/// Writes the texts of a finding: those of its diagnostics, those of its properties, then its message.
 #[tactic(auto, using(sch_io::proofs::Writes::writes))]
 fn write_texts<O: Sink>(
     sink: &mut O,
-    diagnostics: &PlanDiagnosticList,
+    assertion: &PlanAssert,
     finding: &Finding,
 ) -> Result<(), Failed>
-    ensures { Wrote (O.log sink.old) (O.log sink.new) (finding_texts diagnostics.now finding.now) result }
+    ensures { Wrote (O.log sink.old) (O.log sink.new) (finding_texts assertion.now finding.now) result }
 {
-    write_diagnostics(sink, diagnostics, &finding.diagnostics)?;
+    write_diagnostics(sink, &assertion.diagnostics, &finding.diagnostics)?;
+    write_properties(sink, &assertion.properties, &finding.properties)?;
     write_text(sink, "svrl:text", &[], &finding.message)
 }
 
@@ -175,24 +160,57 @@ fn write_diagnostics<O: Sink>(
 ) -> Result<(), Failed>
     ensures { Wrote (O.log sink.old) (O.log sink.new) (flat_map diagnostic_lines (zip diagnostics.now texts.now)) result }
 {
-    for (diagnostic, text) in diagnostics.as_slice().iter().zip(texts.as_slice()) {
-        write_diagnostic(sink, diagnostic, text)?;
+    write_references(
+        sink,
+        "svrl:diagnostic-reference",
+        "diagnostic",
+        diagnostics,
+        texts,
+    )
+}
+
+/// Writes properties with their texts, in their order.
+fn write_properties<O: Sink>(
+    sink: &mut O,
+    properties: &PlanDiagnosticList,
+    texts: &TextList,
+) -> Result<(), Failed>
+    ensures { Wrote (O.log sink.old) (O.log sink.new) (flat_map property_lines (zip properties.now texts.now)) result }
+{
+    write_references(
+        sink,
+        "svrl:property-reference",
+        "property",
+        properties,
+        texts,
+    )
+}
+
+/// Writes what is named by ids with their texts, in their order, each in an element of that name.
+fn write_references<O: Sink>(
+    sink: &mut O,
+    name: &str,
+    attribute: &'static str,
+    named: &PlanDiagnosticList,
+    texts: &TextList,
+) -> Result<(), Failed>
+    ensures { Wrote (O.log sink.old) (O.log sink.new) (flat_map (reference_lines name.now attribute.now) (zip named.now texts.now)) result }
+{
+    for (item, text) in named.as_slice().iter().zip(texts.as_slice()) {
+        write_reference(sink, name, attribute, item, text)?;
     }
     Ok(())
 }
 
-/// Writes a diagnostic with its text.
-fn write_diagnostic<O: Sink>(
+/// Writes what is named by an id, with its text.
+fn write_reference<O: Sink>(
     sink: &mut O,
-    diagnostic: &PlanDiagnostic,
+    name: &str,
+    attribute: &'static str,
+    named: &PlanDiagnostic,
     text: &Text,
 ) -> Result<(), Failed>
-    ensures { Wrote (O.log sink.old) (O.log sink.new) (diagnostic_lines (diagnostic.now, text.now)) result }
+    ensures { Wrote (O.log sink.old) (O.log sink.new) (reference_lines name.now attribute.now (named.now, text.now)) result }
 {
-    write_text(
-        sink,
-        "svrl:diagnostic-reference",
-        &[Given::Always("diagnostic", &diagnostic.id)],
-        text,
-    )
+    write_text(sink, name, &[Given::Always(attribute, &named.id)], text)
 }

@@ -1,26 +1,26 @@
 //! Writing the report.
 
-ghost use Rattle.std.specs.Prelude.{◌≡◌, ℕ, ◌<◌, ◌++◌, All, IfOk, OnOk, Some, true, length};
+ghost use Rattle.std.specs.Prelude.{◌≡◌, ℕ, ◌<◌, ◌++◌, All, IfOk, IfSome, OnOk, Some, true, length};
 ghost use Rattle.std.specs.List.{flat_map, enumerate_from};
-ghost use Rattle.sch_compiled.specs.Findings.{ToldInOrder, outcome_at};
+ghost use Rattle.sch_compiled.specs.Findings.{IsAtLiveNode, IsFindingOf, ToldInOrder, outcome_at};
 ghost use Rattle.sch_compiled.specs.declared.findings.Outcome.TheVariants.{Fired};
 ghost use Rattle.svrl_out.specs.declared.report.OutError.TheVariants as errors;
 ghost use Rattle.doc_tree.specs.Table.{is_live};
 ghost use Rattle.doc_tree.specs.Walks.{order};
-ghost use Rattle.doc_locations.specs.Locations.{location_of};
-ghost use Rattle.svrl_out.specs.Report.{IsFindingOf, IsOutcomeOf, IsReportable, Reported, finding_lines, ns_lines, outcome_lines, pattern_lines, report};
+ghost use Rattle.svrl_out.specs.Report.{IsOutcomeOf, IsReportable, Reported, finding_lines, ns_lines, outcome_lines, pattern_lines, placed_lines, report};
 ghost use Rattle.svrl_out.specs.inner.Laid.{AreLaid};
-ghost use Rattle.svrl_out.specs.inner.Printer.{HasOutcomes, IsReady, held_lines, held_and_end, node_text, printed};
+ghost use Rattle.svrl_out.specs.inner.Printer.{HasOutcomes, IsPlace, IsPlaceOf, IsReady, held_lines, held_and_end, node_text, printed};
 
-use crate::found::nodes_with_findings;
+use crate::found::nodes_of_findings;
 use crate::laid::put_fired_rule;
 use crate::page::Page;
-use crate::parts::{write_active_pattern, write_findings, write_namespaces, write_output_opening};
+use crate::parts::{write_active_pattern, write_finding, write_namespaces, write_output_opening};
 use doc_locations::Locator;
 use doc_tree::{NodeId, Tree};
 use pyx_write::write_end;
+use sch_base::Text;
 use sch_compiled::{
-    FindingList, Findings, Outcome, Plan, PlanAssertList, PlanPattern, PlanRuleList,
+    Finding, FindingList, Findings, Outcome, Plan, PlanAssertList, PlanPattern, PlanRuleList,
 };
 use sch_io::{Failed, Sink};
 use std::alloc::{AllocError, Global};
@@ -75,9 +75,10 @@ pub fn write_report<O: Sink>(
 /// The same for a caller who has the nodes of which something is told.
 ///
 /// The lines of a rule are laid out once for a pattern, and copied for each node that fires it. Besides, the time grows with the
-/// nodes, for each pattern, and for a node with findings with its depth and theirs; the siblings of nodes with findings and of
-/// what stands above them are looked at once, or for each where they are few. Of the report one location is kept, the lines of
-/// the rules that fire, and one page of lines, so that the sink is asked once for many lines.
+/// nodes, for each pattern, and for each finding with its length, and with the depth of the node that it is at, where this isn't
+/// that of the finding before it; the siblings of such nodes and of what stands above them are looked at once, or for each where
+/// they are few. Of the report one location is kept, the lines of the rules that fire, and one page of lines, so that the sink is
+/// asked once for many lines.
 pub fn write_report_among<O: Sink>(
     alloc: Global,
     plan: &Plan,
@@ -103,7 +104,7 @@ pub fn write_report_among<O: Sink>(
     printer.write_all(sink)
 }
 
-/// What finds those of the nodes that have findings.
+/// What finds the nodes that findings are at.
 fn locator_for<'a>(
     alloc: Global,
     tree: &'a Tree,
@@ -112,7 +113,7 @@ fn locator_for<'a>(
 ) -> Result<Locator<'a>, AllocError>
     ensures { IfOk result (λ locator. locator ≡ tree.now.nodes) }
 {
-    let some = nodes_with_findings(alloc, found, nodes)?;
+    let some = nodes_of_findings(alloc, found, nodes)?;
     Locator::new(alloc, tree, some.as_slice())
 }
 
@@ -127,6 +128,13 @@ struct Printer<'a> {
     nodes: &'a [NodeId],
     /// What finds the nodes of the tree.
     locator: &'a Locator<'a>,
+}
+
+/// A node, and the location that finds it.
+#[derive(Drop)]
+struct Place {
+    node: NodeId,
+    location: Text,
 }
 
 impl Printer<'_> {
@@ -221,15 +229,14 @@ impl Printer<'_> {
     ) -> Result<(), AllocError>
         requires ready { IsReady self.now }
         requires counted { p < self.now.found.now.patterns }
-        requires live { is_live self.now.tree.now.nodes n ≡ true }
-        requires outcome { IsOutcomeOf rules.now (outcome_at self.now.found.now p n) }
+        requires outcome { IsOutcomeOf self.now.tree.now.nodes rules.now (outcome_at self.now.found.now p n) }
         requires laid { AreLaid rules.now laid.old }
         ensures put { OnOk result (page.new.bytes.items ≡ page.old.bytes.items ++ node_text self.now p rules.now n) }
         ensures laid { OnOk result (AreLaid rules.now laid.new) }
     {
         match self.found.get(p, n) {
             Some(Outcome::Fired { rule, findings }) => {
-                self.put_fired(n, rules, *rule, findings, laid, page)
+                self.put_fired(rules, *rule, findings, laid, page)
             }
             _ => Ok(()),
         }
@@ -238,7 +245,6 @@ impl Printer<'_> {
     /// Puts on the page the rule that a node fired, and its findings.
     fn put_fired(
         &self,
-        n: NodeId,
         rules: &PlanRuleList,
         rule: u32,
         findings: &FindingList,
@@ -246,39 +252,68 @@ impl Printer<'_> {
         page: &mut Page,
     ) -> Result<(), AllocError>
         requires ready { IsReady self.now }
-        requires live { is_live self.now.tree.now.nodes n ≡ true }
-        requires outcome { IsOutcomeOf rules.now (Some (Fired rule findings.now)) }
+        requires outcome { IsOutcomeOf self.now.tree.now.nodes rules.now (Some (Fired rule findings.now)) }
         requires laid { AreLaid rules.now laid.old }
         ensures put { OnOk result (page.new.bytes.items ≡ page.old.bytes.items
-            ++ outcome_lines rules.now (location_of self.now.tree.now.nodes n) (Some (Fired rule findings.now))) }
+            ++ outcome_lines self.now.tree.now.nodes rules.now (Some (Fired rule findings.now))) }
         ensures laid { OnOk result (AreLaid rules.now laid.new) }
     {
         put_fired_rule(self.alloc, rules, rule, laid, page)?;
         let fired = &rules.as_slice()[rule as usize];
-        self.put_findings(n, &fired.assertions, findings, page)
+        self.put_findings(&fired.assertions, findings, page)
     }
 
-    /// Puts on the page the findings at a node, of a rule with these assertions.
+    /// Puts on the page the findings of a rule with these assertions, each at its place.
     fn put_findings(
         &self,
-        n: NodeId,
         assertions: &PlanAssertList,
         findings: &FindingList,
         page: &mut Page,
     ) -> Result<(), AllocError>
         requires ready { IsReady self.now }
-        requires live { is_live self.now.tree.now.nodes n ≡ true }
         requires named { All (IsFindingOf assertions.now) findings.now }
+        requires live { All (IsAtLiveNode self.now.tree.now.nodes) findings.now }
         ensures { OnOk result (page.new.bytes.items ≡ page.old.bytes.items
-            ++ flat_map (finding_lines (location_of self.now.tree.now.nodes n) assertions.now) findings.now) }
+            ++ flat_map (placed_lines self.now.tree.now.nodes assertions.now) findings.now) }
     {
-        if findings.is_empty() {
-            return Ok(());
+        let mut last = None;
+        for finding in findings.as_slice() {
+            let place = self.place_of(last, finding.at)?;
+            put_finding(&place.location, assertions, finding, page)?;
+            last = Some(place);
+        }
+        Ok(())
+    }
+
+    /// The place of a node: the last one, where the node has it, or else its location is found.
+    fn place_of(&self, last: Option<Place>, n: NodeId) -> Result<Place, AllocError>
+        requires ready { IsReady self.now }
+        requires live { is_live self.now.tree.now.nodes n ≡ true }
+        requires last { IfSome last (IsPlace self.now.tree.now.nodes) }
+        ensures { IfOk result (IsPlaceOf self.now.tree.now.nodes n) }
+    {
+        if let Some(place) = last {
+            if place.node == n {
+                return Ok(place);
+            }
         }
         let location = self.locator.location(self.alloc, n)?;
-        match write_findings(page, &location, assertions, findings) {
-            Ok(()) => Ok(()),
-            Err(_) => Err(AllocError),
-        }
+        Ok(Place { node: n, location })
+    }
+}
+
+/// Puts on the page a finding at a location, of a rule with these assertions.
+fn put_finding(
+    location: &Text,
+    assertions: &PlanAssertList,
+    finding: &Finding,
+    page: &mut Page,
+) -> Result<(), AllocError>
+    requires { IsFindingOf assertions.now finding.now }
+    ensures { OnOk result (page.new.bytes.items ≡ page.old.bytes.items ++ finding_lines location.now assertions.now finding.now) }
+{
+    match write_finding(page, location, assertions, finding) {
+        Ok(()) => Ok(()),
+        Err(_) => Err(AllocError),
     }
 }

@@ -1,7 +1,7 @@
 -- The texts of messages and the findings of assertions are told by cells of live nodes.
 use Rattle.std.proofs.Common.{◌≡◌, ℕ, cond, List, [], ◌∷◌, ◌++◌, Option, None, Some, Result, Ok, Err, refl, ap, subst}
-use Rattle.std.specs.Prelude.{map, slice_get}
-use Rattle.std.specs.Option.{option_to_list}
+use Rattle.std.specs.Prelude.{map, slice_get, slice_index_or}
+use Rattle.std.specs.Option.{option_or, option_to_list}
 use Rattle.std.specs.List.{AllByRecursion as Each}
 use Rattle.doc_tree.specs.Laws.{HasWaysUp, Ordered}
 use Rattle.doc_tree.specs.QNames.{written_in}
@@ -26,8 +26,10 @@ use Rattle.sch_compiled.specs.declared.parts.PlanAssert.{PlanAssert}
 use Rattle.sch_compiled.specs.declared.parts.PlanDiagnostic.{PlanDiagnostic}
 use Rattle.sch_compiled.specs.declared.parts.PlanPart.{PlanPart}
 use Rattle.sch_compiled.specs.declared.parts.PlanPart.TheVariants.{Chars, Name, ValueOf}
-use Rattle.sch_units.specs.Firing.{all_asserted, asserted, found, is_found}
+use Rattle.sch_compiled.specs.Findings.{IsAtLiveNode}
+use Rattle.sch_units.specs.Firing.{all_asserted, asserted, found, is_found, placed_at}
 use Rattle.sch_units.specs.Messages.{alone, diagnostic_texts, joined, message, name_text, part_text}
+use Rattle.sch_units.proofs.FindingParts.{finding_of, with_message, with_properties, with_texts}
 use Rattle.unit_live_laws.proofs.MatchingLemmas.{Lives, value-good}
 
 -- nothing is read for what is computed
@@ -76,21 +78,41 @@ module _ (T : Table) (ord : Ordered T) (up : HasWaysUp T) where
         sound_gather (IsLiveRead T) Any Any Any (λ _ d. message T L n d.message) (λ _ _ text. text ∷ []) (λ i d _. joined-sound [] d.message) (λ i d text _ _. (tt, tt))
         0 diagnostics (each-all Any (λ _. tt) diagnostics)
 
-    found-sound : (i : ℕ) (a : PlanAssert) → Sound (IsLiveRead T) Any (found T L n i a)
-    found-sound i a =
-        sound_bind (IsLiveRead T) (Each Any) Any (diagnostic_texts T L n a.diagnostics)
-        (λ texts. bind (message T L n a.message) (λ text. done (record { assertion = i; diagnostics = texts; message = text }))) (texts-sound a.diagnostics)
-        (λ texts _. sound_bind (IsLiveRead T) {B = Finding} Any Any (message T L n a.message) (λ text. done (record { assertion = i; diagnostics = texts; message = text })) (joined-sound [] a.message)
-        (λ text _. sound_done (IsLiveRead T) {A = Finding} Any (record { assertion = i; diagnostics = texts; message = text }) tt))
+    -- the first node of a value, or the node itself
+    first-live : (nodes : List ℕ) → Each (Lives T) nodes → Lives T (slice_index_or nodes 0 n)
+    first-live [] live = here
+    first-live (m ∷ nodes) live = live.0
 
-    asserted-sound : (i : ℕ) (a : PlanAssert) → Sound (IsLiveRead T) Any (asserted T L n i a)
-    asserted-sound i a =
-        value-then Any a.test (λ v. cond (is_found a.report (to_truth v)) (bind (found T L n i a) (λ finding. done (Some finding))) (done None))
-        (λ v _. sound_cond (IsLiveRead T) Any (is_found a.report (to_truth v)) (bind (found T L n i a) (λ finding. done (Some finding))) (done None)
-        (sound_bind (IsLiveRead T) Any Any (found T L n i a) (λ finding. done (Some finding)) (found-sound i a) (λ finding _. sound_done (IsLiveRead T) Any (Some finding) tt))
-        (sound_done (IsLiveRead T) Any None tt))
+    place-sound : (o : Option TypedTree) → Sound (IsLiveRead T) (Lives T) (placed_at T L n o)
+    place-sound None = sound_done (IsLiveRead T) (Lives T) n here
+    place-sound (Some t) =
+        value-then (Lives T) t (λ v. done (slice_index_or (nodes_of v) 0 n))
+        (λ v live. sound_done (IsLiveRead T) (Lives T) (slice_index_or (nodes_of v) 0 n) (first-live (nodes_of v) live))
 
-    pub assertions-sound : (assertions : List PlanAssert) → Sound (IsLiveRead T) (Each Any) (all_asserted T L n assertions)
-    assertions-sound assertions =
-        sound_gather (IsLiveRead T) Any Any Any (λ i a. asserted T L n i a) (λ _ _ finding. option_to_list finding) (λ i a _. asserted-sound i a)
-        (λ i a finding _ _. each-all Any (λ _. tt) (option_to_list finding)) 0 assertions (each-all Any (λ _. tt) assertions)
+    found-sound : (subject : Option TypedTree) (i : ℕ) (a : PlanAssert) → Sound (IsLiveRead T) (IsAtLiveNode T) (found T L n subject i a)
+    found-sound subject i a =
+        sound_bind (IsLiveRead T) (Lives T) (IsAtLiveNode T) (placed_at T L n (option_or a.subject subject)) (with_texts T L n i a)
+        (place-sound (option_or a.subject subject))
+        (λ place live. sound_bind (IsLiveRead T) (Each Any) (IsAtLiveNode T) (diagnostic_texts T L n a.diagnostics) (with_properties T L n i a place) (texts-sound a.diagnostics)
+        (λ texts _. sound_bind (IsLiveRead T) (Each Any) (IsAtLiveNode T) (diagnostic_texts T L n a.properties) (with_message T L n i a place texts) (texts-sound a.properties)
+        (λ properties _. sound_bind (IsLiveRead T) {B = Finding} Any (IsAtLiveNode T) (message T L n a.message) (λ text. done (finding_of i place texts properties text))
+        (joined-sound [] a.message)
+        (λ text _. sound_done (IsLiveRead T) {A = Finding} (IsAtLiveNode T) (finding_of i place texts properties text) live))))
+
+    -- what is found of an assertion, if it is, is at a live node
+    abbrev AtLive : Option Finding → Type 0
+    AtLive o = Each (IsAtLiveNode T) (option_to_list o)
+
+    asserted-sound : (subject : Option TypedTree) (i : ℕ) (a : PlanAssert) → Sound (IsLiveRead T) AtLive (asserted T L n subject i a)
+    asserted-sound subject i a =
+        value-then AtLive a.test (λ v. cond (is_found a.report (to_truth v)) (bind (found T L n subject i a) (λ finding. done (Some finding))) (done None))
+        (λ v _. sound_cond (IsLiveRead T) AtLive (is_found a.report (to_truth v)) (bind (found T L n subject i a) (λ finding. done (Some finding))) (done None)
+        (sound_bind (IsLiveRead T) (IsAtLiveNode T) AtLive (found T L n subject i a) (λ finding. done (Some finding)) (found-sound subject i a)
+        (λ finding live. sound_done (IsLiveRead T) AtLive (Some finding) (live, tt)))
+        (sound_done (IsLiveRead T) AtLive None tt))
+
+    pub assertions-sound : (subject : Option TypedTree) (assertions : List PlanAssert) →
+        Sound (IsLiveRead T) (Each (IsAtLiveNode T)) (all_asserted T L n subject assertions)
+    assertions-sound subject assertions =
+        sound_gather (IsLiveRead T) Any AtLive (IsAtLiveNode T) (λ i a. asserted T L n subject i a) (λ _ _ finding. option_to_list finding) (λ i a _. asserted-sound subject i a)
+        (λ i a finding _ live. live) 0 assertions (each-all Any (λ _. tt) assertions)

@@ -8,8 +8,11 @@ use Rattle.xp_values.specs.declared.values.Value.{Value}
 use Rattle.xp_meaning.specs.Conversions.{nodes_of}
 use Rattle.xp_meaning.specs.Evaluation.{Lets}
 use Rattle.xp_meaning_laws.specs.KnownReads.{AreLive, IsLiveRead, LetsAreLive}
+use Rattle.sch_compiled.specs.declared.findings.Outcome.{Outcome}
 use Rattle.sch_compiled.specs.declared.plan.Plan.{Plan}
+use Rattle.sch_compiled.specs.Findings.{FindsAtLiveNodes}
 use Rattle.sch_units.specs.Units.{unit_let, unit_pair}
+use Rattle.sch_units.specs.Validity.{pair_outcome}
 
 -- where the nodes of the lets' values live, the cells that a unit reads are of live nodes
 pub record UnitsReadLiveCells : Type 0 where
@@ -22,3 +25,11 @@ abbrev pub LetsGiveLiveNodes : Type 0
 LetsGiveLiveNodes =
     (T : Table) (L : Lets) (expr : TypedTree) (v : Value) → Ordered T → HasWaysUp T → LetsAreLive T L → (unit_let T L expr).answer ≡ Ok v →
     AreLive T (nodes_of v)
+
+-- and what a live node under a pattern finds is at live nodes
+pub record PairsFindAtLiveNodes : Type 0 where
+  -- where the nodes of the lets' values live
+  pub given : (plan : Plan) (T : Table) (L : Lets) (p n : ℕ) (outcome : Outcome) → Ordered T → HasWaysUp T → LetsAreLive T L → is_live T n ≡ true →
+      (unit_pair plan T L p n).answer ≡ Ok outcome → FindsAtLiveNodes T outcome
+  -- under the lets in force of the tree
+  pub own : (plan : Plan) (T : Table) (p n : ℕ) → Ordered T → HasWaysUp T → is_live T n ≡ true → FindsAtLiveNodes T (pair_outcome plan T p n)

@@ -28,6 +28,7 @@ plain_rule rule = record {
   node = rule.node;
   id = rule.id;
   context = text_or_empty rule.context;
+  subject = rule.subject;
   role = rule.role;
   flag = rule.flag;
   lets = flat_map let_in rule.items;
@@ -45,6 +46,7 @@ plain_schema schema = record {
   phases = schema.phases;
   patterns = map plain_pattern schema.patterns;
   diagnostics = schema.diagnostics;
+  properties = schema.properties;
 }
 
 -- expressions that are left as they are
@@ -70,7 +72,9 @@ same-parts (part ∷ parts) = ap₂ (λ p ps. p ∷ ps) (same-part part) (same-p
 
 same-checks : (checks : List Check) → map (assertion_with unchanged) checks ≡ checks
 same-checks [] = refl
-same-checks (a ∷ checks) = ap₂ (λ (m : List Part) (as_read : List Check). record a { message = m } ∷ as_read) (same-parts a.message) (same-checks checks)
+same-checks (a ∷ checks) =
+    ap (λ (s : Option (List ℕ)). record a { subject = s; message = map (part_with unchanged) a.message } ∷ map (assertion_with unchanged) checks) (same-path a.subject)
+    ∙ ap₂ (λ (m : List Part) (as_read : List Check). record a { message = m } ∷ as_read) (same-parts a.message) (same-checks checks)
 
 -- nothing is extended
 same-items : (stands : List ℕ → List RawItem) (items : List RawItem) → list_all is_concrete_item items ≡ true → flat_map (replaced stands) items ≡ items
@@ -79,16 +83,17 @@ same-items stands (Let decl ∷ items) h = ap (λ l. Let decl ∷ l) (same-items
 same-items stands (Assertion a ∷ items) h = ap (λ l. Assertion a ∷ l) (same-items stands items h)
 same-items stands (Extends node name ∷ items) h = absurd (cc)
 
-rule-parts : RawRule → List LetDecl → List Check → FlatRule
-rule-parts rule lets checks = record (plain_rule rule) { lets = lets; assertions = checks }
+rule-parts : RawRule → Option (List ℕ) → List LetDecl → List Check → FlatRule
+rule-parts rule subject lets checks = record (plain_rule rule) { subject = subject; lets = lets; assertions = checks }
 
 rule-is-plain : (rules : List RawRule) (rule : RawRule) → is_concrete_rule rule ≡ true → flat_rule rules unchanged rule ≡ plain_rule rule
 unfolding rule-parts
 rule-is-plain rules rule h =
     let parts = and_parts (not rule.is_abstract) (list_all is_concrete_item rule.items) h in
     ap (rule_with unchanged rule) (same-items (stands_for rules) rule.items parts.1)
-    ∙ ap (λ lets. rule-parts rule lets (map (assertion_with unchanged) (flat_map assertion_in rule.items))) (same-lets (flat_map let_in rule.items))
-    ∙ ap (rule-parts rule (flat_map let_in rule.items)) (same-checks (flat_map assertion_in rule.items))
+    ∙ ap (λ subject. rule-parts rule subject (map (let_with unchanged) (flat_map let_in rule.items)) (map (assertion_with unchanged) (flat_map assertion_in rule.items))) (same-path rule.subject)
+    ∙ ap (λ lets. rule-parts rule rule.subject lets (map (assertion_with unchanged) (flat_map assertion_in rule.items))) (same-lets (flat_map let_in rule.items))
+    ∙ ap (rule-parts rule rule.subject (flat_map let_in rule.items)) (same-checks (flat_map assertion_in rule.items))
 
 -- nothing is left out
 module _ {A B : Type 0} (kept good : A → Bool) (f g : A → B) (stays : (x : A) → good x ≡ true → kept x ≡ true) (same : (x : A) → good x ≡ true → f x ≡ g x) where

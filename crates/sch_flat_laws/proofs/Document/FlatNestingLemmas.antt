@@ -19,7 +19,7 @@ use Rattle.sch_model.specs.declared.parts.Ns.{Ns}
 use Rattle.sch_model.specs.declared.parts.Part.{Part}
 use Rattle.sch_model.specs.declared.parts.Part.TheVariants.{Chars, ValueOf, Name}
 use Rattle.sch_model.specs.declared.parts.Phase.{Phase}
-use Rattle.sch_flat.specs.FlatDocument.{active_events, assertion_attributes, assertion_events, assertion_name, characters, diagnostic_events, diagnostics_events, element, flat_events, held_events, let_events, ns_events, part_events, pattern_events, phase_events, rule_events, title_events}
+use Rattle.sch_flat.specs.FlatDocument.{active_events, assertion_attributes, assertion_events, assertion_name, characters, diagnostics_events, element, flat_events, held_events, let_events, note_events, notes_events, ns_events, part_events, pattern_events, phase_events, properties_events, rule_attributes, rule_events, title_events}
 use Rattle.sch_flat_laws.specs.FlatText.{are_apart, is_made}
 use Rattle.sch_flat_laws.proofs.Document.NameLemmas.{names_fit, prefixed_named, spells}
 use Rattle.sch_flat_laws.proofs.Document.NestingLemmas.{Inside, document_nests, inside_all, inside_append, inside_characters, inside_element, inside_nil}
@@ -71,7 +71,7 @@ module _ (splits : QNamesSplit) where
   rule_nests : (rule : FlatRule) → Inside (rule_events rule)
   unfolding is_xml_char is_name_start is_name_char
   rule_nests rule =
-      named (codes "rule") ((codes "id", rule.id) ∷ (codes "context", Some rule.context) ∷ (codes "role", rule.role) ∷ (codes "flag", rule.flag) ∷ [])
+      named (codes "rule") (rule_attributes rule)
       (flat_map let_events rule.lets ++ flat_map assertion_events rule.assertions) refl refl
       (inside_append (flat_map let_events rule.lets) (flat_map assertion_events rule.assertions)
       (inside_all let_events let_nests rule.lets) (inside_all assertion_events assertion_nests rule.assertions))
@@ -83,17 +83,26 @@ module _ (splits : QNamesSplit) where
       (inside_append (flat_map let_events pattern.lets) (flat_map rule_events pattern.rules)
       (inside_all let_events let_nests pattern.lets) (inside_all rule_events rule_nests pattern.rules))
 
-  diagnostic_nests : (diagnostic : Diagnostic) → Inside (diagnostic_events diagnostic)
+  -- diagnostics or properties, by their local names
+  note_nests : (local : List ℕ) → spells local ≡ true → (note : Diagnostic) → Inside (note_events (codes "sch" ++ 58 ∷ local) note)
   unfolding is_xml_char is_name_start is_name_char
-  diagnostic_nests diagnostic =
-      named (codes "diagnostic") ((codes "id", Some diagnostic.id) ∷ []) (flat_map part_events diagnostic.message) refl refl
-      (inside_all part_events part_nests diagnostic.message)
+  note_nests local is note =
+      named local ((codes "id", Some note.id) ∷ []) (flat_map part_events note.message) is refl (inside_all part_events part_nests note.message)
+
+  notes_nest : (group local : List ℕ) → spells group ≡ true → spells local ≡ true → (notes : List Diagnostic) →
+      Inside (notes_events (codes "sch" ++ 58 ∷ group) (codes "sch" ++ 58 ∷ local) notes)
+  notes_nest group local holds is [] = inside_nil
+  notes_nest group local holds is (d ∷ ds) =
+      named group [] (flat_map (note_events (codes "sch" ++ 58 ∷ local)) (d ∷ ds)) holds refl
+      (inside_all (note_events (codes "sch" ++ 58 ∷ local)) (note_nests local is) (d ∷ ds))
 
   diagnostics_nest : (diagnostics : List Diagnostic) → Inside (diagnostics_events diagnostics)
   unfolding is_xml_char is_name_start is_name_char
-  diagnostics_nest [] = inside_nil
-  diagnostics_nest (d ∷ ds) =
-      named (codes "diagnostics") [] (flat_map diagnostic_events (d ∷ ds)) refl refl (inside_all diagnostic_events diagnostic_nests (d ∷ ds))
+  diagnostics_nest diagnostics = notes_nest (codes "diagnostics") (codes "diagnostic") refl refl diagnostics
+
+  properties_nest : (properties : List Diagnostic) → Inside (properties_events properties)
+  unfolding is_xml_char is_name_start is_name_char
+  properties_nest properties = notes_nest (codes "properties") (codes "property") refl refl properties
 
   title_nests : (title : Option (List ℕ)) → Inside (title_events title)
   unfolding is_xml_char is_name_start is_name_char
@@ -107,7 +116,7 @@ module _ (splits : QNamesSplit) where
       (inside_append (flat_map let_events schema.lets) _ (inside_all let_events let_nests schema.lets)
       (inside_append (flat_map phase_events schema.phases) _ (inside_all phase_events phase_nests schema.phases)
       (inside_append (flat_map pattern_events schema.patterns) _ (inside_all pattern_events pattern_nests schema.patterns)
-      (diagnostics_nest schema.diagnostics)))))
+      (inside_append (diagnostics_events schema.diagnostics) _ (diagnostics_nest schema.diagnostics) (properties_nest schema.properties))))))
 
   abbrev rest_of : FlatSchema → List (List ℕ × Option (List ℕ))
   rest_of schema =

@@ -19,9 +19,9 @@ use Rattle.sch_model.specs.declared.parts.Part.{Part}
 use Rattle.sch_model.specs.declared.parts.Part.TheVariants.{Chars, ValueOf, Name}
 use Rattle.sch_model.specs.declared.parts.Phase.{Phase}
 use Rattle.sch_rules.specs.RawSchema.{chars_before, joined, part_at}
-use Rattle.sch_flat.specs.FlatDocument.{active_events, assertion_events, assertion_name, characters, diagnostic_events, diagnostics_events, flat_events, held_events, let_events, ns_events, part_events, pattern_events, phase_events, rule_events, title_events}
+use Rattle.sch_flat.specs.FlatDocument.{active_events, assertion_events, assertion_name, characters, diagnostics_events, flat_events, held_events, let_events, note_events, notes_events, ns_events, part_events, pattern_events, phase_events, rule_events, title_events}
 use Rattle.sch_flat_laws.specs.FlatText.{are_apart}
-use Rattle.sch_flat_laws.specs.Joined.{TextsStandApart, are_joined, is_joined, is_joined_pattern, is_joined_rule}
+use Rattle.sch_flat_laws.specs.Joined.{TextsStandApart, are_joined, are_joined_notes, is_joined, is_joined_pattern, is_joined_rule}
 
 -- messages that are read
 not-after : (text : List ℕ) (parts : List Part) → are_joined false parts ≡ true → are_joined false (chars_before text parts) ≡ true
@@ -134,15 +134,14 @@ pattern-steady pattern h =
     (two-held (flat_map let_events pattern.lets) (flat_map rule_events pattern.rules)
     (steady-every let_events let-steady pattern.lets) (steady-all rule_events is_joined_rule rule-steady pattern.rules h))
 
-diagnostic-steady : (diagnostic : Diagnostic) → are_joined false diagnostic.message ≡ true → Steady (diagnostic_events diagnostic)
-diagnostic-steady diagnostic h =
-    steady-element (codes "sch:diagnostic") _ (flat_map part_events diagnostic.message) (held-message diagnostic.message h)
+note-steady : (name : List ℕ) (note : Diagnostic) → are_joined false note.message ≡ true → Steady (note_events name note)
+note-steady name note h = steady-element name _ (flat_map part_events note.message) (held-message note.message h)
 
-diagnostics-steady : (diagnostics : List Diagnostic) → list_all (λ (d : Diagnostic). are_joined false d.message) diagnostics ≡ true → Steady (diagnostics_events diagnostics)
-diagnostics-steady [] h = steady-nil
-diagnostics-steady (d ∷ ds) h =
-    steady-element (codes "sch:diagnostics") [] (flat_map diagnostic_events (d ∷ ds))
-    (held (flat_map diagnostic_events (d ∷ ds)) (steady-all diagnostic_events (λ (d : Diagnostic). are_joined false d.message) diagnostic-steady (d ∷ ds) h))
+notes-steady : (group name : List ℕ) (notes : List Diagnostic) → are_joined_notes notes ≡ true → Steady (notes_events group name notes)
+notes-steady group name [] h = steady-nil
+notes-steady group name (d ∷ ds) h =
+    steady-element group [] (flat_map (note_events name) (d ∷ ds))
+    (held (flat_map (note_events name) (d ∷ ds)) (steady-all (note_events name) (λ (d : Diagnostic). are_joined false d.message) (note-steady name) (d ∷ ds) h))
 
 title-steady : (title : Option (List ℕ)) → Steady (title_events title)
 title-steady None = steady-nil
@@ -150,13 +149,15 @@ title-steady (Some title) = steady-element (codes "sch:title") [] (characters ti
 
 held-steady : (schema : FlatSchema) → is_joined schema ≡ true → Steady (held_events schema)
 held-steady schema h =
-    let parts = and_parts (list_all is_joined_pattern schema.patterns) (list_all (λ (d : Diagnostic). are_joined false d.message) schema.diagnostics) h in
+    let parts = and_parts (list_all is_joined_pattern schema.patterns) (are_joined_notes schema.diagnostics && are_joined_notes schema.properties) h in
+    let notes = and_parts (are_joined_notes schema.diagnostics) (are_joined_notes schema.properties) parts.1 in
     steady-append (title_events schema.head.title) _ (title-steady schema.head.title)
     (steady-append (flat_map ns_events schema.ns) _ (steady-every ns_events ns-steady schema.ns)
     (steady-append (flat_map let_events schema.lets) _ (steady-every let_events let-steady schema.lets)
     (steady-append (flat_map phase_events schema.phases) _ (steady-every phase_events phase-steady schema.phases)
     (steady-append (flat_map pattern_events schema.patterns) _ (steady-all pattern_events is_joined_pattern pattern-steady schema.patterns parts.0)
-    (diagnostics-steady schema.diagnostics parts.1)))))
+    (steady-append (diagnostics_events schema.diagnostics) _ (notes-steady (codes "sch:diagnostics") (codes "sch:diagnostic") schema.diagnostics notes.0)
+    (notes-steady (codes "sch:properties") (codes "sch:property") schema.properties notes.1))))))
 
 schema-apart : (schema : FlatSchema) → is_joined schema ≡ true → are_apart false (flat_events schema) ≡ true
 schema-apart schema h =

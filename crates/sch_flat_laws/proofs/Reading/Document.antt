@@ -21,21 +21,22 @@ use Rattle.sch_model.specs.declared.parts.Diagnostic.{Diagnostic}
 use Rattle.sch_rules.specs.Attributes.{said as said_at}
 use Rattle.sch_rules.specs.Elements.{document_element, element_name, first_or, is_foreign, is_other_name, word_at}
 use Rattle.sch_rules.specs.Words.{word_of}
-use Rattle.sch_flat.specs.FlatDocument.{characters, diagnostic_events, diagnostics_events, element as sch_element, flat_events, held_events, let_events, ns_events, only_given, pattern_events, phase_events, title_events}
+use Rattle.sch_flat.specs.FlatDocument.{characters, diagnostics_events, element as sch_element, flat_events, held_events, let_events, note_events, notes_events, ns_events, only_given, pattern_events, phase_events, title_events}
 use Rattle.sch_flat_laws.proofs.Reading.Attributes.{SayAll, given_in, given_is, said_is, say_all, all_plain, are_plain}
 use Rattle.sch_flat_laws.proofs.Reading.Elements.{is_element as is_flat_element}
-use Rattle.sch_flat_laws.proofs.Reading.EventBlocks.{Chunk, Holds, chunk_element, diagnostic_chunk, holds_all, holds_append, holds_characters, let_chunk, ns_chunk, pattern_chunk, phase_chunk, said}
+use Rattle.sch_flat_laws.proofs.Reading.EventBlocks.{Chunk, Holds, chunk_element, holds_all, holds_append, holds_characters, let_chunk, note_chunk, ns_chunk, pattern_chunk, phase_chunk, said}
 use Rattle.sch_flat_laws.proofs.Reading.Kids.{Items, Pairs, Taken, none_left, take_pairs}
 use Rattle.sch_flat_laws.proofs.Reading.Leaves.{AreKids}
+use Rattle.sch_flat_laws.proofs.Reading.Notes.{Notes, diagnostics, group_name, note_name, properties}
 use Rattle.sch_flat_laws.proofs.Reading.Places.{Place, named_element, sch_scope, word_named}
 use Rattle.sch_flat_laws.proofs.Reading.TreeBlocks.{kid_block, told, told_at}
 
--- the title and the diagnostics as elements, of which there is one or none
+-- the title, the diagnostics and the properties as elements, of which there is one or none
 abbrev pub title_element : List ℕ → List Event
 title_element title = sch_element (codes "sch:title") [] (characters title)
 
-abbrev pub diagnostics_element : List Diagnostic → List Event
-diagnostics_element diagnostics = sch_element (codes "sch:diagnostics") [] (flat_map diagnostic_events diagnostics)
+abbrev pub notes_element : Notes → List Diagnostic → List Event
+notes_element kind notes = sch_element (group_name kind) [] (flat_map (note_events (note_name kind)) notes)
 
 abbrev pub some_list : List Diagnostic → List (List Diagnostic)
 some_list [] = []
@@ -45,22 +46,24 @@ pub title_is : (title : Option (List ℕ)) → title_events title ≡ flat_map t
 title_is None = refl
 title_is (Some title) = sym (append-nil (title_element title))
 
-pub diagnostics_is : (diagnostics : List Diagnostic) → diagnostics_events diagnostics ≡ flat_map diagnostics_element (some_list diagnostics)
-diagnostics_is [] = refl
-diagnostics_is (d ∷ ds) = sym (append-nil (diagnostics_element (d ∷ ds)))
+pub notes_is : (kind : Notes) (notes : List Diagnostic) → notes_events (group_name kind) (note_name kind) notes ≡ flat_map (notes_element kind) (some_list notes)
+notes_is kind [] = refl
+notes_is kind (d ∷ ds) = sym (append-nil (notes_element kind (d ∷ ds)))
 
 pub title_chunk : (title : List ℕ) → Chunk (title_element title)
 title_chunk title = chunk_element (codes "sch:title") [] (characters title) (holds_characters title)
 
-pub diagnostics_chunk : (diagnostics : List Diagnostic) → Chunk (diagnostics_element diagnostics)
-diagnostics_chunk diagnostics =
-    chunk_element (codes "sch:diagnostics") [] (flat_map diagnostic_events diagnostics) (holds_all diagnostic_events diagnostic_chunk diagnostics)
+pub notes_hold : (kind : Notes) (notes : List Diagnostic) → Holds (flat_map (note_events (note_name kind)) notes)
+notes_hold kind notes = holds_all (note_events (note_name kind)) (note_chunk (note_name kind)) notes
+
+pub notes_chunk : (kind : Notes) (notes : List Diagnostic) → Chunk (notes_element kind notes)
+notes_chunk kind notes = chunk_element (group_name kind) [] (flat_map (note_events (note_name kind)) notes) (notes_hold kind notes)
 
 title-holds : (title : Option (List ℕ)) → Holds (title_events title)
 title-holds title = subst Holds (sym (title_is title)) (holds_all title_element title_chunk (option_to_list title))
 
-diagnostics-hold : (diagnostics : List Diagnostic) → Holds (diagnostics_events diagnostics)
-diagnostics-hold diagnostics = subst Holds (sym (diagnostics_is diagnostics)) (holds_all diagnostics_element diagnostics_chunk (some_list diagnostics))
+notes-hold : (kind : Notes) (notes : List Diagnostic) → Holds (notes_events (group_name kind) (note_name kind) notes)
+notes-hold kind notes = subst Holds (sym (notes_is kind notes)) (holds_all (notes_element kind) (notes_chunk kind) (some_list notes))
 
 pub held_holds : (schema : FlatSchema) → Holds (held_events schema)
 held_holds schema =
@@ -69,7 +72,7 @@ held_holds schema =
     (holds_append (flat_map let_events schema.lets) _ (holds_all let_events let_chunk schema.lets)
     (holds_append (flat_map phase_events schema.phases) _ (holds_all phase_events phase_chunk schema.phases)
     (holds_append (flat_map pattern_events schema.patterns) _ (holds_all pattern_events pattern_chunk schema.patterns)
-    (diagnostics-hold schema.diagnostics)))))
+    (holds_append (diagnostics_events schema.diagnostics) _ (notes-hold diagnostics schema.diagnostics) (notes-hold properties schema.properties))))))
 
 pub schema_chunk : (schema : FlatSchema) → Chunk (flat_events schema)
 schema_chunk schema = chunk_element (codes "sch:schema") _ (held_events schema) (held_holds schema)

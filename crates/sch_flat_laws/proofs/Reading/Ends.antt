@@ -1,4 +1,4 @@
--- The title and the diagnostics of a schema, as they are read.
+-- The title, the diagnostics and the properties of a schema, as they are read.
 use Rattle.std.proofs.Common.{◌≡◌, ℕ, Bool, true, false, cond, List, [], ◌∷◌, ◌++◌, Some, map, find, refl, sym, ap, ◌∙◌, subst, append-nil}
 use Rattle.std.specs.List.{flat_map}
 use Rattle.std.specs.Prelude.{codes, option_and_then}
@@ -16,16 +16,17 @@ use Rattle.sch_model.specs.declared.parts.Part.TheVariants.{Chars}
 use Rattle.sch_rules.specs.declared.word.Word.{Word}
 use Rattle.sch_rules.specs.declared.word.Word.TheVariants as word
 use Rattle.sch_rules.specs.Elements.{is_ignored, word_above, word_at}
-use Rattle.sch_rules.specs.RawSchema.{counted_text, diagnostic_of, diagnostics_at, holds_text, read_if, read_kids, text_at, title_of}
+use Rattle.sch_rules.specs.RawSchema.{counted_text, diagnostic_of, holds_text, notes_at, read_if, read_kids, text_at, title_of}
 use Rattle.sch_rules.specs.Words.{is_word, word_of}
-use Rattle.sch_flat.specs.FlatDocument.{characters, diagnostic_events, part_events}
+use Rattle.sch_flat.specs.FlatDocument.{characters, note_events, part_events}
 use Rattle.sch_model.specs.Placeless.{is_some_part, placeless_diagnostic}
 use Rattle.sch_flat_laws.specs.Readable.{Each, ReadableDiagnostic}
-use Rattle.sch_flat_laws.proofs.Reading.Document.{are_kids, diagnostics_element, some_list, title_element}
-use Rattle.sch_flat_laws.proofs.Reading.EventBlocks.{diagnostic_chunk, holds_all, holds_characters, holds_some, part_holds, said}
+use Rattle.sch_flat_laws.proofs.Reading.Document.{are_kids, notes_element, notes_hold, some_list, title_element}
+use Rattle.sch_flat_laws.proofs.Reading.EventBlocks.{holds_characters, holds_some, note_chunk, part_holds, said}
 use Rattle.sch_flat_laws.proofs.Reading.Kids.{Items, Pairs, none_left, take_if, take_pairs}
 use Rattle.sch_flat_laws.proofs.Reading.Leaves.{AreKids}
 use Rattle.sch_flat_laws.proofs.Reading.Messages.{attribute_text, below_text, counts_under, either_nothing, message_read, part_chunk, text_node}
+use Rattle.sch_flat_laws.proofs.Reading.Notes.{Notes, group_local, group_of, known, note_local, note_name, note_of}
 use Rattle.sch_flat_laws.proofs.Reading.Places.{Place, read_element}
 use Rattle.sch_flat_laws.proofs.Reading.Rules.{ReadTo, read_to_all, silent_element}
 use Rattle.sch_flat_laws.proofs.Reading.Schema.{AllWords}
@@ -35,7 +36,7 @@ map-same : {A : Type 0} (xs : List A) → map (λ (x : A). x) xs ≡ xs
 map-same [] = refl
 map-same (x ∷ xs) = ap (λ l. x ∷ l) (map-same xs)
 
--- elements that are no title are not found as one, and those that hold no diagnostics give none
+-- elements that are no title are not found as one, and those that hold no notes of a kind give none
 pub not_found : (T : Table) (w : Word) → is_word word.Title (Some w) ≡ false → (ks more : List ℕ) → AllWords T w ks →
     find (λ k. is_word word.Title (word_at T k)) (ks ++ more) ≡ find (λ k. is_word word.Title (word_at T k)) more
 not_found T w differs [] more all = refl
@@ -43,51 +44,53 @@ not_found T w differs (k ∷ ks) more all =
     ap (λ (b : Bool). cond b (Some k) (find (λ k. is_word word.Title (word_at T k)) (ks ++ more))) (ap (is_word word.Title) all.0 ∙ differs)
     ∙ not_found T w differs ks more all.1
 
-pub no_diagnostics_at : (T : Table) (w : Word) → is_word word.Diagnostics (Some w) ≡ false → (ks : List ℕ) → AllWords T w ks → flat_map (diagnostics_at T) ks ≡ []
-no_diagnostics_at T w differs [] all = refl
-no_diagnostics_at T w differs (k ∷ ks) all =
-    ap (λ (b : Bool). cond b (read_kids T word.Diagnostic (diagnostic_of T) k) [] ++ flat_map (diagnostics_at T) ks) (ap (is_word word.Diagnostics) all.0 ∙ differs)
-    ∙ no_diagnostics_at T w differs ks all.1
+pub no_notes_at : (T : Table) (kind : Notes) (w : Word) → is_word (group_of kind) (Some w) ≡ false → (ks : List ℕ) → AllWords T w ks → flat_map (notes_at T (group_of kind) (note_of kind)) ks ≡ []
+no_notes_at T kind w differs [] all = refl
+no_notes_at T kind w differs (k ∷ ks) all =
+    ap (λ (b : Bool). cond b (read_kids T (note_of kind) (diagnostic_of T) k) [] ++ flat_map (notes_at T (group_of kind) (note_of kind)) ks) (ap (is_word (group_of kind)) all.0 ∙ differs)
+    ∙ no_notes_at T kind w differs ks all.1
 
 counted-none : (T : Table) (n : ℕ) → is_ignored T n ≡ false → characters_in (content_of T n) ≡ [] → counted_text T n ≡ []
 counted-none T n counts blank =
     ap (λ b. cond b [] (text_at T n)) counts ∙ ap (λ l. cond (holds_text (word_above T n)) l []) blank ∙ either_nothing (holds_text (word_above T n))
 
 module _ (T : Table) (formed : WellFormed T) (ordered : Ordered T) (ways : HasWaysUp T) (walks : Walks T) (scopes : HasScopes T) (in_scope : InScope T) where
-  diagnostic-read : (p k : ℕ) (d : Diagnostic) → ReadableDiagnostic d → Place T p → parent_of T k ≡ Some p → can_be_kid (kind_of T k) ≡ true → Items T (kids_of T k) →
-      told T k ≡ said (diagnostic_events d) → ReadTo T word.Diagnostic (diagnostic_of T) placeless_diagnostic (λ (x : Diagnostic). x) k d
-  unfolding xmlns_prefix word_of
-  diagnostic-read p k d good place up kid items same =
-      let r = read_element T formed ways walks scopes in_scope p k (codes "diagnostic") ((codes "id", Some d.id) ∷ []) (flat_map part_events d.message) place up kid items
+  note-read : (kind : Notes) (p k : ℕ) (d : Diagnostic) → ReadableDiagnostic d → Place T p → parent_of T k ≡ Some p → can_be_kid (kind_of T k) ≡ true → Items T (kids_of T k) →
+      told T k ≡ said (note_events (note_name kind) d) → ReadTo T (note_of kind) (diagnostic_of T) placeless_diagnostic (λ (x : Diagnostic). x) k d
+  unfolding xmlns_prefix
+  note-read kind p k d good place up kid items same =
+      let its = known kind in
+      let r = read_element T formed ways walks scopes in_scope p k (note_local kind) ((codes "id", Some d.id) ∷ []) (flat_map part_events d.message) place up kid items
       (holds_some part_events part_holds d.message) refl same in
-      let silent = silent_element T k word.Diagnostic r.place.counts r.word refl refl r.blank in
-      let message = message_read T formed ordered ways walks scopes in_scope k word.Diagnostic (codes "diagnostic") ((codes "id", Some d.id) ∷ []) d.message r r.word refl silent good.some good.joined in
-      record { word = r.word; same = rw (r.says (codes "id"), message) refl }
+      let is : word_at T k ≡ Some (note_of kind) = r.word ∙ its.note in
+      let silent = silent_element T k (note_of kind) r.place.counts is its.no_value its.no_name r.blank in
+      let message = message_read T formed ordered ways walks scopes in_scope k (note_of kind) (note_local kind) ((codes "id", Some d.id) ∷ []) d.message r is its.text silent good.some good.joined in
+      record { word = is; same = rw (r.says (codes "id"), message) refl }
 
-  diagnostics-in : (p k : ℕ) (ds : List Diagnostic) → Each ReadableDiagnostic ds → Place T p → parent_of T k ≡ Some p → can_be_kid (kind_of T k) ≡ true → Items T (kids_of T k) →
-      told T k ≡ said (diagnostics_element ds) → map placeless_diagnostic (diagnostics_at T k) ≡ map placeless_diagnostic ds
-  unfolding xmlns_prefix word_of
-  diagnostics-in p k ds good place up kid items same =
-      let r = read_element T formed ways walks scopes in_scope p k (codes "diagnostics") [] (flat_map diagnostic_events ds) place up kid items
-      (holds_all diagnostic_events diagnostic_chunk ds) refl same in
-      let taken = take_pairs T diagnostic_events diagnostic_chunk (kids_of T k) items ds [] (r.kids ∙ sym (append-nil (said (flat_map diagnostic_events ds)))) in
+  notes-in : (kind : Notes) (p k : ℕ) (ds : List Diagnostic) → Each ReadableDiagnostic ds → Place T p → parent_of T k ≡ Some p → can_be_kid (kind_of T k) ≡ true → Items T (kids_of T k) →
+      told T k ≡ said (notes_element kind ds) → map placeless_diagnostic (notes_at T (group_of kind) (note_of kind) k) ≡ map placeless_diagnostic ds
+  notes-in kind p k ds good place up kid items same =
+      let its = known kind in
+      let events = note_events (note_name kind) in
+      let r = read_element T formed ways walks scopes in_scope p k (group_local kind) [] (flat_map events ds) place up kid items (notes_hold kind ds) refl same in
+      let taken = take_pairs T events (note_chunk (note_name kind)) (kids_of T k) items ds [] (r.kids ∙ sym (append-nil (said (flat_map events ds)))) in
       let are : kids_of T k ≡ taken.front = taken.parts ∙ ap (λ l. taken.front ++ l) (none_left T taken.back taken.items taken.left) ∙ append-nil taken.front in
-      let word_is : is_word word.Diagnostics (word_at T k) ≡ true = ap (is_word word.Diagnostics) r.word in
-      ap (λ (b : Bool). map placeless_diagnostic (cond b (read_kids T word.Diagnostic (diagnostic_of T) k) [])) word_is
-      ∙ ap (λ l. map placeless_diagnostic (flat_map (read_if T word.Diagnostic (diagnostic_of T)) l)) are
-      ∙ read_to_all T word.Diagnostic (diagnostic_of T) placeless_diagnostic (λ (x : Diagnostic). x) ReadableDiagnostic diagnostic_events k refl
-      (λ j x ok. diagnostic-read k j x ok r.place) taken.front ds good (subst (AreKids T k) are (are_kids T formed ways walks scopes in_scope k)) taken.pairs
+      let word_is : is_word (group_of kind) (word_at T k) ≡ true = ap (is_word (group_of kind)) (r.word ∙ its.group) ∙ its.own_group in
+      ap (λ (b : Bool). map placeless_diagnostic (cond b (read_kids T (note_of kind) (diagnostic_of T) k) [])) word_is
+      ∙ ap (λ l. map placeless_diagnostic (flat_map (read_if T (note_of kind) (diagnostic_of T)) l)) are
+      ∙ read_to_all T (note_of kind) (diagnostic_of T) placeless_diagnostic (λ (x : Diagnostic). x) ReadableDiagnostic events k its.own_note
+      (λ j x ok. note-read kind k j x ok r.place) taken.front ds good (subst (AreKids T k) are (are_kids T formed ways walks scopes in_scope k)) taken.pairs
       ∙ ap (map placeless_diagnostic) (map-same ds)
 
-  pub diagnostics_read : (p : ℕ) (ks : List ℕ) (ds : List Diagnostic) → Each ReadableDiagnostic ds → Place T p → AreKids T p ks → Pairs T diagnostics_element ks (some_list ds) →
-      map placeless_diagnostic (flat_map (diagnostics_at T) ks) ≡ map placeless_diagnostic ds
-  diagnostics_read p [] [] good place kids pairs = refl
-  diagnostics_read p (k ∷ ks) [] good place kids pairs = absurd pairs
-  diagnostics_read p [] (d ∷ ds) good place kids pairs = absurd pairs
-  diagnostics_read p (k ∷ []) (d ∷ ds) good place kids pairs =
-      ap (map placeless_diagnostic) (append-nil (diagnostics_at T k))
-      ∙ diagnostics-in p k (d ∷ ds) good place kids.0.0 kids.0.1 kids.0.2 pairs.0
-  diagnostics_read p (k ∷ j ∷ ks) (d ∷ ds) good place kids pairs = absurd pairs.1
+  pub notes_read : (kind : Notes) (p : ℕ) (ks : List ℕ) (ds : List Diagnostic) → Each ReadableDiagnostic ds → Place T p → AreKids T p ks → Pairs T (notes_element kind) ks (some_list ds) →
+      map placeless_diagnostic (flat_map (notes_at T (group_of kind) (note_of kind)) ks) ≡ map placeless_diagnostic ds
+  notes_read kind p [] [] good place kids pairs = refl
+  notes_read kind p (k ∷ ks) [] good place kids pairs = absurd pairs
+  notes_read kind p [] (d ∷ ds) good place kids pairs = absurd pairs
+  notes_read kind p (k ∷ []) (d ∷ ds) good place kids pairs =
+      ap (map placeless_diagnostic) (append-nil (notes_at T (group_of kind) (note_of kind) k))
+      ∙ notes-in kind p k (d ∷ ds) good place kids.0.0 kids.0.1 kids.0.2 pairs.0
+  notes_read kind p (k ∷ j ∷ ks) (d ∷ ds) good place kids pairs = absurd pairs.1
 
   -- a title
   counted-attributes : (n : ℕ) (attrs : List ℕ) → Place T n → ((a : ℕ) → mem a attrs ≡ true → mem a (attrs_of T n) ≡ true) → flat_map (counted_text T) attrs ≡ []

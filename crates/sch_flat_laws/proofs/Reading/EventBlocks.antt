@@ -22,7 +22,7 @@ use Rattle.sch_model.specs.declared.parts.Ns.{Ns}
 use Rattle.sch_model.specs.declared.parts.Part.{Part}
 use Rattle.sch_model.specs.declared.parts.Part.TheVariants.{Chars, ValueOf, Name}
 use Rattle.sch_model.specs.declared.parts.Phase.{Phase}
-use Rattle.sch_flat.specs.FlatDocument.{active_events, assertion_events, assertion_name, characters, diagnostic_events, let_events, ns_events, only_given, part_events, pattern_events, phase_events, rule_events}
+use Rattle.sch_flat.specs.FlatDocument.{active_events, assertion_events, assertion_name, characters, let_events, note_events, ns_events, only_given, part_events, pattern_events, phase_events, rule_events}
 use Rattle.sch_flat_laws.proofs.Reading.Blocks.{Block, Inner, element_block, inner_append, inner_nil, is_quiet, text_block}
 
 -- what events tell
@@ -126,6 +126,5 @@ pattern_chunk pattern =
     (holds_append (flat_map let_events pattern.lets) (flat_map rule_events pattern.rules)
     (holds_all let_events let_chunk pattern.lets) (holds_all rule_events rule_chunk pattern.rules))
 
-pub diagnostic_chunk : (diagnostic : Diagnostic) → Chunk (diagnostic_events diagnostic)
-diagnostic_chunk diagnostic =
-    chunk_element (codes "sch:diagnostic") _ (flat_map part_events diagnostic.message) (holds_some part_events part_holds diagnostic.message)
+pub note_chunk : (name : List ℕ) (note : Diagnostic) → Chunk (note_events name note)
+note_chunk name note = chunk_element name _ (flat_map part_events note.message) (holds_some part_events part_holds note.message)

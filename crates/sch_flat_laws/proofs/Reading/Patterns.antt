@@ -16,7 +16,7 @@ use Rattle.sch_flat_laws.specs.Readable.{Each, ReadablePattern}
 use Rattle.sch_flat_laws.proofs.Reading.Document.{found}
 use Rattle.sch_flat_laws.proofs.Reading.Front.{words}
 use Rattle.sch_flat_laws.proofs.Reading.Rules.{pattern_read, read_to_all}
-use Rattle.sch_flat_laws.proofs.Reading.Schema.{none_of, pieces, skip, stop}
+use Rattle.sch_flat_laws.proofs.Reading.Schema.{both_none, none_of, pieces, skip, stop}
 
 module _ (T : Table) (formed : WellFormed T) (ordered : Ordered T) (ways : HasWaysUp T) (walks : Walks T) (scopes : HasScopes T) (in_scope : InScope T) where
   pub patterns : (schema : FlatSchema) → Scoped (flat_events schema) T → Each ReadablePattern schema.patterns →
@@ -33,7 +33,8 @@ module _ (T : Table) (formed : WellFormed T) (ordered : Ordered T) (ways : HasWa
       ∙ skip g p.ns _ (none_of T word.Pattern word.Ns (pattern_of T) refl p.ns w.ns)
       ∙ skip g p.lets _ (none_of T word.Pattern word.Let (pattern_of T) refl p.lets w.lets)
       ∙ skip g p.phases _ (none_of T word.Pattern word.Phase (pattern_of T) refl p.phases w.phases)
-      ∙ stop g p.patterns p.diagnostics (none_of T word.Pattern word.Diagnostics (pattern_of T) refl p.diagnostics w.diagnostics) in
+      ∙ stop g p.patterns _ (both_none g p.diagnostics p.properties (none_of T word.Pattern word.Diagnostics (pattern_of T) refl p.diagnostics w.diagnostics)
+      (none_of T word.Pattern word.Properties (pattern_of T) refl p.properties w.properties)) in
       ap (λ n. map placeless_pattern (read_kids T word.Pattern (pattern_of T) n)) f.is
       ∙ ap (map placeless_pattern) are
       ∙ read_to_all T word.Pattern (pattern_of T) placeless_pattern raw_pattern ReadablePattern pattern_events d refl

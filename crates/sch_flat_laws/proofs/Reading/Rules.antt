@@ -21,7 +21,7 @@ use Rattle.sch_rules.specs.declared.word.Word.TheVariants as word
 use Rattle.sch_rules.specs.Elements.{is_ignored, word_above, word_at}
 use Rattle.sch_rules.specs.RawSchema.{assertion_of, holds_text, ids_in, item_at, item_of, let_of, param_of, part_at, pattern_of, read_if, read_kids, rule_of, text_at}
 use Rattle.sch_rules.specs.Words.{is_word, word_of}
-use Rattle.sch_flat.specs.FlatDocument.{assertion_attributes, assertion_events, assertion_name, element as sch_element, let_events, part_events, pattern_events, rule_events}
+use Rattle.sch_flat.specs.FlatDocument.{assertion_attributes, assertion_events, assertion_name, element as sch_element, let_events, part_events, pattern_events, rule_attributes, rule_events}
 use Rattle.sch_texts.specs.Ids.{id_list, spaced}
 use Rattle.sch_flat_laws.specs.Expansion.{raw_pattern, raw_rule}
 use Rattle.sch_model.specs.Placeless.{placeless_assertion, placeless_item, placeless_let, placeless_pattern, placeless_rule}
@@ -82,14 +82,16 @@ module _ (T : Table) (formed : WellFormed T) (ordered : Ordered T) (ways : HasWa
       let silent = silent_element T k word.Assert r.place.counts r.word refl refl r.blank in
       let message = message_read T formed ordered ways walks scopes in_scope k word.Assert (codes "assert") (assertion_attributes a) a.message r r.word refl silent good.some good.joined in
       let ids = ap (λ v. ids_in (option_map_or (λ (text : List ℕ). text) v [])) (r.says (codes "diagnostics")) ∙ ap ids_in (said-ids a.diagnostics) ∙ good.ids in
-      (r.word, rw (r.says (codes "id"), r.says (codes "role"), r.says (codes "flag"), r.says (codes "test"), ids, message) refl)
+      let properties = ap (λ v. ids_in (option_map_or (λ (text : List ℕ). text) v [])) (r.says (codes "properties")) ∙ ap ids_in (said-ids a.properties) ∙ good.properties in
+      (r.word, rw (r.says (codes "id"), r.says (codes "role"), r.says (codes "flag"), r.says (codes "test"), r.says (codes "subject"), ids, properties, message) refl)
   assertion-as p k true a good place up kid items same =
       let r = read_element T formed ways walks scopes in_scope p k (codes "report") (assertion_attributes a) (flat_map part_events a.message) place up kid items
       (holds_some part_events part_holds a.message) refl same in
       let silent = silent_element T k word.Report r.place.counts r.word refl refl r.blank in
       let message = message_read T formed ordered ways walks scopes in_scope k word.Report (codes "report") (assertion_attributes a) a.message r r.word refl silent good.some good.joined in
       let ids = ap (λ v. ids_in (option_map_or (λ (text : List ℕ). text) v [])) (r.says (codes "diagnostics")) ∙ ap ids_in (said-ids a.diagnostics) ∙ good.ids in
-      (r.word, rw (r.says (codes "id"), r.says (codes "role"), r.says (codes "flag"), r.says (codes "test"), ids, message) refl)
+      let properties = ap (λ v. ids_in (option_map_or (λ (text : List ℕ). text) v [])) (r.says (codes "properties")) ∙ ap ids_in (said-ids a.properties) ∙ good.properties in
+      (r.word, rw (r.says (codes "id"), r.says (codes "role"), r.says (codes "flag"), r.says (codes "test"), r.says (codes "subject"), ids, properties, message) refl)
 
   -- the items of a rule
   let-items : (p : ℕ) → Place T p → (ks : List ℕ) (xs : List LetDecl) → AreKids T p ks → Pairs T let_events ks xs →
@@ -132,7 +134,7 @@ module _ (T : Table) (formed : WellFormed T) (ordered : Ordered T) (ways : HasWa
       let lets = flat_map let_events rule.lets in
       let assertions = flat_map assertion_events rule.assertions in
       let r = read_element T formed ways walks scopes in_scope p k (codes "rule")
-      ((codes "id", rule.id) ∷ (codes "context", Some rule.context) ∷ (codes "role", rule.role) ∷ (codes "flag", rule.flag) ∷ []) (lets ++ assertions) place up kid items
+      (rule_attributes rule) (lets ++ assertions) place up kid items
       (holds_append lets assertions (holds_all let_events let_chunk rule.lets) (holds_all assertion_events assertion_chunk rule.assertions)) refl same in
       let t1 = take_pairs T let_events let_chunk (kids_of T k) items rule.lets (said assertions) (r.kids ∙ said_append lets assertions) in
       let t2 = take_pairs T assertion_events assertion_chunk t1.back t1.items rule.assertions [] (t1.left ∙ sym (append-nil (said assertions))) in
@@ -149,7 +151,7 @@ module _ (T : Table) (formed : WellFormed T) (ordered : Ordered T) (ways : HasWa
       ∙ sym (map_append placeless_item (map (λ decl. item.Let decl) rule.lets) (map (λ assertion. item.Assertion assertion) rule.assertions)) in
       record {
         word = r.word;
-        same = rw (r.says (codes "abstract"), r.says (codes "id"), r.says (codes "context"), r.says (codes "role"), r.says (codes "flag"), items_are) refl;
+        same = rw (r.says (codes "abstract"), r.says (codes "id"), r.says (codes "context"), r.says (codes "subject"), r.says (codes "role"), r.says (codes "flag"), items_are) refl;
       }
 
   pub rule_word : (p : ℕ) → Place T p → (k : ℕ) (rule : FlatRule) → parent_of T k ≡ Some p → can_be_kid (kind_of T k) ≡ true → Items T (kids_of T k) →
@@ -157,7 +159,7 @@ module _ (T : Table) (formed : WellFormed T) (ordered : Ordered T) (ways : HasWa
   unfolding xmlns_prefix word_of
   rule_word p place k rule up kid items same =
       (read_element T formed ways walks scopes in_scope p k (codes "rule")
-      ((codes "id", rule.id) ∷ (codes "context", Some rule.context) ∷ (codes "role", rule.role) ∷ (codes "flag", rule.flag) ∷ [])
+      (rule_attributes rule)
       (flat_map let_events rule.lets ++ flat_map assertion_events rule.assertions) place up kid items
       (holds_append (flat_map let_events rule.lets) (flat_map assertion_events rule.assertions) (holds_all let_events let_chunk rule.lets) (holds_all assertion_events assertion_chunk rule.assertions)) refl same).word
 

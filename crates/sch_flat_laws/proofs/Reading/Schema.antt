@@ -21,12 +21,14 @@ use Rattle.sch_rules.specs.declared.word.Word.TheVariants as word
 use Rattle.sch_rules.specs.Elements.{word_at}
 use Rattle.sch_rules.specs.RawSchema.{active_of, let_of, phase_of, read_if, read_kids}
 use Rattle.sch_rules.specs.Words.{is_word, word_of}
-use Rattle.sch_flat.specs.FlatDocument.{active_events, characters, diagnostic_events, diagnostics_events, held_events, let_events, ns_events, pattern_events, phase_events, rule_events, title_events}
+use Rattle.sch_flat.specs.FlatDocument.{active_events, characters, diagnostics_events, held_events, let_events, note_events, ns_events, pattern_events, phase_events, properties_events, rule_events, title_events}
 use Rattle.sch_model.specs.Placeless.{placeless_active, placeless_let, placeless_phase}
-use Rattle.sch_flat_laws.proofs.Reading.Document.{are_kids, diagnostics_chunk, diagnostics_element, diagnostics_is, kid_items, some_list, title_chunk, title_element, title_is}
-use Rattle.sch_flat_laws.proofs.Reading.EventBlocks.{active_chunk, diagnostic_chunk, holds_all, holds_append, holds_characters, let_chunk, ns_chunk, pattern_chunk, phase_chunk, rule_chunk, said, said_append}
+use Rattle.sch_flat_laws.proofs.Reading.Document.{are_kids, kid_items, notes_chunk, notes_element, notes_hold, notes_is, some_list, title_chunk, title_element, title_is}
+use Rattle.sch_flat_laws.proofs.Reading.EventBlocks.{active_chunk, holds_all, holds_append, holds_characters, let_chunk, ns_chunk, pattern_chunk, phase_chunk, rule_chunk, said, said_append}
 use Rattle.sch_flat_laws.proofs.Reading.Kids.{Items, Pairs, none_left, take_pairs}
 use Rattle.sch_flat_laws.proofs.Reading.Leaves.{AreKids, ReadAs, active_read, all_read, let_read, read_all}
+use Rattle.sch_flat_laws.proofs.Reading.Notes.{Notes, group_local, group_of, known, note_name}
+use Rattle.sch_flat_laws.proofs.Reading.Notes as kind
 use Rattle.sch_flat_laws.proofs.Reading.Places.{Place, read_element}
 use Rattle.sch_flat_laws.proofs.Reading.TreeBlocks.{told}
 
@@ -71,18 +73,21 @@ pub record Pieces (T : Table) (d : ℕ) (schema : FlatSchema) : Type 0 where
   pub phases : List ℕ
   pub patterns : List ℕ
   pub diagnostics : List ℕ
-  pub are : kids_of T d ≡ titles ++ (ns ++ (lets ++ (phases ++ (patterns ++ diagnostics))))
+  pub properties : List ℕ
+  pub are : kids_of T d ≡ titles ++ (ns ++ (lets ++ (phases ++ (patterns ++ (diagnostics ++ properties)))))
   pub title_pairs : Pairs T title_element titles (option_to_list schema.head.title)
   pub ns_pairs : Pairs T ns_events ns schema.ns
   pub let_pairs : Pairs T let_events lets schema.lets
   pub phase_pairs : Pairs T phase_events phases schema.phases
   pub pattern_pairs : Pairs T pattern_events patterns schema.patterns
-  pub diagnostics_pairs : Pairs T diagnostics_element diagnostics (some_list schema.diagnostics)
+  pub diagnostics_pairs : Pairs T (notes_element kind.diagnostics) diagnostics (some_list schema.diagnostics)
+  pub property_pairs : Pairs T (notes_element kind.properties) properties (some_list schema.properties)
 
 module _ (T : Table) (formed : WellFormed T) (ways : HasWaysUp T) (walks : Walks T) (scopes : HasScopes T) (in_scope : InScope T) where
   pub pieces : (d : ℕ) (schema : FlatSchema) → flat_map (told T) (kids_of T d) ≡ said (held_events schema) → Pieces T d schema
   pieces d schema kids =
-      let r5 = flat_map pattern_events schema.patterns ++ diagnostics_events schema.diagnostics in
+      let r6 = diagnostics_events schema.diagnostics ++ properties_events schema.properties in
+      let r5 = flat_map pattern_events schema.patterns ++ r6 in
       let r4 = flat_map phase_events schema.phases ++ r5 in
       let r3 = flat_map let_events schema.lets ++ r4 in
       let r2 = flat_map ns_events schema.ns ++ r3 in
@@ -91,10 +96,12 @@ module _ (T : Table) (formed : WellFormed T) (ways : HasWaysUp T) (walks : Walks
       let t2 = take_pairs T ns_events ns_chunk t1.back t1.items schema.ns (said r3) (t1.left ∙ said_append (flat_map ns_events schema.ns) r3) in
       let t3 = take_pairs T let_events let_chunk t2.back t2.items schema.lets (said r4) (t2.left ∙ said_append (flat_map let_events schema.lets) r4) in
       let t4 = take_pairs T phase_events phase_chunk t3.back t3.items schema.phases (said r5) (t3.left ∙ said_append (flat_map phase_events schema.phases) r5) in
-      let t5 = take_pairs T pattern_events pattern_chunk t4.back t4.items schema.patterns (said (diagnostics_events schema.diagnostics))
-      (t4.left ∙ said_append (flat_map pattern_events schema.patterns) (diagnostics_events schema.diagnostics)) in
-      let t6 = take_pairs T diagnostics_element diagnostics_chunk t5.back t5.items (some_list schema.diagnostics) []
-      (t5.left ∙ ap said (diagnostics_is schema.diagnostics) ∙ sym (append-nil (said (flat_map diagnostics_element (some_list schema.diagnostics))))) in
+      let t5 = take_pairs T pattern_events pattern_chunk t4.back t4.items schema.patterns (said r6) (t4.left ∙ said_append (flat_map pattern_events schema.patterns) r6) in
+      let t6 = take_pairs T (notes_element kind.diagnostics) (notes_chunk kind.diagnostics) t5.back t5.items (some_list schema.diagnostics) (said (properties_events schema.properties))
+      (t5.left ∙ said_append (diagnostics_events schema.diagnostics) (properties_events schema.properties)
+      ∙ ap (λ l. said l ++ said (properties_events schema.properties)) (notes_is kind.diagnostics schema.diagnostics)) in
+      let t7 = take_pairs T (notes_element kind.properties) (notes_chunk kind.properties) t6.back t6.items (some_list schema.properties) []
+      (t6.left ∙ ap said (notes_is kind.properties schema.properties) ∙ sym (append-nil (said (flat_map (notes_element kind.properties) (some_list schema.properties))))) in
       record {
         titles = t1.front;
         ns = t2.front;
@@ -102,18 +109,21 @@ module _ (T : Table) (formed : WellFormed T) (ways : HasWaysUp T) (walks : Walks
         phases = t4.front;
         patterns = t5.front;
         diagnostics = t6.front;
+        properties = t7.front;
         are = t1.parts
             ∙ ap (λ l. t1.front ++ l) (t2.parts
             ∙ ap (λ l. t2.front ++ l) (t3.parts
             ∙ ap (λ l. t3.front ++ l) (t4.parts
             ∙ ap (λ l. t4.front ++ l) (t5.parts
-            ∙ ap (λ l. t5.front ++ l) (t6.parts ∙ ap (λ l. t6.front ++ l) (none_left T t6.back t6.items t6.left) ∙ append-nil t6.front)))));
+            ∙ ap (λ l. t5.front ++ l) (t6.parts
+            ∙ ap (λ l. t6.front ++ l) (t7.parts ∙ ap (λ l. t7.front ++ l) (none_left T t7.back t7.items t7.left) ∙ append-nil t7.front))))));
         title_pairs = t1.pairs;
         ns_pairs = t2.pairs;
         let_pairs = t3.pairs;
         phase_pairs = t4.pairs;
         pattern_pairs = t5.pairs;
         diagnostics_pairs = t6.pairs;
+        property_pairs = t7.pairs;
       }
 
   pub title_word : (p k : ℕ) (title : List ℕ) → Place T p → parent_of T k ≡ Some p → can_be_kid (kind_of T k) ≡ true → Items T (kids_of T k) →
@@ -129,12 +139,11 @@ module _ (T : Table) (formed : WellFormed T) (ways : HasWaysUp T) (walks : Walks
       (read_element T formed ways walks scopes in_scope p k (codes "pattern") ((codes "id", pattern.id) ∷ []) (flat_map let_events pattern.lets ++ flat_map rule_events pattern.rules) place up kid items
       (holds_append (flat_map let_events pattern.lets) (flat_map rule_events pattern.rules) (holds_all let_events let_chunk pattern.lets) (holds_all rule_events rule_chunk pattern.rules)) refl same).word
 
-  pub diagnostics_word : (p k : ℕ) (diagnostics : List Diagnostic) → Place T p → parent_of T k ≡ Some p → can_be_kid (kind_of T k) ≡ true → Items T (kids_of T k) →
-      told T k ≡ said (diagnostics_element diagnostics) → word_at T k ≡ Some word.Diagnostics
-  unfolding xmlns_prefix word_of
-  diagnostics_word p k diagnostics place up kid items same =
-      (read_element T formed ways walks scopes in_scope p k (codes "diagnostics") [] (flat_map diagnostic_events diagnostics) place up kid items
-      (holds_all diagnostic_events diagnostic_chunk diagnostics) refl same).word
+  pub notes_word : (notes : Notes) (p k : ℕ) (ds : List Diagnostic) → Place T p → parent_of T k ≡ Some p → can_be_kid (kind_of T k) ≡ true → Items T (kids_of T k) →
+      told T k ≡ said (notes_element notes ds) → word_at T k ≡ Some (group_of notes)
+  notes_word notes p k ds place up kid items same =
+      (read_element T formed ways walks scopes in_scope p k (group_local notes) [] (flat_map (note_events (note_name notes)) ds) place up kid items (notes_hold notes ds) refl same).word
+      ∙ (known notes).group
 
   -- a phase
   with_parts : Phase → List LetDecl → List Active → Phase

@@ -57,8 +57,8 @@ phases-same schema = names_over (λ (x : Phase). x.id) (λ (x : Phase). x.id) pl
 patterns-same : (schema : FlatSchema) → flat_map pattern_ids (placeless_flat schema).patterns ≡ flat_map pattern_ids schema.patterns
 patterns-same schema = same_over pattern_ids placeless_flat_pattern (λ x. refl) schema.patterns
 
-diagnostics-same : (schema : FlatSchema) → map (λ (x : Diagnostic). x.id) (placeless_flat schema).diagnostics ≡ map (λ (x : Diagnostic). x.id) schema.diagnostics
-diagnostics-same schema = names_over (λ (x : Diagnostic). x.id) (λ (x : Diagnostic). x.id) placeless_diagnostic (λ x. refl) schema.diagnostics
+notes-same : (notes : List Diagnostic) → map (λ (x : Diagnostic). x.id) (map placeless_diagnostic notes) ≡ map (λ (x : Diagnostic). x.id) notes
+notes-same notes = names_over (λ (x : Diagnostic). x.id) (λ (x : Diagnostic). x.id) placeless_diagnostic (λ x. refl) notes
 
 allowed-forgets : (schema : FlatSchema) → Allowed schema → Allowed (placeless_flat schema)
 allowed-forgets schema h = record {
@@ -67,10 +67,12 @@ allowed-forgets schema h = record {
   phases = forget_each AllowedPhase placeless_phase forget-phase schema.phases h.phases;
   patterns = forget_each AllowedPattern placeless_flat_pattern forget-pattern schema.patterns h.patterns;
   diagnostics = forget_each AllowedDiagnostic placeless_diagnostic (λ x is. is) schema.diagnostics h.diagnostics;
+  properties = forget_each AllowedDiagnostic placeless_diagnostic (λ x is. is) schema.properties h.properties;
   prefixes_differ = subst (IsDistinct bytes_eq) (sym (prefixes-same schema)) h.prefixes_differ;
   phases_differ = subst (IsDistinct bytes_eq) (sym (phases-same schema)) h.phases_differ;
   patterns_differ = subst (IsDistinct bytes_eq) (sym (patterns-same schema)) h.patterns_differ;
-  diagnostics_differ = subst (IsDistinct bytes_eq) (sym (diagnostics-same schema)) h.diagnostics_differ;
+  diagnostics_differ = subst (IsDistinct bytes_eq) (sym (notes-same schema.diagnostics)) h.diagnostics_differ;
+  properties_differ = subst (IsDistinct bytes_eq) (sym (notes-same schema.properties)) h.properties_differ;
 }
 
 allowed-recalls : (schema : FlatSchema) → Allowed (placeless_flat schema) → Allowed schema
@@ -80,10 +82,12 @@ allowed-recalls schema h = record {
   phases = recall_each AllowedPhase placeless_phase recall-phase schema.phases h.phases;
   patterns = recall_each AllowedPattern placeless_flat_pattern recall-pattern schema.patterns h.patterns;
   diagnostics = recall_each AllowedDiagnostic placeless_diagnostic (λ x is. is) schema.diagnostics h.diagnostics;
+  properties = recall_each AllowedDiagnostic placeless_diagnostic (λ x is. is) schema.properties h.properties;
   prefixes_differ = subst (IsDistinct bytes_eq) (prefixes-same schema) h.prefixes_differ;
   phases_differ = subst (IsDistinct bytes_eq) (phases-same schema) h.phases_differ;
   patterns_differ = subst (IsDistinct bytes_eq) (patterns-same schema) h.patterns_differ;
-  diagnostics_differ = subst (IsDistinct bytes_eq) (diagnostics-same schema) h.diagnostics_differ;
+  diagnostics_differ = subst (IsDistinct bytes_eq) (notes-same schema.diagnostics) h.diagnostics_differ;
+  properties_differ = subst (IsDistinct bytes_eq) (notes-same schema.properties) h.properties_differ;
 }
 
 -- two schemas that differ in places alone are allowed alike

@@ -1,5 +1,5 @@
 -- No name that is read of a document that breaks no rule is used twice.
-use Rattle.std.proofs.Common.{◌≡◌, ℕ, Bool, true, false, not, cond, List, [], ◌∷◌, ◌++◌, Option, None, Some, map, refl, sym, ap, ap₂, ◌∙◌, subst, append-nil}
+use Rattle.std.proofs.Common.{◌≡◌, ℕ, ◌==◌, Bool, true, false, not, cond, List, [], ◌∷◌, ◌++◌, Option, None, Some, map, refl, sym, ap, ap₂, ◌∙◌, subst, append-nil}
 use Rattle.std.specs.List.{IsDistinct, flat_map}
 use Rattle.std.specs.Option.{option_to_list}
 use Rattle.std.specs.Prelude.{codes, filter}
@@ -22,12 +22,13 @@ use Rattle.sch_rules.specs.declared.word.Word.TheVariants as word
 use Rattle.sch_rules.specs.Attributes.{said}
 use Rattle.sch_rules.specs.Elements.{document_element, word_at}
 use Rattle.sch_rules.specs.FirstBroken.{first_broken}
-use Rattle.sch_rules.specs.Keys.{Key, keys_at, keys_for, keys_of}
-use Rattle.sch_rules.specs.RawSchema.{diagnostic_of, diagnostics_at, ns_of, pattern_of, phase_of, raw_schema, read_if, read_kids}
+use Rattle.sch_rules.specs.Keys.{Key, keys_at, keys_for, keys_of, kind_rank}
+use Rattle.sch_rules.specs.RawSchema.{diagnostic_of, notes_at, ns_of, pattern_of, phase_of, raw_schema, read_if, read_kids}
 use Rattle.sch_rules.specs.Words.{is_word}
 use Rattle.sch_expansion.specs.Flat.{concrete_patterns, flat_pattern, flat_schema}
 use Rattle.sch_flat_laws.specs.Allowed.{Allowed, pattern_ids}
-use Rattle.sch_flat_laws.proofs.Rules.AllowedParts.{diagnostics_allowed, lets_allowed, ns_allowed, patterns_allowed, patterns_stand, phases_allowed}
+use Rattle.sch_flat_laws.proofs.Reading.Notes.{Notes, diagnostics, group_of, named_as, note_of, properties}
+use Rattle.sch_flat_laws.proofs.Rules.AllowedParts.{lets_allowed, notes_allowed, ns_allowed, patterns_allowed, patterns_stand, phases_allowed}
 use Rattle.sch_flat_laws.proofs.Rules.Counting.{Counted, document_counted, held, kid_counted}
 use Rattle.sch_flat_laws.proofs.Rules.KeyLemmas.{keys_of_kind, keys_append, one_each}
 use Rattle.sch_flat_laws.proofs.Rules.Runs.{Differ, Within, differ_within, kind_distinct, new_differ, within_both, within_front, within_later, within_more}
@@ -132,21 +133,36 @@ module _ (T : Table) (formed : WellFormed T) (ordered : Ordered T) (ways : HasWa
       (within_later keys (flat_map (keys_at T) parts.0) (keys-below n ++ flat_map (keys_at T) parts.1) (within_more keys (keys-below n) (flat_map (keys_at T) parts.1) h)))
       (new_differ [] (flat_map (keys_at T) (order T)) (new_over T [] (order T) none))
 
-  -- the diagnostics
-  diagnostic-keys : (k : ℕ) → Counted T k → word_at T k ≡ Some word.Diagnostic → keys_of T k (Some word.Diagnostic) ≡ keys_of_kind named.Diagnostic ((diagnostic_of T k).id ∷ [])
-  diagnostic-keys k counted is =
-      ap (keys_for named.Diagnostic 0) (present T k (codes "id") [] (held T formed ordered ways none k word.Diagnostic counted.live counted.counts is).given).says
+  -- the diagnostics, and the properties
+  abbrev note_ids : Diagnostic → List (List ℕ)
+  note_ids note = note.id ∷ []
 
-  one-diagnostics : (n : ℕ) → Counted T n → (k : ℕ) → mem k (kids_of T n) ≡ true →
-      Within (keys_of_kind named.Diagnostic (flat_map (λ (x : Diagnostic). x.id ∷ []) (diagnostics_at T k))) (keys-below k)
-  one-diagnostics n counted k member = by (is_word word.Diagnostics (word_at T k)) refl
+  note-keys : (kind : Notes) (k : ℕ) → Counted T k → word_at T k ≡ Some (note_of kind) → keys_of T k (Some (note_of kind)) ≡ keys_of_kind (named_as kind) (note_ids (diagnostic_of T k))
+  note-keys diagnostics k counted is =
+      ap (keys_for named.Diagnostic 0) (present T k (codes "id") [] (held T formed ordered ways none k word.Diagnostic counted.live counted.counts is).given).says
+  note-keys properties k counted is =
+      ap (keys_for named.Property 0) (present T k (codes "id") [] (held T formed ordered ways none k word.Property counted.live counted.counts is).given).says
+
+  one-notes : (kind : Notes) (n : ℕ) → Counted T n → (k : ℕ) → mem k (kids_of T n) ≡ true →
+      Within (keys_of_kind (named_as kind) (flat_map note_ids (notes_at T (group_of kind) (note_of kind) k))) (keys-below k)
+  one-notes kind n counted k member = by (is_word (group_of kind) (word_at T k)) refl
     where
-      by : (b : Bool) → is_word word.Diagnostics (word_at T k) ≡ b →
-          Within (keys_of_kind named.Diagnostic (flat_map (λ (x : Diagnostic). x.id ∷ []) (cond b (read_kids T word.Diagnostic (diagnostic_of T) k) []))) (keys-below k)
+      by : (b : Bool) → is_word (group_of kind) (word_at T k) ≡ b →
+          Within (keys_of_kind (named_as kind) (flat_map note_ids (cond b (read_kids T (note_of kind) (diagnostic_of T) k) []))) (keys-below k)
       by true e =
-          read_within named.Diagnostic (λ (x : Diagnostic). x.id ∷ []) word.Diagnostic (diagnostic_of T) k
-          (kid_counted T formed ordered ways none n k word.Diagnostics counted member (the_word word.Diagnostics (word_at T k) e)) diagnostic-keys
+          read_within (named_as kind) note_ids (note_of kind) (diagnostic_of T) k
+          (kid_counted T formed ordered ways none n k (group_of kind) counted member (the_word (group_of kind) (word_at T k) e)) (note-keys kind)
       by false e = tt
+
+  notes-differ : (kind : Notes) → (kind_rank (named_as kind) == kind_rank (named_as kind)) ≡ true → (n : ℕ) → Counted T n →
+      IsDistinct bytes_eq (map (λ (x : Diagnostic). x.id) (flat_map (notes_at T (group_of kind) (note_of kind)) (kids_of T n)))
+  notes-differ kind own n counted =
+      let notes = flat_map (notes_at T (group_of kind) (note_of kind)) (kids_of T n) in
+      subst (IsDistinct bytes_eq) (one_each (λ (x : Diagnostic). x.id) notes)
+      (kind_distinct (named_as kind) own (flat_map note_ids notes)
+      (names-differ n counted _
+      (kids-within n _
+      (over-kids (named_as kind) note_ids (notes_at T (group_of kind) (note_of kind)) n (one-notes kind n counted) (kids_of T n) (λ k h. h)))))
 
   ns-keys : (k : ℕ) → Counted T k → word_at T k ≡ Some word.Ns → keys_of T k (Some word.Ns) ≡ keys_of_kind named.Prefix ((ns_of T k).prefix ∷ [])
   ns-keys k counted is =
@@ -170,7 +186,8 @@ module _ (T : Table) (formed : WellFormed T) (ordered : Ordered T) (ways : HasWa
         lets = lets_allowed T formed ordered ways none d counted;
         phases = phases_allowed T formed ordered ways none d counted;
         patterns = patterns_stand schema (patterns_allowed T formed ordered ways none d counted);
-        diagnostics = diagnostics_allowed T formed ordered ways none d counted;
+        diagnostics = notes_allowed T formed ordered ways none diagnostics d counted;
+        properties = notes_allowed T formed ordered ways none properties d counted;
         prefixes_differ = subst (IsDistinct bytes_eq) (one_each (λ (x : Ns). x.prefix) schema.ns)
             (kind_distinct named.Prefix refl (flat_map (λ (x : Ns). x.prefix ∷ []) schema.ns)
             (names-differ d counted _ (read_within named.Prefix (λ (x : Ns). x.prefix ∷ []) word.Ns (ns_of T) d counted ns-keys)));
@@ -182,9 +199,6 @@ module _ (T : Table) (formed : WellFormed T) (ordered : Ordered T) (ways : HasWa
             (differ_within (keys_of_kind named.Pattern (raw-ids (concrete_patterns schema))) (keys_of_kind named.Pattern (raw-ids schema.patterns))
             (kept-within named.Pattern (λ (pattern : RawPattern). not pattern.is_abstract) schema.patterns)
             (names-differ d counted _ (read_within named.Pattern (λ (x : RawPattern). option_to_list x.id) word.Pattern (pattern_of T) d counted pattern-keys))));
-        diagnostics_differ = subst (IsDistinct bytes_eq) (one_each (λ (x : Diagnostic). x.id) schema.diagnostics)
-            (kind_distinct named.Diagnostic refl (flat_map (λ (x : Diagnostic). x.id ∷ []) schema.diagnostics)
-            (names-differ d counted _
-            (kids-within d _
-            (over-kids named.Diagnostic (λ (x : Diagnostic). x.id ∷ []) (diagnostics_at T) d (one-diagnostics d counted) (kids_of T d) (λ k h. h)))));
+        diagnostics_differ = notes-differ diagnostics refl d counted;
+        properties_differ = notes-differ properties refl d counted;
       }

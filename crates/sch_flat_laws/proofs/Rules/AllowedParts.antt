@@ -20,12 +20,13 @@ use Rattle.sch_rules.specs.Attributes.{said, said_text}
 use Rattle.sch_rules.specs.Elements.{word_at}
 use Rattle.sch_rules.specs.FirstBroken.{first_broken}
 use Rattle.sch_rules.specs.Rules.{is_bad_binding}
-use Rattle.sch_rules.specs.RawSchema.{diagnostic_of, diagnostics_at, item_at, item_of, let_of, ns_of, pattern_of, phase_of, read_if, read_kids, rule_of}
+use Rattle.sch_rules.specs.RawSchema.{diagnostic_of, item_at, item_of, let_of, notes_at, ns_of, pattern_of, phase_of, read_if, read_kids, rule_of}
 use Rattle.sch_rules.specs.Words.{is_word}
 use Rattle.sch_references.specs.Extends.{abstract_rules}
 use Rattle.sch_expansion.specs.Flat.{flat_schema, let_in, let_with, rule_with}
 use Rattle.sch_flat_laws.specs.Readable.{Each}
 use Rattle.sch_flat_laws.specs.Allowed.{AllowedDiagnostic, AllowedLet, AllowedNs, AllowedPattern, AllowedPhase, AllowedRule, IsName}
+use Rattle.sch_flat_laws.proofs.Reading.Notes.{Notes, diagnostics, group_of, note_of, properties}
 use Rattle.sch_flat_laws.proofs.Rules.Counting.{Counted, held, kid_counted}
 use Rattle.sch_flat_laws.proofs.Rules.KeyLemmas.{or_parts}
 use Rattle.sch_flat_laws.proofs.Rules.Saying.{form_said, present}
@@ -159,23 +160,28 @@ module _ (T : Table) (formed : WellFormed T) (ordered : Ordered T) (ways : HasWa
   pub patterns_allowed : (n : ℕ) → Counted T n → Each AllowedRaw (read_kids T word.Pattern (pattern_of T) n)
   patterns_allowed n counted = each_kid word.Pattern (pattern_of T) AllowedRaw n counted pattern-allowed (kids_of T n) (λ j h. h)
 
-  diagnostic-allowed : (k : ℕ) → Counted T k → word_at T k ≡ Some word.Diagnostic → AllowedDiagnostic (diagnostic_of T k)
-  diagnostic-allowed k counted is =
+  note-allowed : (kind : Notes) (k : ℕ) → Counted T k → word_at T k ≡ Some (note_of kind) → AllowedDiagnostic (diagnostic_of T k)
+  note-allowed diagnostics k counted is =
       let h = at k word.Diagnostic counted is in
       let id = present T k (codes "id") [] h.given in
       named-by _ false (form_said T k word.Diagnostic (codes "id") (said_text T k (codes "id")) h.formed id.says)
+  note-allowed properties k counted is =
+      let h = at k word.Property counted is in
+      let id = present T k (codes "id") [] h.given in
+      named-by _ false (form_said T k word.Property (codes "id") (said_text T k (codes "id")) h.formed id.says)
 
-  diagnostics-in : (n : ℕ) → Counted T n → (ks : List ℕ) → ((k : ℕ) → mem k ks ≡ true → mem k (kids_of T n) ≡ true) → Each AllowedDiagnostic (flat_map (diagnostics_at T) ks)
-  diagnostics-in n counted [] within = tt
-  diagnostics-in n counted (k ∷ ks) within =
-      each_append AllowedDiagnostic (diagnostics_at T k) (flat_map (diagnostics_at T) ks) (by (is_word word.Diagnostics (word_at T k)) refl)
-      (diagnostics-in n counted ks (λ j h. within j (mem-tail j k ks h)))
+  notes-in : (kind : Notes) (n : ℕ) → Counted T n → (ks : List ℕ) → ((k : ℕ) → mem k ks ≡ true → mem k (kids_of T n) ≡ true) →
+      Each AllowedDiagnostic (flat_map (notes_at T (group_of kind) (note_of kind)) ks)
+  notes-in kind n counted [] within = tt
+  notes-in kind n counted (k ∷ ks) within =
+      each_append AllowedDiagnostic (notes_at T (group_of kind) (note_of kind) k) (flat_map (notes_at T (group_of kind) (note_of kind)) ks) (by (is_word (group_of kind) (word_at T k)) refl)
+      (notes-in kind n counted ks (λ j h. within j (mem-tail j k ks h)))
     where
-      by : (b : Bool) → is_word word.Diagnostics (word_at T k) ≡ b → Each AllowedDiagnostic (cond b (read_kids T word.Diagnostic (diagnostic_of T) k) [])
+      by : (b : Bool) → is_word (group_of kind) (word_at T k) ≡ b → Each AllowedDiagnostic (cond b (read_kids T (note_of kind) (diagnostic_of T) k) [])
       by true e =
-          let is = the_word word.Diagnostics (word_at T k) e in
-          each_kid word.Diagnostic (diagnostic_of T) AllowedDiagnostic k (kid_counted T formed ordered ways none n k word.Diagnostics counted (within k (mem-head k ks)) is) diagnostic-allowed (kids_of T k) (λ j h. h)
+          let is = the_word (group_of kind) (word_at T k) e in
+          each_kid (note_of kind) (diagnostic_of T) AllowedDiagnostic k (kid_counted T formed ordered ways none n k (group_of kind) counted (within k (mem-head k ks)) is) (note-allowed kind) (kids_of T k) (λ j h. h)
       by false e = tt
 
-  pub diagnostics_allowed : (n : ℕ) → Counted T n → Each AllowedDiagnostic (flat_map (diagnostics_at T) (kids_of T n))
-  diagnostics_allowed n counted = diagnostics-in n counted (kids_of T n) (λ k h. h)
+  pub notes_allowed : (kind : Notes) (n : ℕ) → Counted T n → Each AllowedDiagnostic (flat_map (notes_at T (group_of kind) (note_of kind)) (kids_of T n))
+  notes_allowed kind n counted = notes-in kind n counted (kids_of T n) (λ k h. h)

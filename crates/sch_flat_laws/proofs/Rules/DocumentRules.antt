@@ -1,5 +1,5 @@
 -- The whole document of a schema breaks no rule.
-use Rattle.std.proofs.Common.{◌≡◌, ℕ, Bool, true, false, not, ◌&&◌, ◌||◌, cond, List, [], ◌∷◌, ◌++◌, Option, None, Some, map, refl, sym, ap, ◌∙◌, subst, append-nil}
+use Rattle.std.proofs.Common.{◌≡◌, ℕ, Bool, true, false, not, ◌&&◌, ◌||◌, cond, List, [], ◌∷◌, ◌++◌, Option, None, Some, map, refl, sym, ap, ap₂, ◌∙◌, subst, append-nil}
 use Rattle.std.specs.List.{IsDistinct, flat_map, list_any}
 use Rattle.std.specs.Option.{option_to_list}
 use Rattle.std.specs.Prelude.{codes, option_map}
@@ -28,15 +28,17 @@ use Rattle.sch_rules.specs.Rules.{other_binding}
 use Rattle.sch_rules.specs.Words.{may_hold, word_of}
 use Rattle.sch_flat.specs.FlatDocument.{flat_events, let_events, ns_events, pattern_events, phase_events}
 use Rattle.sch_flat_laws.specs.Readable.{Each, ReadableDiagnostic, ReadablePattern, ReadableSchema}
-use Rattle.sch_flat_laws.proofs.Reading.Document.{Found, diagnostics_element, found, no_attributes, plain_attributes_of, plain_names, root_is, some_list, title_element}
+use Rattle.sch_flat_laws.proofs.Reading.Document.{Found, found, no_attributes, notes_element, plain_attributes_of, plain_names, root_is, some_list, title_element}
 use Rattle.sch_flat_laws.proofs.Reading.Front.{words}
+use Rattle.sch_flat_laws.proofs.Reading.Notes.{Notes, named_as}
+use Rattle.sch_flat_laws.proofs.Reading.Notes as kind
 use Rattle.sch_flat_laws.proofs.Reading.Schema.{Pieces, pieces}
 use Rattle.sch_flat_laws.specs.Allowed.{Allowed, AllowedDiagnostic, AllowedLet, AllowedNs, AllowedPattern, AllowedPhase, pattern_ids}
 use Rattle.sch_flat_laws.proofs.Rules.Elements.{clean_element, clean_kids, clean_quiet}
 use Rattle.sch_flat_laws.proofs.Rules.Forms.{AllForms, free_form, well_formed}
 use Rattle.sch_flat_laws.proofs.Rules.KeyLemmas.{AllNew, all_free, key_of, keys_of_kind, keys_over, new_append, new_kind, other_kind, untaken_append}
 use Rattle.sch_flat_laws.proofs.Rules.Parts.{let_clean, no_rule, ns_clean, ns_names, phase_clean, phase_names}
-use Rattle.sch_flat_laws.proofs.Rules.PatternRules.{both, diagnostics_clean, diagnostics_names, pattern_clean, pattern_names, title_clean, title_names}
+use Rattle.sch_flat_laws.proofs.Rules.PatternRules.{both, notes_clean, notes_names, pattern_clean, pattern_names, title_clean, title_names}
 use Rattle.sch_flat_laws.proofs.Rules.Sound.{Clean, Sound, clean_append, none_over, plain_node, sound_as}
 
 -- the names that a schema uses, as its document tells them
@@ -46,7 +48,8 @@ schema_names schema =
     ++ (flat_map ns_names schema.ns
     ++ (flat_map phase_names schema.phases
     ++ (flat_map pattern_names schema.patterns
-    ++ flat_map diagnostics_names (some_list schema.diagnostics))))
+    ++ (flat_map (notes_names kind.diagnostics) (some_list schema.diagnostics)
+    ++ flat_map (notes_names kind.properties) (some_list schema.properties)))))
 
 -- the same, kind by kind
 abbrev titles : Option (List ℕ) → List (List ℕ)
@@ -58,30 +61,32 @@ kinds schema =
     ++ (keys_of_kind named.Prefix (map (λ (x : Ns). x.prefix) schema.ns)
     ++ (keys_of_kind named.Phase (map (λ (x : Phase). x.id) schema.phases)
     ++ (keys_of_kind named.Pattern (flat_map pattern_ids schema.patterns)
-    ++ keys_of_kind named.Diagnostic (map (λ (x : Diagnostic). x.id) schema.diagnostics))))
+    ++ (keys_of_kind named.Diagnostic (map (λ (x : Diagnostic). x.id) schema.diagnostics)
+    ++ keys_of_kind named.Property (map (λ (x : Diagnostic). x.id) schema.properties)))))
 
 each-kind : {A : Type 0} (kind : Named) (name : A → List ℕ) (xs : List A) → flat_map (λ (x : A). key_of kind (name x) ∷ []) xs ≡ keys_of_kind kind (map name xs)
 each-kind kind name [] = refl
 each-kind kind name (x ∷ xs) = ap (λ l. key_of kind (name x) ∷ l) (each-kind kind name xs)
 
-diagnostics-kind : (ds : List Diagnostic) → flat_map diagnostics_names (some_list ds) ≡ keys_of_kind named.Diagnostic (map (λ (x : Diagnostic). x.id) ds)
-diagnostics-kind [] = refl
-diagnostics-kind (d ∷ ds) = append-nil (diagnostics_names (d ∷ ds)) ∙ each-kind named.Diagnostic (λ (x : Diagnostic). x.id) (d ∷ ds)
+notes-kind : (notes : Notes) (ds : List Diagnostic) → flat_map (notes_names notes) (some_list ds) ≡ keys_of_kind (named_as notes) (map (λ (x : Diagnostic). x.id) ds)
+notes-kind notes [] = refl
+notes-kind notes (d ∷ ds) = append-nil (notes_names notes (d ∷ ds)) ∙ each-kind (named_as notes) (λ (x : Diagnostic). x.id) (d ∷ ds)
 
 names-are : (schema : FlatSchema) → schema_names schema ≡ kinds schema
 names-are schema =
+    let notes = flat_map (notes_names kind.diagnostics) (some_list schema.diagnostics) ++ flat_map (notes_names kind.properties) (some_list schema.properties) in
     let a = each-kind named.Title (λ (x : List ℕ). codes "title") (option_to_list schema.head.title) in
     let b = each-kind named.Prefix (λ (x : Ns). x.prefix) schema.ns in
     let c = each-kind named.Phase (λ (x : Phase). x.id) schema.phases in
     let d = keys_over named.Pattern pattern_ids schema.patterns in
-    let e = diagnostics-kind schema.diagnostics in
-    ap (λ l. l ++ (flat_map ns_names schema.ns ++ (flat_map phase_names schema.phases ++ (flat_map pattern_names schema.patterns ++ flat_map diagnostics_names (some_list schema.diagnostics))))) a
+    let e = ap₂ (λ l m. l ++ m) (notes-kind kind.diagnostics schema.diagnostics) (notes-kind kind.properties schema.properties) in
+    ap (λ l. l ++ (flat_map ns_names schema.ns ++ (flat_map phase_names schema.phases ++ (flat_map pattern_names schema.patterns ++ notes)))) a
     ∙ ap (λ l. keys_of_kind named.Title (titles schema.head.title) ++ l)
-    (ap (λ l. l ++ (flat_map phase_names schema.phases ++ (flat_map pattern_names schema.patterns ++ flat_map diagnostics_names (some_list schema.diagnostics)))) b
+    (ap (λ l. l ++ (flat_map phase_names schema.phases ++ (flat_map pattern_names schema.patterns ++ notes))) b
     ∙ ap (λ l. keys_of_kind named.Prefix (map (λ (x : Ns). x.prefix) schema.ns) ++ l)
-    (ap (λ l. l ++ (flat_map pattern_names schema.patterns ++ flat_map diagnostics_names (some_list schema.diagnostics))) c
+    (ap (λ l. l ++ (flat_map pattern_names schema.patterns ++ notes)) c
     ∙ ap (λ l. keys_of_kind named.Phase (map (λ (x : Phase). x.id) schema.phases) ++ l)
-    (ap (λ l. l ++ flat_map diagnostics_names (some_list schema.diagnostics)) d
+    (ap (λ l. l ++ notes) d
     ∙ ap (λ l. keys_of_kind named.Pattern (flat_map pattern_ids schema.patterns) ++ l) e)))
 
 one-title : (title : Option (List ℕ)) → IsDistinct bytes_eq (titles title)
@@ -101,6 +106,8 @@ all-new schema allowed =
     let C = keys_of_kind named.Phase phases in
     let D = keys_of_kind named.Pattern patterns in
     let E = keys_of_kind named.Diagnostic diagnostics in
+    let properties = map (λ (x : Diagnostic). x.id) schema.properties in
+    let F = keys_of_kind named.Property properties in
     let free_a : (name : List ℕ) → is_taken [] (key_of named.Title name) ≡ false = λ name. refl in
     let free_b : (name : List ℕ) → is_taken A (key_of named.Prefix name) ≡ false = other_kind named.Prefix named.Title refl (titles schema.head.title) in
     let free_c : (name : List ℕ) → is_taken (A ++ B) (key_of named.Phase name) ≡ false = λ name.
@@ -118,11 +125,22 @@ all-new schema allowed =
     (other_kind named.Diagnostic named.Title refl (titles schema.head.title) name) (other_kind named.Diagnostic named.Prefix refl prefixes name))
     (other_kind named.Diagnostic named.Phase refl phases name))
     (other_kind named.Diagnostic named.Pattern refl patterns name) in
-    new_append [] A (B ++ (C ++ (D ++ E))) (new_kind named.Title [] (titles schema.head.title) (all_free named.Title [] free_a (titles schema.head.title)) (one-title schema.head.title))
-    (new_append A B (C ++ (D ++ E)) (new_kind named.Prefix A prefixes (all_free named.Prefix A free_b prefixes) allowed.prefixes_differ)
-    (new_append (A ++ B) C (D ++ E) (new_kind named.Phase (A ++ B) phases (all_free named.Phase (A ++ B) free_c phases) allowed.phases_differ)
-    (new_append ((A ++ B) ++ C) D E (new_kind named.Pattern ((A ++ B) ++ C) patterns (all_free named.Pattern ((A ++ B) ++ C) free_d patterns) allowed.patterns_differ)
-    (new_kind named.Diagnostic (((A ++ B) ++ C) ++ D) diagnostics (all_free named.Diagnostic (((A ++ B) ++ C) ++ D) free_e diagnostics) allowed.diagnostics_differ))))
+    let free_f : (name : List ℕ) → is_taken ((((A ++ B) ++ C) ++ D) ++ E) (key_of named.Property name) ≡ false = λ name.
+    untaken_append (((A ++ B) ++ C) ++ D) E (key_of named.Property name)
+    (untaken_append ((A ++ B) ++ C) D (key_of named.Property name)
+    (untaken_append (A ++ B) C (key_of named.Property name)
+    (untaken_append A B (key_of named.Property name)
+    (other_kind named.Property named.Title refl (titles schema.head.title) name) (other_kind named.Property named.Prefix refl prefixes name))
+    (other_kind named.Property named.Phase refl phases name))
+    (other_kind named.Property named.Pattern refl patterns name))
+    (other_kind named.Property named.Diagnostic refl diagnostics name) in
+    new_append [] A (B ++ (C ++ (D ++ (E ++ F)))) (new_kind named.Title [] (titles schema.head.title) (all_free named.Title [] free_a (titles schema.head.title)) (one-title schema.head.title))
+    (new_append A B (C ++ (D ++ (E ++ F))) (new_kind named.Prefix A prefixes (all_free named.Prefix A free_b prefixes) allowed.prefixes_differ)
+    (new_append (A ++ B) C (D ++ (E ++ F)) (new_kind named.Phase (A ++ B) phases (all_free named.Phase (A ++ B) free_c phases) allowed.phases_differ)
+    (new_append ((A ++ B) ++ C) D (E ++ F) (new_kind named.Pattern ((A ++ B) ++ C) patterns (all_free named.Pattern ((A ++ B) ++ C) free_d patterns) allowed.patterns_differ)
+    (new_append (((A ++ B) ++ C) ++ D) E F
+    (new_kind named.Diagnostic (((A ++ B) ++ C) ++ D) diagnostics (all_free named.Diagnostic (((A ++ B) ++ C) ++ D) free_e diagnostics) allowed.diagnostics_differ)
+    (new_kind named.Property ((((A ++ B) ++ C) ++ D) ++ E) properties (all_free named.Property ((((A ++ B) ++ C) ++ D) ++ E) free_f properties) allowed.properties_differ)))))
 
 some-good : (ds : List Diagnostic) → Each (λ (d : Diagnostic). ReadableDiagnostic d × AllowedDiagnostic d) ds →
     Each (Each (λ (d : Diagnostic). ReadableDiagnostic d × AllowedDiagnostic d)) (some_list ds)
@@ -164,25 +182,30 @@ module _ (T : Table) (formed : WellFormed T) (ordered : Ordered T) (ways : HasWa
       let phases_all = clean_kids T AllowedPhase phase_events phase_names d (phase_clean T formed ordered ways walks scopes in_scope d f.place is) p.phases schema.phases allowed.phases w.phase_kids p.phase_pairs in
       let patterns_all = clean_kids T (λ (x : FlatPattern). ReadablePattern x × AllowedPattern x) pattern_events pattern_names d (pattern_clean T formed ordered ways walks scopes in_scope d f.place is)
       p.patterns schema.patterns (both ReadablePattern AllowedPattern schema.patterns good.patterns allowed.patterns) w.pattern_kids p.pattern_pairs in
-      let diagnostics_all = clean_kids T (Each (λ (x : Diagnostic). ReadableDiagnostic x × AllowedDiagnostic x)) diagnostics_element diagnostics_names d
-      (diagnostics_clean T formed ordered ways walks scopes in_scope d f.place is) p.diagnostics (some_list schema.diagnostics)
+      let diagnostics_all = clean_kids T (Each (λ (x : Diagnostic). ReadableDiagnostic x × AllowedDiagnostic x)) (notes_element kind.diagnostics) (notes_names kind.diagnostics) d
+      (notes_clean T formed ordered ways walks scopes in_scope kind.diagnostics d f.place is) p.diagnostics (some_list schema.diagnostics)
       (some-good schema.diagnostics (both ReadableDiagnostic AllowedDiagnostic schema.diagnostics good.diagnostics allowed.diagnostics)) w.diagnostics_kids p.diagnostics_pairs in
+      let properties_all = clean_kids T (Each (λ (x : Diagnostic). ReadableDiagnostic x × AllowedDiagnostic x)) (notes_element kind.properties) (notes_names kind.properties) d
+      (notes_clean T formed ordered ways walks scopes in_scope kind.properties d f.place is) p.properties (some_list schema.properties)
+      (some-good schema.properties (both ReadableDiagnostic AllowedDiagnostic schema.properties good.properties allowed.properties)) w.property_kids p.property_pairs in
       subst (λ l. Clean T l (schema_names schema)) (sym (all-parts p))
       (clean_append T _ _ _ _ titles_all
       (clean_append T _ _ _ _ ns_all
       (clean_append T _ _ [] _ lets_all
       (clean_append T _ _ _ _ phases_all
-      (clean_append T _ _ _ _ patterns_all diagnostics_all)))))
+      (clean_append T _ _ _ _ patterns_all
+      (clean_append T _ _ _ _ diagnostics_all properties_all))))))
     where
       all-parts : (p : Pieces T f.node schema) → flat_map (below T) (kids_of T f.node)
-          ≡ flat_map (below T) p.titles ++ (flat_map (below T) p.ns ++ (flat_map (below T) p.lets ++ (flat_map (below T) p.phases ++ (flat_map (below T) p.patterns ++ flat_map (below T) p.diagnostics))))
+          ≡ flat_map (below T) p.titles ++ (flat_map (below T) p.ns ++ (flat_map (below T) p.lets ++ (flat_map (below T) p.phases ++ (flat_map (below T) p.patterns ++ (flat_map (below T) p.diagnostics ++ flat_map (below T) p.properties)))))
       all-parts p =
           ap (flat_map (below T)) p.are
-          ∙ flat_map-append (below T) p.titles (p.ns ++ (p.lets ++ (p.phases ++ (p.patterns ++ p.diagnostics))))
-          ∙ ap (λ l. flat_map (below T) p.titles ++ l) (flat_map-append (below T) p.ns (p.lets ++ (p.phases ++ (p.patterns ++ p.diagnostics)))
-          ∙ ap (λ l. flat_map (below T) p.ns ++ l) (flat_map-append (below T) p.lets (p.phases ++ (p.patterns ++ p.diagnostics))
-          ∙ ap (λ l. flat_map (below T) p.lets ++ l) (flat_map-append (below T) p.phases (p.patterns ++ p.diagnostics)
-          ∙ ap (λ l. flat_map (below T) p.phases ++ l) (flat_map-append (below T) p.patterns p.diagnostics))))
+          ∙ flat_map-append (below T) p.titles (p.ns ++ (p.lets ++ (p.phases ++ (p.patterns ++ (p.diagnostics ++ p.properties)))))
+          ∙ ap (λ l. flat_map (below T) p.titles ++ l) (flat_map-append (below T) p.ns (p.lets ++ (p.phases ++ (p.patterns ++ (p.diagnostics ++ p.properties))))
+          ∙ ap (λ l. flat_map (below T) p.ns ++ l) (flat_map-append (below T) p.lets (p.phases ++ (p.patterns ++ (p.diagnostics ++ p.properties)))
+          ∙ ap (λ l. flat_map (below T) p.lets ++ l) (flat_map-append (below T) p.phases (p.patterns ++ (p.diagnostics ++ p.properties))
+          ∙ ap (λ l. flat_map (below T) p.phases ++ l) (flat_map-append (below T) p.patterns (p.diagnostics ++ p.properties)
+          ∙ ap (λ l. flat_map (below T) p.patterns ++ l) (flat_map-append (below T) p.diagnostics p.properties)))))
 
   document-clean : (schema : FlatSchema) → ReadableSchema schema → Allowed schema → Found T schema → Clean T (order T) (schema_names schema)
   unfolding word_of

@@ -17,7 +17,7 @@ use Rattle.sch_model.specs.declared.parts.Part.TheVariants.{Chars, ValueOf, Name
 use Rattle.sch_model.specs.declared.parts.Phase.{Phase}
 use Rattle.sch_rules.specs.Rules.{name_if}
 use Rattle.sch_sizes.specs.Sizes.{all_assertions, all_lets, all_rules, pattern_lets, size_rules}
-use Rattle.sch_flat.specs.FlatDocument.{active_events, assertion_attributes, assertion_events, assertion_name, diagnostic_events, diagnostics_events, element, flat_events, let_events, ns_events, part_events, pattern_events, phase_events, rule_events, title_events}
+use Rattle.sch_flat.specs.FlatDocument.{active_events, assertion_attributes, assertion_events, assertion_name, diagnostics_events, element, flat_events, let_events, note_events, notes_events, ns_events, part_events, pattern_events, phase_events, properties_events, rule_attributes, rule_events, title_events}
 use Rattle.sch_flat.specs.FlatSize.{bytes_of, is_small, nodes_of}
 use Rattle.sch_model.specs.Placeless.{placeless_active, placeless_assertion, placeless_diagnostic, placeless_flat, placeless_flat_pattern, placeless_flat_rule, placeless_let, placeless_ns, placeless_part, placeless_phase}
 use Rattle.sch_flat_laws.proofs.Reading.TreeBlocks.{map_append}
@@ -36,15 +36,15 @@ part-same (Name node path) = refl
 assertion-same : (a : Assertion) → assertion_events (placeless_assertion a) ≡ assertion_events a
 assertion-same a = ap (element (assertion_name a.report) (assertion_attributes a)) (same_over part_events placeless_part part-same a.message)
 
-diagnostic-same : (d : Diagnostic) → diagnostic_events (placeless_diagnostic d) ≡ diagnostic_events d
-diagnostic-same d = ap (element (codes "sch:diagnostic") ((codes "id", Some d.id) ∷ [])) (same_over part_events placeless_part part-same d.message)
+note-same : (name : List ℕ) (d : Diagnostic) → note_events name (placeless_diagnostic d) ≡ note_events name d
+note-same name d = ap (element name ((codes "id", Some d.id) ∷ [])) (same_over part_events placeless_part part-same d.message)
 
 lets-same : (lets : List LetDecl) → flat_map let_events (map placeless_let lets) ≡ flat_map let_events lets
 lets-same lets = same_over let_events placeless_let (λ decl. refl) lets
 
 rule-same : (rule : FlatRule) → rule_events (placeless_flat_rule rule) ≡ rule_events rule
 rule-same rule =
-    ap₂ (λ lets assertions. element (codes "sch:rule") ((codes "id", rule.id) ∷ (codes "context", Some rule.context) ∷ (codes "role", rule.role) ∷ (codes "flag", rule.flag) ∷ []) (lets ++ assertions))
+    ap₂ (λ lets assertions. element (codes "sch:rule") (rule_attributes rule) (lets ++ assertions))
     (lets-same rule.lets) (same_over assertion_events placeless_assertion assertion-same rule.assertions)
 
 pattern-same : (pattern : FlatPattern) → pattern_events (placeless_flat_pattern pattern) ≡ pattern_events pattern
@@ -57,18 +57,18 @@ phase-same phase =
     ap₂ (λ lets active. element (codes "sch:phase") ((codes "id", Some phase.id) ∷ []) (lets ++ active))
     (lets-same phase.lets) (same_over active_events placeless_active (λ active. refl) phase.active)
 
-diagnostics-same : (ds : List Diagnostic) → diagnostics_events (map placeless_diagnostic ds) ≡ diagnostics_events ds
-diagnostics-same [] = refl
-diagnostics-same (d ∷ ds) = ap (element (codes "sch:diagnostics") []) (same_over diagnostic_events placeless_diagnostic diagnostic-same (d ∷ ds))
+notes-same : (group name : List ℕ) (ds : List Diagnostic) → notes_events group name (map placeless_diagnostic ds) ≡ notes_events group name ds
+notes-same group name [] = refl
+notes-same group name (d ∷ ds) = ap (element group []) (same_over (note_events name) placeless_diagnostic (note-same name) (d ∷ ds))
 
 document-with : FlatSchema → List Event → List Event → List Event → List Event → List Event → List Event
-document-with schema ns lets phases patterns diagnostics =
+document-with schema ns lets phases patterns notes =
     element (codes "sch:schema")
     ((codes "xmlns:sch", Some (codes "http://purl.oclc.org/dsdl/schematron"))
     ∷ (codes "queryBinding", Some (codes "xslt"))
     ∷ (codes "schemaVersion", schema.head.schema_version)
     ∷ (codes "defaultPhase", schema.head.default_phase) ∷ [])
-    (title_events schema.head.title ++ (ns ++ (lets ++ (phases ++ (patterns ++ diagnostics)))))
+    (title_events schema.head.title ++ (ns ++ (lets ++ (phases ++ (patterns ++ notes)))))
 
 pub document_same : (schema : FlatSchema) → flat_events (placeless_flat schema) ≡ flat_events schema
 unfolding document-with
@@ -77,16 +77,19 @@ document_same schema =
     let lets = lets-same schema.lets in
     let phases = same_over phase_events placeless_phase phase-same schema.phases in
     let patterns = same_over pattern_events placeless_flat_pattern pattern-same schema.patterns in
-    let diagnostics = diagnostics-same schema.diagnostics in
+    let properties_after = properties_events (map placeless_diagnostic schema.properties) in
+    let notes =
+    ap (λ l. l ++ properties_after) (notes-same (codes "sch:diagnostics") (codes "sch:diagnostic") schema.diagnostics)
+    ∙ ap (λ l. diagnostics_events schema.diagnostics ++ l) (notes-same (codes "sch:properties") (codes "sch:property") schema.properties) in
     ap (λ x. document-with schema x (flat_map let_events (map placeless_let schema.lets)) (flat_map phase_events (map placeless_phase schema.phases))
-    (flat_map pattern_events (map placeless_flat_pattern schema.patterns)) (diagnostics_events (map placeless_diagnostic schema.diagnostics))) ns
+    (flat_map pattern_events (map placeless_flat_pattern schema.patterns)) (diagnostics_events (map placeless_diagnostic schema.diagnostics) ++ properties_after)) ns
     ∙ ap (λ x. document-with schema (flat_map ns_events schema.ns) x (flat_map phase_events (map placeless_phase schema.phases))
-    (flat_map pattern_events (map placeless_flat_pattern schema.patterns)) (diagnostics_events (map placeless_diagnostic schema.diagnostics))) lets
+    (flat_map pattern_events (map placeless_flat_pattern schema.patterns)) (diagnostics_events (map placeless_diagnostic schema.diagnostics) ++ properties_after)) lets
     ∙ ap (λ x. document-with schema (flat_map ns_events schema.ns) (flat_map let_events schema.lets) x
-    (flat_map pattern_events (map placeless_flat_pattern schema.patterns)) (diagnostics_events (map placeless_diagnostic schema.diagnostics))) phases
+    (flat_map pattern_events (map placeless_flat_pattern schema.patterns)) (diagnostics_events (map placeless_diagnostic schema.diagnostics) ++ properties_after)) phases
     ∙ ap (λ x. document-with schema (flat_map ns_events schema.ns) (flat_map let_events schema.lets) (flat_map phase_events schema.phases) x
-    (diagnostics_events (map placeless_diagnostic schema.diagnostics))) patterns
-    ∙ ap (document-with schema (flat_map ns_events schema.ns) (flat_map let_events schema.lets) (flat_map phase_events schema.phases) (flat_map pattern_events schema.patterns)) diagnostics
+    (diagnostics_events (map placeless_diagnostic schema.diagnostics) ++ properties_after)) patterns
+    ∙ ap (document-with schema (flat_map ns_events schema.ns) (flat_map let_events schema.lets) (flat_map phase_events schema.phases) (flat_map pattern_events schema.patterns)) notes
 
 -- the counts
 count-same : {A B : Type 0} (f : A → List B) (forget : A → A) → ((x : A) → length (f (forget x)) ≡ length (f x)) → (xs : List A) → length (flat_map f (map forget xs)) ≡ length (flat_map f xs)

@@ -7,7 +7,7 @@ use Rattle.sch_model.specs.declared.flat.FlatRule.{FlatRule}
 use Rattle.sch_model.specs.declared.flat.FlatSchema.{FlatSchema}
 use Rattle.sch_model.specs.declared.parts.Assertion.{Assertion}
 use Rattle.sch_model.specs.declared.parts.Diagnostic.{Diagnostic}
-use Rattle.sch_flat_laws.specs.Joined.{are_joined, is_joined, is_joined_pattern, is_joined_rule}
+use Rattle.sch_flat_laws.specs.Joined.{are_joined, are_joined_notes, is_joined, is_joined_pattern, is_joined_rule}
 use Rattle.sch_flat_laws.specs.Readable.{Each, ReadableAssertion, ReadableDiagnostic, ReadablePattern, ReadableRule, ReadableSchema}
 
 joined-assertions : (assertions : List Assertion) → Each ReadableAssertion assertions → list_all (λ (a : Assertion). are_joined false a.message) assertions ≡ true
@@ -22,10 +22,11 @@ joined-patterns : (patterns : List FlatPattern) → Each ReadablePattern pattern
 joined-patterns [] h = refl
 joined-patterns (pattern ∷ patterns) h = and_from (is_joined_pattern pattern) _ (joined-rules pattern.rules h.0) (joined-patterns patterns h.1)
 
-joined-diagnostics : (ds : List Diagnostic) → Each ReadableDiagnostic ds → list_all (λ (d : Diagnostic). are_joined false d.message) ds ≡ true
-joined-diagnostics [] h = refl
-joined-diagnostics (d ∷ ds) h = and_from (are_joined false d.message) _ h.0.joined (joined-diagnostics ds h.1)
+joined-notes : (ds : List Diagnostic) → Each ReadableDiagnostic ds → are_joined_notes ds ≡ true
+joined-notes [] h = refl
+joined-notes (d ∷ ds) h = and_from (are_joined false d.message) _ h.0.joined (joined-notes ds h.1)
 
 pub joined_again : (schema : FlatSchema) → ReadableSchema schema → is_joined schema ≡ true
 joined_again schema good =
-    and_from (list_all is_joined_pattern schema.patterns) _ (joined-patterns schema.patterns good.patterns) (joined-diagnostics schema.diagnostics good.diagnostics)
+    and_from (list_all is_joined_pattern schema.patterns) _ (joined-patterns schema.patterns good.patterns)
+    (and_from (are_joined_notes schema.diagnostics) _ (joined-notes schema.diagnostics good.diagnostics) (joined-notes schema.properties good.properties))

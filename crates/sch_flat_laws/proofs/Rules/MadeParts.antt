@@ -26,11 +26,11 @@ use Rattle.sch_rules.specs.declared.word.Word.{Word}
 use Rattle.sch_rules.specs.declared.word.Word.TheVariants as word
 use Rattle.sch_rules.specs.Attributes.{said, said_text}
 use Rattle.sch_rules.specs.Elements.{document_element, is_ignored, word_above, word_at}
-use Rattle.sch_rules.specs.RawSchema.{active_of, assertion_of, chars_before, chars_part, counted_text, diagnostic_of, diagnostics_at, holds_text, ids_in, item_at, item_of, joined, let_of, message_of, ns_of, own_part, param_of, part_at, pattern_of, phase_of, raw_schema, read_kids, rule_of, text_at, title_of}
+use Rattle.sch_rules.specs.RawSchema.{active_of, assertion_of, chars_before, chars_part, counted_text, diagnostic_of, holds_text, ids_in, item_at, item_of, joined, let_of, message_of, notes_at, ns_of, own_part, param_of, part_at, pattern_of, phase_of, raw_schema, read_kids, rule_of, text_at, title_of}
 use Rattle.sch_rules.specs.Words.{is_word}
 use Rattle.sch_references.specs.Extends.{abstract_rules}
 use Rattle.sch_expansion.specs.Flat.{assertion_in, assertion_with, bare_pattern, flat_rule, flat_schema, let_in, let_with, part_with, pattern_from, rule_with, text_or_empty}
-use Rattle.sch_flat.specs.FlatDocument.{active_events, assertion_attributes, assertion_events, assertion_name, characters, diagnostic_events, diagnostics_events, element, flat_events, held_events, let_events, ns_events, only_given, part_events, pattern_events, phase_events, rule_events, title_events}
+use Rattle.sch_flat.specs.FlatDocument.{active_events, assertion_attributes, assertion_events, assertion_name, characters, diagnostics_events, element, flat_events, held_events, let_events, note_events, notes_events, ns_events, only_given, part_events, pattern_events, phase_events, rule_attributes, rule_events, title_events}
 use Rattle.sch_texts.specs.Ids.{id_list, spaced}
 use Rattle.sch_flat_laws.specs.FlatText.{is_made}
 use Rattle.sch_flat_laws.specs.Readable.{Each}
@@ -118,9 +118,11 @@ MadeLet decl = Made decl.name × Made decl.value
 pub record MadeAssertion (a : Assertion) : Type 0 where
   pub id : MadeIfAny a.id
   pub test : Made a.test
+  pub subject : MadeIfAny a.subject
   pub role : MadeIfAny a.role
   pub flag : MadeIfAny a.flag
   pub ids : MadeIfAny (id_list a.diagnostics)
+  pub properties : MadeIfAny (id_list a.properties)
   pub message : Each MadePart a.message
 
 abbrev MadeItem : RawItem → Type 0
@@ -131,6 +133,7 @@ MadeItem (item.Extends node name) = Unit {0}
 pub record MadeRule (rule : RawRule) : Type 0 where
   pub id : MadeIfAny rule.id
   pub context : MadeIfAny rule.context
+  pub subject : MadeIfAny rule.subject
   pub role : MadeIfAny rule.role
   pub flag : MadeIfAny rule.flag
   pub items : Each MadeItem rule.items
@@ -173,7 +176,7 @@ module _ (change : List ℕ → List ℕ) (keeps : Keeps change) where
   assertion-with : (a : Assertion) → MadeAssertion a → MadeEvents (assertion_events (assertion_with change a))
   assertion-with a h =
       made-element (assertion_name a.report) (assertion_attributes (assertion_with change a)) (flat_map part_events (map (part_with change) a.message))
-      (h.id, (keeps a.test h.test, (h.role, (h.flag, (h.ids, tt)))))
+      (h.id, (keeps a.test h.test, (path-with a.subject h.subject, (h.role, (h.flag, (h.ids, (h.properties, tt)))))))
       (message-with a.message h.message)
 
   context-with : (context : Option (List ℕ)) → MadeIfAny context → Made (change (text_or_empty context))
@@ -183,10 +186,9 @@ module _ (change : List ℕ → List ℕ) (keeps : Keeps change) where
   rule-with : (rule : RawRule) (items : List RawItem) → MadeRule rule → Each MadeItem items → MadeEvents (rule_events (rule_with change rule items))
   rule-with rule items own h =
       let assertions = map (assertion_with change) (flat_map assertion_in items) in
-      made-element (codes "sch:rule")
-      ((codes "id", rule.id) ∷ (codes "context", Some (change (text_or_empty rule.context))) ∷ (codes "role", rule.role) ∷ (codes "flag", rule.flag) ∷ [])
+      made-element (codes "sch:rule") (rule_attributes (rule_with change rule items))
       (flat_map let_events (map (let_with change) (flat_map let_in items)) ++ flat_map assertion_events assertions)
-      (own.id, (context-with rule.context own.context, (own.role, (own.flag, tt))))
+      (own.id, (context-with rule.context own.context, (path-with rule.subject own.subject, (own.role, (own.flag, tt)))))
       (made-append (flat_map let_events (map (let_with change) (flat_map let_in items))) (flat_map assertion_events assertions)
       (lets-with (flat_map let_in items) (lets_hold MadeItem MadeLet (λ decl is. is) items h))
       (made-over assertion_events assertions
@@ -265,9 +267,11 @@ module _ (T : Table) (made : MadeOfChars T) where
   assertion-made report n = record {
     id = made_said T made n (codes "id");
     test = made_text T made n (codes "test");
+    subject = made_said T made n (codes "subject");
     role = made_said T made n (codes "role");
     flag = made_said T made n (codes "flag");
     ids = ids-made (ids_in (said_text T n (codes "diagnostics"))) (made_ids (said_text T n (codes "diagnostics")) (made_text T made n (codes "diagnostics")));
+    properties = ids-made (ids_in (said_text T n (codes "properties"))) (made_ids (said_text T n (codes "properties")) (made_text T made n (codes "properties")));
     message = parts-made-of n;
   }
 
@@ -290,6 +294,7 @@ module _ (T : Table) (made : MadeOfChars T) where
   rule-made n = record {
     id = made_said T made n (codes "id");
     context = made_said T made n (codes "context");
+    subject = made_said T made n (codes "subject");
     role = made_said T made n (codes "role");
     flag = made_said T made n (codes "flag");
     items = items-made (kids_of T n);
@@ -303,20 +308,21 @@ module _ (T : Table) (made : MadeOfChars T) where
     rules = each_read T word.Rule (rule_of T) MadeRule rule-made (kids_of T n);
   }
 
-  diagnostic-made : (n : ℕ) → MadeEvents (diagnostic_events (diagnostic_of T n))
-  diagnostic-made n = made-element (codes "sch:diagnostic") ((codes "id", Some (said_text T n (codes "id"))) ∷ []) (flat_map part_events (message_of T n)) (made_text T made n (codes "id"), tt) (message-made n)
+  -- diagnostics or properties, by the names of their elements
+  note-made : (name : List ℕ) (n : ℕ) → MadeEvents (note_events name (diagnostic_of T n))
+  note-made name n = made-element name ((codes "id", Some (said_text T n (codes "id"))) ∷ []) (flat_map part_events (message_of T n)) (made_text T made n (codes "id"), tt) (message-made n)
 
-  diagnostics-each : (ks : List ℕ) → Each (λ (x : Diagnostic). MadeEvents (diagnostic_events x)) (flat_map (diagnostics_at T) ks)
-  diagnostics-each [] = tt
-  diagnostics-each (k ∷ ks) =
-      each_append (λ (x : Diagnostic). MadeEvents (diagnostic_events x)) (diagnostics_at T k) (flat_map (diagnostics_at T) ks)
-      (each-if (λ (x : Diagnostic). MadeEvents (diagnostic_events x)) (is_word word.Diagnostics (word_at T k)) (read_kids T word.Diagnostic (diagnostic_of T) k) []
-      (each_read T word.Diagnostic (diagnostic_of T) (λ (x : Diagnostic). MadeEvents (diagnostic_events x)) diagnostic-made (kids_of T k)) tt)
-      (diagnostics-each ks)
+  notes-each : (name : List ℕ) (group note : Word) (ks : List ℕ) → Each (λ (x : Diagnostic). MadeEvents (note_events name x)) (flat_map (notes_at T group note) ks)
+  notes-each name group note [] = tt
+  notes-each name group note (k ∷ ks) =
+      each_append (λ (x : Diagnostic). MadeEvents (note_events name x)) (notes_at T group note k) (flat_map (notes_at T group note) ks)
+      (each-if (λ (x : Diagnostic). MadeEvents (note_events name x)) (is_word group (word_at T k)) (read_kids T note (diagnostic_of T) k) []
+      (each_read T note (diagnostic_of T) (λ (x : Diagnostic). MadeEvents (note_events name x)) (note-made name) (kids_of T k)) tt)
+      (notes-each name group note ks)
 
-  diagnostics-made : (ds : List Diagnostic) → Each (λ (x : Diagnostic). MadeEvents (diagnostic_events x)) ds → MadeEvents (diagnostics_events ds)
-  diagnostics-made [] h = refl
-  diagnostics-made (d ∷ ds) h = made-element (codes "sch:diagnostics") [] (flat_map diagnostic_events (d ∷ ds)) tt (made-over diagnostic_events (d ∷ ds) h)
+  notes-made : (group name : List ℕ) (ds : List Diagnostic) → Each (λ (x : Diagnostic). MadeEvents (note_events name x)) ds → MadeEvents (notes_events group name ds)
+  notes-made group name [] h = refl
+  notes-made group name (d ∷ ds) h = made-element group [] (flat_map (note_events name) (d ∷ ds)) tt (made-over (note_events name) (d ∷ ds) h)
 
   head-title-made : (found : Option ℕ) → MadeEvents (title_events (option_map (title_of T) found))
   head-title-made None = refl
@@ -339,4 +345,6 @@ module _ (T : Table) (made : MadeOfChars T) where
       (made-append (flat_map phase_events schema.phases) _ (made-over phase_events schema.phases (each_read T word.Phase (phase_of T) (λ x. MadeEvents (phase_events x)) phase-made (kids_of T d)))
       (made-append (flat_map pattern_events schema.patterns) _
       (made-over pattern_events schema.patterns (patterns-made (raw_schema T) (each_read T word.Pattern (pattern_of T) MadePattern pattern-made (kids_of T d))))
-      (diagnostics-made schema.diagnostics (diagnostics-each (kids_of T d))))))))
+      (made-append (diagnostics_events schema.diagnostics) _
+      (notes-made (codes "sch:diagnostics") (codes "sch:diagnostic") schema.diagnostics (notes-each (codes "sch:diagnostic") word.Diagnostics word.Diagnostic (kids_of T d)))
+      (notes-made (codes "sch:properties") (codes "sch:property") schema.properties (notes-each (codes "sch:property") word.Properties word.Property (kids_of T d)))))))))

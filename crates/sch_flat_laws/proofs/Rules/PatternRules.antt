@@ -1,4 +1,4 @@
--- Patterns, diagnostics and the title: no rule is broken at them.
+-- Patterns, diagnostics, properties and the title: no rule is broken at them.
 use Rattle.std.proofs.Common.{◌≡◌, ℕ, Bool, true, false, not, ◌&&◌, ◌||◌, cond, List, [], ◌∷◌, ◌++◌, Option, None, Some, refl, sym, ap, ap₂, ◌∙◌, subst, append-nil}
 use Rattle.std.specs.List.{flat_map, list_any}
 use Rattle.std.specs.Option.{option_to_list}
@@ -22,18 +22,20 @@ use Rattle.sch_rules.specs.declared.word.Word.{Word}
 use Rattle.sch_rules.specs.declared.word.Word.TheVariants as word
 use Rattle.sch_rules.specs.Attributes.{is_true, said as said_at}
 use Rattle.sch_rules.specs.Elements.{word_above, word_at}
-use Rattle.sch_rules.specs.Keys.{Key, keys_for}
+use Rattle.sch_rules.specs.Keys.{Key, keys_for, keys_of}
 use Rattle.sch_rules.specs.Rules.{has_bad_form, has_kid, is_truth, mixed, mixed_instance, unsupported}
 use Rattle.sch_rules.specs.Words.{is_word, word_of}
-use Rattle.sch_flat.specs.FlatDocument.{assertion_attributes, assertion_events, assertion_name, characters, diagnostic_events, element as sch_element, let_events, part_events, pattern_events, rule_events}
+use Rattle.pyx_core.specs.declared.event.Event.{Event}
+use Rattle.sch_flat.specs.FlatDocument.{assertion_attributes, assertion_events, assertion_name, characters, element as sch_element, let_events, note_events, part_events, pattern_events, rule_attributes, rule_events}
 use Rattle.sch_texts.specs.Ids.{id_list}
 use Rattle.sch_model.specs.Placeless.{is_some_part}
 use Rattle.sch_flat_laws.specs.Readable.{Each, ReadableAssertion, ReadableDiagnostic, ReadablePattern, ReadableRule}
-use Rattle.sch_flat_laws.proofs.Reading.Document.{are_kids, diagnostics_element, title_element}
-use Rattle.sch_flat_laws.proofs.Reading.EventBlocks.{assertion_chunk, diagnostic_chunk, holds_all, holds_append, holds_characters, holds_some, let_chunk, part_holds, rule_chunk, said, said_append}
+use Rattle.sch_flat_laws.proofs.Reading.Document.{are_kids, notes_element, notes_hold, title_element}
+use Rattle.sch_flat_laws.proofs.Reading.EventBlocks.{assertion_chunk, holds_all, holds_append, holds_characters, holds_some, let_chunk, note_chunk, part_holds, rule_chunk, said, said_append}
 use Rattle.sch_flat_laws.proofs.Reading.Kids.{Items, Pairs, none_left, take_if, take_pairs}
 use Rattle.sch_flat_laws.proofs.Reading.Leaves.{AreKids, let_read}
 use Rattle.sch_flat_laws.proofs.Reading.Messages.{part_chunk}
+use Rattle.sch_flat_laws.proofs.Reading.Notes.{Notes, diagnostics, group_local, group_of, known, named_as, note_local, note_name, note_of, properties}
 use Rattle.sch_flat_laws.proofs.Reading.Places.{Place, Read, read_element}
 use Rattle.sch_flat_laws.proofs.Reading.Rules.{rule_word}
 use Rattle.sch_flat_laws.proofs.Reading.Schema.{AllWords, all_words, kids_parts}
@@ -43,7 +45,7 @@ use Rattle.sch_flat_laws.proofs.Rules.Elements.{CleanKid, clean_element, clean_e
 use Rattle.sch_flat_laws.proofs.Rules.Forms.{FormOf, free_form}
 use Rattle.sch_flat_laws.proofs.Rules.KeyLemmas.{key_of, keys_of_kind}
 use Rattle.sch_flat_laws.proofs.Rules.Parts.{below_parts, let_clean, message_clean, name_form, text_clean}
-use Rattle.sch_flat_laws.proofs.Rules.Sound.{Clean, clean_append, clean_nil}
+use Rattle.sch_flat_laws.proofs.Rules.Sound.{Clean, Sound, clean_append, clean_nil}
 
 -- the names that these use
 abbrev pub title_names : List ℕ → List Key
@@ -52,11 +54,11 @@ title_names title = key_of named.Title (codes "title") ∷ []
 abbrev pub pattern_names : FlatPattern → List Key
 pattern_names pattern = keys_of_kind named.Pattern (pattern_ids pattern)
 
-abbrev pub diagnostic_names : Diagnostic → List Key
-diagnostic_names diagnostic = key_of named.Diagnostic diagnostic.id ∷ []
+abbrev pub note_names : Notes → Diagnostic → List Key
+note_names kind note = key_of (named_as kind) note.id ∷ []
 
-abbrev pub diagnostics_names : List Diagnostic → List Key
-diagnostics_names diagnostics = flat_map diagnostic_names diagnostics
+abbrev pub notes_names : Notes → List Diagnostic → List Key
+notes_names kind notes = flat_map (note_names kind) notes
 
 pub both : {A : Type 0} (P Q : A → Type 0) (xs : List A) → Each P xs → Each Q xs → Each (λ (x : A). P x × Q x) xs
 both P Q [] h k = tt
@@ -91,10 +93,16 @@ module _ (T : Table) (formed : WellFormed T) (ordered : Ordered T) (ways : HasWa
         (
           refl,
           (
-            free_form T k word.Assert (codes "role") (λ value. refl) a.role,
+            free_form T k word.Assert (codes "subject") (λ value. refl) a.subject,
             (
-              free_form T k word.Assert (codes "flag") (λ value. refl) a.flag,
-              (free_form T k word.Assert (codes "diagnostics") (λ value. refl) (id_list a.diagnostics), tt),
+              free_form T k word.Assert (codes "role") (λ value. refl) a.role,
+              (
+                free_form T k word.Assert (codes "flag") (λ value. refl) a.flag,
+                (
+                  free_form T k word.Assert (codes "diagnostics") (λ value. refl) (id_list a.diagnostics),
+                  (free_form T k word.Assert (codes "properties") (λ value. refl) (id_list a.properties), tt),
+                ),
+              ),
             ),
           ),
         ),
@@ -111,10 +119,16 @@ module _ (T : Table) (formed : WellFormed T) (ordered : Ordered T) (ways : HasWa
         (
           refl,
           (
-            free_form T k word.Report (codes "role") (λ value. refl) a.role,
+            free_form T k word.Report (codes "subject") (λ value. refl) a.subject,
             (
-              free_form T k word.Report (codes "flag") (λ value. refl) a.flag,
-              (free_form T k word.Report (codes "diagnostics") (λ value. refl) (id_list a.diagnostics), tt),
+              free_form T k word.Report (codes "role") (λ value. refl) a.role,
+              (
+                free_form T k word.Report (codes "flag") (λ value. refl) a.flag,
+                (
+                  free_form T k word.Report (codes "diagnostics") (λ value. refl) (id_list a.diagnostics),
+                  (free_form T k word.Report (codes "properties") (λ value. refl) (id_list a.properties), tt),
+                ),
+              ),
             ),
           ),
         ),
@@ -130,7 +144,7 @@ module _ (T : Table) (formed : WellFormed T) (ordered : Ordered T) (ways : HasWa
       CleanKid T p rule_events (uses_none {A = FlatRule}) k rule
   unfolding xmlns_prefix word_of
   rule-clean p place is k rule ok up kid items same =
-      let attributes : List (List ℕ × Option (List ℕ)) = (codes "id", rule.id) ∷ (codes "context", Some rule.context) ∷ (codes "role", rule.role) ∷ (codes "flag", rule.flag) ∷ [] in
+      let attributes : List (List ℕ × Option (List ℕ)) = rule_attributes rule in
       let lets = flat_map let_events rule.lets in
       let assertions = flat_map assertion_events rule.assertions in
       let r = read_element T formed ways walks scopes in_scope p k (codes "rule") attributes (lets ++ assertions) place up kid items
@@ -149,8 +163,11 @@ module _ (T : Table) (formed : WellFormed T) (ordered : Ordered T) (ways : HasWa
         (
           rule-form T k (codes "context") concrete refl rule.context,
           (
-            free_form T k word.Rule (codes "role") (rule-form T k (codes "role") concrete refl) rule.role,
-            (free_form T k word.Rule (codes "flag") (rule-form T k (codes "flag") concrete refl) rule.flag, tt),
+            free_form T k word.Rule (codes "subject") (rule-form T k (codes "subject") concrete refl) rule.subject,
+            (
+              free_form T k word.Rule (codes "role") (rule-form T k (codes "role") concrete refl) rule.role,
+              (free_form T k word.Rule (codes "flag") (rule-form T k (codes "flag") concrete refl) rule.flag, tt),
+            ),
           ),
         ),
       ) refl refl in
@@ -198,32 +215,60 @@ module _ (T : Table) (formed : WellFormed T) (ordered : Ordered T) (ways : HasWa
       id-names None = refl
       id-names (Some value) = refl
 
-  diagnostic-clean : (p : ℕ) → Place T p → word_at T p ≡ Some word.Diagnostics → (k : ℕ) (d : Diagnostic) → ReadableDiagnostic d × AllowedDiagnostic d →
-      CleanKid T p diagnostic_events diagnostic_names k d
+  -- a diagnostic or a property, and the element that holds them
+  note-sound : (kind : Notes) (p k : ℕ) (d : Diagnostic) → IsName d.id → Read T k (note_local kind) ((codes "id", Some d.id) ∷ []) (flat_map part_events d.message) →
+      parent_of T k ≡ Some p → word_at T p ≡ Some (group_of kind) → Sound T k
   unfolding xmlns_prefix word_of
-  diagnostic-clean p place is k d ok up kid items same =
+  note-sound diagnostics p k d name r up is =
+      sound_inside T formed ordered ways walks scopes in_scope k (codes "diagnostic") ((codes "id", Some d.id) ∷ []) (flat_map part_events d.message) word.Diagnostic word.Diagnostics r
+      (record { parent = p; up = up; word = is }) r.word (record { held = refl; no_schema = refl; concrete = refl; all_given = refl }) (name_form d.id name, tt) refl refl
+  note-sound properties p k d name r up is =
+      sound_inside T formed ordered ways walks scopes in_scope k (codes "property") ((codes "id", Some d.id) ∷ []) (flat_map part_events d.message) word.Property word.Properties r
+      (record { parent = p; up = up; word = is }) r.word (record { held = refl; no_schema = refl; concrete = refl; all_given = refl }) (name_form d.id name, tt) refl refl
+
+  group-sound : (kind : Notes) (p k : ℕ) (held : List Event) → Read T k (group_local kind) [] held → parent_of T k ≡ Some p → word_at T p ≡ Some word.Schema → Sound T k
+  unfolding xmlns_prefix word_of
+  group-sound diagnostics p k held r up is =
+      sound_inside T formed ordered ways walks scopes in_scope k (codes "diagnostics") [] held word.Diagnostics word.Schema r (record { parent = p; up = up; word = is }) r.word
+      (record { held = refl; no_schema = refl; concrete = refl; all_given = refl }) tt refl refl
+  group-sound properties p k held r up is =
+      sound_inside T formed ordered ways walks scopes in_scope k (codes "properties") [] held word.Properties word.Schema r (record { parent = p; up = up; word = is }) r.word
+      (record { held = refl; no_schema = refl; concrete = refl; all_given = refl }) tt refl refl
+
+  -- the names that they use
+  note-used : (kind : Notes) (k : ℕ) (d : Diagnostic) → said_at T k (codes "id") ≡ Some d.id → keys_of T k (Some (note_of kind)) ≡ note_names kind d
+  note-used diagnostics k d says = ap (keys_for named.Diagnostic 0) says
+  note-used properties k d says = ap (keys_for named.Property 0) says
+
+  group-used : (kind : Notes) (k : ℕ) → keys_of T k (Some (group_of kind)) ≡ []
+  group-used diagnostics k = refl
+  group-used properties k = refl
+
+  note-clean : (kind : Notes) (p : ℕ) → Place T p → word_at T p ≡ Some (group_of kind) → (k : ℕ) (d : Diagnostic) → ReadableDiagnostic d × AllowedDiagnostic d →
+      CleanKid T p (note_events (note_name kind)) (note_names kind) k d
+  unfolding xmlns_prefix
+  note-clean kind p place is k d ok up kid items same =
+      let its = known kind in
       let attributes : List (List ℕ × Option (List ℕ)) = (codes "id", Some d.id) ∷ [] in
       let message = flat_map part_events d.message in
-      let r = read_element T formed ways walks scopes in_scope p k (codes "diagnostic") attributes message place up kid items (holds_some part_events part_holds d.message) refl same in
-      let sound = sound_inside T formed ordered ways walks scopes in_scope k (codes "diagnostic") attributes message word.Diagnostic word.Diagnostics r (record { parent = p; up = up; word = is }) r.word
-      (record { held = refl; no_schema = refl; concrete = refl; all_given = refl }) (name_form d.id ok.1, tt) refl refl in
-      clean_element T formed ordered ways walks scopes in_scope k word.Diagnostic (diagnostic_names d) [] r.place sound r.word (ap (keys_for named.Diagnostic 0) (r.says (codes "id")))
-      (message_clean T formed ordered ways walks scopes in_scope k word.Diagnostic (codes "diagnostic") attributes d.message r r.word refl refl ok.0.some)
+      let r = read_element T formed ways walks scopes in_scope p k (note_local kind) attributes message place up kid items (holds_some part_events part_holds d.message) refl same in
+      let own : word_at T k ≡ Some (note_of kind) = r.word ∙ its.note in
+      clean_element T formed ordered ways walks scopes in_scope k (note_of kind) (note_names kind d) [] r.place (note-sound kind p k d ok.1 r up is) own (note-used kind k d (r.says (codes "id")))
+      (message_clean T formed ordered ways walks scopes in_scope k (note_of kind) (note_local kind) attributes d.message r own its.holds_value its.holds_name ok.0.some)
 
-  pub diagnostics_clean : (p : ℕ) → Place T p → word_at T p ≡ Some word.Schema → (k : ℕ) (ds : List Diagnostic) → Each (λ (d : Diagnostic). ReadableDiagnostic d × AllowedDiagnostic d) ds →
-      CleanKid T p diagnostics_element diagnostics_names k ds
-  unfolding xmlns_prefix word_of
-  diagnostics_clean p place is k ds ok up kid items same =
-      let held = flat_map diagnostic_events ds in
-      let r = read_element T formed ways walks scopes in_scope p k (codes "diagnostics") [] held place up kid items (holds_all diagnostic_events diagnostic_chunk ds) refl same in
-      let taken = take_pairs T diagnostic_events diagnostic_chunk (kids_of T k) items ds [] (r.kids ∙ sym (append-nil (said held))) in
+  pub notes_clean : (kind : Notes) (p : ℕ) → Place T p → word_at T p ≡ Some word.Schema → (k : ℕ) (ds : List Diagnostic) → Each (λ (d : Diagnostic). ReadableDiagnostic d × AllowedDiagnostic d) ds →
+      CleanKid T p (notes_element kind) (notes_names kind) k ds
+  notes_clean kind p place is k ds ok up kid items same =
+      let events = note_events (note_name kind) in
+      let held = flat_map events ds in
+      let r = read_element T formed ways walks scopes in_scope p k (group_local kind) [] held place up kid items (notes_hold kind ds) refl same in
+      let own : word_at T k ≡ Some (group_of kind) = r.word ∙ (known kind).group in
+      let taken = take_pairs T events (note_chunk (note_name kind)) (kids_of T k) items ds [] (r.kids ∙ sym (append-nil (said held))) in
       let are : kids_of T k ≡ taken.front = taken.parts ∙ ap (λ l. taken.front ++ l) (none_left T taken.back taken.items taken.left) ∙ append-nil taken.front in
-      let kids = clean_kids T (λ (d : Diagnostic). ReadableDiagnostic d × AllowedDiagnostic d) diagnostic_events diagnostic_names k (diagnostic-clean k r.place r.word) taken.front ds ok
+      let kids = clean_kids T (λ (d : Diagnostic). ReadableDiagnostic d × AllowedDiagnostic d) events (note_names kind) k (note-clean kind k r.place own) taken.front ds ok
       (subst (AreKids T k) are (are_kids T formed ways walks scopes in_scope k)) taken.pairs in
-      let sound = sound_inside T formed ordered ways walks scopes in_scope k (codes "diagnostics") [] held word.Diagnostics word.Schema r (record { parent = p; up = up; word = is }) r.word
-      (record { held = refl; no_schema = refl; concrete = refl; all_given = refl }) tt refl refl in
-      clean_element T formed ordered ways walks scopes in_scope k word.Diagnostics [] (diagnostics_names ds) r.place sound r.word refl
-      (subst (λ l. Clean T (flat_map (below T) l) (diagnostics_names ds)) (sym are) kids)
+      clean_element T formed ordered ways walks scopes in_scope k (group_of kind) [] (notes_names kind ds) r.place (group-sound kind p k held r up is) own (group-used kind k)
+      (subst (λ l. Clean T (flat_map (below T) l) (notes_names kind ds)) (sym are) kids)
 
   -- the text of a title
   title-kids : (k : ℕ) (title : List ℕ) → Read T k (codes "title") [] (characters title) → Items T (kids_of T k) → Clean T (flat_map (below T) (kids_of T k)) []

@@ -15,7 +15,7 @@ use Rattle.sch_model.specs.declared.raw.RawSchema.{RawSchema}
 use Rattle.sch_rules.specs.declared.word.Word.{Word}
 use Rattle.sch_rules.specs.declared.word.Word.TheVariants as word
 use Rattle.sch_rules.specs.Elements.{document_element, word_at}
-use Rattle.sch_rules.specs.RawSchema.{assertion_of, diagnostic_of, diagnostics_at, item_at, item_of, pattern_of, raw_schema, read_if, read_kids, rule_of}
+use Rattle.sch_rules.specs.RawSchema.{assertion_of, diagnostic_of, item_at, item_of, notes_at, pattern_of, raw_schema, read_if, read_kids, rule_of}
 use Rattle.sch_rules.specs.Words.{is_word}
 use Rattle.sch_references.specs.Extends.{abstract_rules}
 use Rattle.sch_expansion.specs.Flat.{assertion_in, assertion_with, flat_schema, part_with, rule_with}
@@ -56,6 +56,7 @@ readable-with change a h = record {
   some = some-with change a.message ∙ h.some;
   joined = joined-with change false a.message ∙ h.joined;
   ids = h.ids;
+  properties = h.properties;
 }
 
 -- an item that a document can say again
@@ -84,6 +85,7 @@ module _ (T : Table) (made : MadeOfChars T) (ids : IdsAreReadBack) (apart : Text
     some = some_message T n;
     joined = apart.read T n;
     ids = ids _ (said_utf8 T made n (codes "diagnostics"));
+    properties = ids _ (said_utf8 T made n (codes "properties"));
   }
 
   diagnostic-readable : (n : ℕ) → ReadableDiagnostic (diagnostic_of T n)
@@ -103,13 +105,13 @@ module _ (T : Table) (made : MadeOfChars T) (ids : IdsAreReadBack) (apart : Text
   pattern-readable : (n : ℕ) → ReadableRaw (pattern_of T n)
   pattern-readable n = each_read T word.Rule (rule_of T) (HoldsIn ReadableItem) (λ k. items-readable (kids_of T k)) (kids_of T n)
 
-  diagnostics-readable : (ks : List ℕ) → Each ReadableDiagnostic (flat_map (diagnostics_at T) ks)
-  diagnostics-readable [] = tt
-  diagnostics-readable (k ∷ ks) =
-      each_append ReadableDiagnostic (diagnostics_at T k) (flat_map (diagnostics_at T) ks) (by (is_word word.Diagnostics (word_at T k))) (diagnostics-readable ks)
+  notes-readable : (group note : Word) (ks : List ℕ) → Each ReadableDiagnostic (flat_map (notes_at T group note) ks)
+  notes-readable group note [] = tt
+  notes-readable group note (k ∷ ks) =
+      each_append ReadableDiagnostic (notes_at T group note k) (flat_map (notes_at T group note) ks) (by (is_word group (word_at T k))) (notes-readable group note ks)
     where
-      by : (b : Bool) → Each ReadableDiagnostic (cond b (read_kids T word.Diagnostic (diagnostic_of T) k) [])
-      by true = each_read T word.Diagnostic (diagnostic_of T) ReadableDiagnostic diagnostic-readable (kids_of T k)
+      by : (b : Bool) → Each ReadableDiagnostic (cond b (read_kids T note (diagnostic_of T) k) [])
+      by true = each_read T note (diagnostic_of T) ReadableDiagnostic diagnostic-readable (kids_of T k)
       by false = tt
 
   pub readable : ReadableSchema (flat_schema (raw_schema T))
@@ -117,5 +119,6 @@ module _ (T : Table) (made : MadeOfChars T) (ids : IdsAreReadBack) (apart : Text
       let d = document_element T in
       record {
         patterns = patterns-readable (raw_schema T) (each_read T word.Pattern (pattern_of T) ReadableRaw pattern-readable (kids_of T d));
-        diagnostics = diagnostics-readable (kids_of T d);
+        diagnostics = notes-readable word.Diagnostics word.Diagnostic (kids_of T d);
+        properties = notes-readable word.Properties word.Property (kids_of T d);
       }

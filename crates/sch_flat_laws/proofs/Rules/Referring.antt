@@ -22,7 +22,7 @@ use Rattle.sch_rules.specs.FirstBroken.{least}
 use Rattle.sch_rules.specs.Rules.{name_if}
 use Rattle.sch_references.specs.Extends.{abstract_rules}
 use Rattle.sch_references.specs.Places.{Place, earlier, first_among, precedes}
-use Rattle.sch_references.specs.References.{Known, active_place, concrete_id, is_among, item_places, known_in, pattern_places, phase_places, reference_places, rule_places, unknown_diagnostic, unknown_origin, unknown_phase}
+use Rattle.sch_references.specs.References.{Known, active_place, concrete_id, first_unknown, is_among, item_places, known_in, pattern_places, phase_places, reference_places, rule_places, unknown_origin, unknown_phase}
 use Rattle.sch_expansion.specs.Flat.{assertion_with, flat_pattern, flat_schema}
 use Rattle.sch_flat_laws.specs.Expansion.{raw_of, raw_pattern, raw_rule}
 use Rattle.sch_flat_laws.specs.Readable.{Each}
@@ -99,32 +99,36 @@ abbrev PhaseIsThere : List (List ℕ) → Option (List ℕ) → Type 0
 PhaseIsThere ids None = Unit {0}
 PhaseIsThere ids (Some name) = (bytes_eq name (codes "#ALL") || is_among ids name) ≡ true
 
-abbrev NamesThere : List (List ℕ) → Assertion → Type 0
-NamesThere ids a = Each (IsThere ids) a.diagnostics
+-- the ids of diagnostics, and those of properties
+abbrev NoteIds : Type 0
+NoteIds = List (List ℕ) × List (List ℕ)
 
-abbrev ItemRefers : List (List ℕ) → RawItem → Type 0
+abbrev NamesThere : NoteIds → Assertion → Type 0
+NamesThere ids a = Each (IsThere ids.0) a.diagnostics × Each (IsThere ids.1) a.properties
+
+abbrev ItemRefers : NoteIds → RawItem → Type 0
 ItemRefers ids (item.Let decl) = Unit {0}
 ItemRefers ids (item.Assertion a) = NamesThere ids a
 ItemRefers ids (item.Extends node name) = Unit {0}
 
 -- the same where nothing is extended
-abbrev PlainRefers : List (List ℕ) → RawItem → Type 0
+abbrev PlainRefers : NoteIds → RawItem → Type 0
 PlainRefers ids (item.Let decl) = Unit {0}
 PlainRefers ids (item.Assertion a) = NamesThere ids a
 PlainRefers ids (item.Extends node name) = ⊥
 
-record PatternRefers (ids : List (List ℕ)) (pattern : RawPattern) : Type 0 where
+record PatternRefers (ids : NoteIds) (pattern : RawPattern) : Type 0 where
   origin : pattern.is_a ≡ None
   rules : Each (HoldsIn (PlainRefers ids)) pattern.rules
 
 abbrev ActiveRefers : List (List ℕ) → Phase → Type 0
 ActiveRefers ids phase = Each (λ (a : Active). IsThere ids a.pattern) phase.active
 
--- a schema without instances and `extends` that refers to these ids of phases, patterns and diagnostics alone
-record RefersTo (phases actives diagnostics : List (List ℕ)) (schema : RawSchema) : Type 0 where
+-- a schema without instances and `extends` that refers to these ids of phases, patterns, diagnostics and properties alone
+record RefersTo (phases actives : List (List ℕ)) (notes : NoteIds) (schema : RawSchema) : Type 0 where
   head : PhaseIsThere phases schema.head.default_phase
   active : Each (ActiveRefers actives) schema.phases
-  patterns : Each (PatternRefers diagnostics) schema.patterns
+  patterns : Each (PatternRefers notes) schema.patterns
 
 abbrev phase-ids : RawSchema → List (List ℕ)
 phase-ids schema = map (λ (phase : Phase). phase.id) schema.phases
@@ -132,11 +136,27 @@ phase-ids schema = map (λ (phase : Phase). phase.id) schema.phases
 abbrev pattern-ids : RawSchema → List (List ℕ)
 pattern-ids schema = flat_map concrete_id schema.patterns
 
-abbrev diagnostic-ids : RawSchema → List (List ℕ)
-diagnostic-ids schema = map (λ (diagnostic : Diagnostic). diagnostic.id) schema.diagnostics
+abbrev ids-of : List Diagnostic → List (List ℕ)
+ids-of notes = map (λ (note : Diagnostic). note.id) notes
+
+abbrev note-ids : RawSchema → NoteIds
+note-ids schema = (ids-of schema.diagnostics, ids-of schema.properties)
 
 pub record Referred (schema : RawSchema) : Type 0 where
-  to : RefersTo (phase-ids schema) (pattern-ids schema) (diagnostic-ids schema) schema
+  to : RefersTo (phase-ids schema) (pattern-ids schema) (note-ids schema) schema
+
+names-known : (ids names : List (List ℕ)) → Each (IsThere ids) names → first_unknown (is_among ids) names ≡ None
+names-known ids [] h = refl
+names-known ids (name ∷ names) h = ap (λ (b : Bool). cond b (first_unknown (is_among ids) names) (Some name)) h.0 ∙ names-known ids names h.1
+
+names-there : (ids names : List (List ℕ)) → first_unknown (is_among ids) names ≡ None → Each (IsThere ids) names
+names-there ids [] h = tt
+names-there ids (name ∷ names) h = by (is_among ids name) refl h (λ k. names-there ids names k)
+  where
+    by : (b : Bool) → is_among ids name ≡ b → cond b (first_unknown (is_among ids) names) (Some name) ≡ None →
+        (first_unknown (is_among ids) names ≡ None → Each (IsThere ids) names) → Each (IsThere ids) (name ∷ names)
+    by true e h rest = (e, rest h)
+    by false e h rest = absurd (cc)
 
 -- such a schema breaks no rule on its references
 module _ (schema : RawSchema) where
@@ -151,26 +171,21 @@ module _ (schema : RawSchema) where
       by true there h = refl
       by false there h = named there name h
 
-  names-known : (names : List (List ℕ)) → Each (IsThere (diagnostic-ids schema)) names → unknown_diagnostic known names ≡ None
-  names-known [] h = refl
-  names-known (name ∷ names) h =
-      ap (λ (b : Bool). cond b (unknown_diagnostic known names) (Some name)) h.0 ∙ names-known names h.1
-
-  item-known : (rules : List RawRule) (rule : RawRule) (x : RawItem) → PlainRefers (diagnostic-ids schema) x → Each Unbroken (item_places known rules rule x)
+  item-known : (rules : List RawRule) (rule : RawRule) (x : RawItem) → PlainRefers (note-ids schema) x → Each Unbroken (item_places known rules rule x)
   item-known rules rule (item.Let decl) h = tt
-  item-known rules rule (item.Assertion a) h = ((names-known a.diagnostics h, tt), tt)
+  item-known rules rule (item.Assertion a) h = ((names-known (ids-of schema.diagnostics) a.diagnostics h.0, (names-known (ids-of schema.properties) a.properties h.1, tt)), tt)
   item-known rules rule (item.Extends node name) h = absurd h
 
-  rule-known : (rules : List RawRule) (rule : RawRule) → HoldsIn (PlainRefers (diagnostic-ids schema)) rule → Each Unbroken (rule_places known rules rule)
+  rule-known : (rules : List RawRule) (rule : RawRule) → HoldsIn (PlainRefers (note-ids schema)) rule → Each Unbroken (rule_places known rules rule)
   rule-known rules rule h =
       each_over Unbroken (item_places known rules rule) rule.items
-      (each_to (PlainRefers (diagnostic-ids schema)) (λ (x : RawItem). Each Unbroken (item_places known rules rule x)) (item-known rules rule) rule.items h)
+      (each_to (PlainRefers (note-ids schema)) (λ (x : RawItem). Each Unbroken (item_places known rules rule x)) (item-known rules rule) rule.items h)
 
-  pattern-known : (rules : List RawRule) (pattern : RawPattern) → PatternRefers (diagnostic-ids schema) pattern → Each Unbroken (pattern_places known rules pattern)
+  pattern-known : (rules : List RawRule) (pattern : RawPattern) → PatternRefers (note-ids schema) pattern → Each Unbroken (pattern_places known rules pattern)
   pattern-known rules pattern h = (
     (ap (unknown_origin known) h.origin, tt),
     each_over Unbroken (rule_places known rules) pattern.rules
-        (each_to (HoldsIn (PlainRefers (diagnostic-ids schema))) (λ (rule : RawRule). Each Unbroken (rule_places known rules rule)) (rule-known rules) pattern.rules h.rules),
+        (each_to (HoldsIn (PlainRefers (note-ids schema))) (λ (rule : RawRule). Each Unbroken (rule_places known rules rule)) (rule-known rules) pattern.rules h.rules),
   )
 
   active-known : (a : Active) → IsThere (pattern-ids schema) a.pattern → Unbroken (active_place known a)
@@ -189,7 +204,7 @@ module _ (schema : RawSchema) where
             (each_over Unbroken (phase_places known) schema.phases
             (each_to (ActiveRefers (pattern-ids schema)) (λ (phase : Phase). Each Unbroken (phase_places known phase)) phase-kept schema.phases h.to.active))
             (each_over Unbroken (pattern_places known (abstract_rules schema)) schema.patterns
-            (each_to (PatternRefers (diagnostic-ids schema)) (λ (pattern : RawPattern). Each Unbroken (pattern_places known (abstract_rules schema) pattern)) (pattern-known (abstract_rules schema)) schema.patterns h.to.patterns)),
+            (each_to (PatternRefers (note-ids schema)) (λ (pattern : RawPattern). Each Unbroken (pattern_places known (abstract_rules schema) pattern)) (pattern-known (abstract_rules schema)) schema.patterns h.to.patterns)),
       )
 
 -- what a schema refers to where it breaks no rule on its references
@@ -205,31 +220,22 @@ module _ (schema : RawSchema) where
       by true there h = refl
       by false there h = unnamed there name h
 
-  names-there : (names : List (List ℕ)) → unknown_diagnostic known-here names ≡ None → Each (IsThere (diagnostic-ids schema)) names
-  names-there [] h = tt
-  names-there (name ∷ names) h = by (is_among (diagnostic-ids schema) name) refl h (λ k. names-there names k)
-    where
-      by : (b : Bool) → is_among (diagnostic-ids schema) name ≡ b → cond b (unknown_diagnostic known-here names) (Some name) ≡ None →
-          (unknown_diagnostic known-here names ≡ None → Each (IsThere (diagnostic-ids schema)) names) → Each (IsThere (diagnostic-ids schema)) (name ∷ names)
-      by true e h rest = (e, rest h)
-      by false e h rest = absurd (cc)
-
-  item-there : (rules : List RawRule) (rule : RawRule) (x : RawItem) → Each Unbroken (item_places known-here rules rule x) → ItemRefers (diagnostic-ids schema) x
+  item-there : (rules : List RawRule) (rule : RawRule) (x : RawItem) → Each Unbroken (item_places known-here rules rule x) → ItemRefers (note-ids schema) x
   item-there rules rule (item.Let decl) h = tt
-  item-there rules rule (item.Assertion a) h = names-there a.diagnostics h.0.0
+  item-there rules rule (item.Assertion a) h = (names-there (ids-of schema.diagnostics) a.diagnostics h.0.0, names-there (ids-of schema.properties) a.properties h.0.1.0)
   item-there rules rule (item.Extends node name) h = tt
 
-  rule-there : (rules : List RawRule) (rule : RawRule) → Each Unbroken (rule_places known-here rules rule) → HoldsIn (ItemRefers (diagnostic-ids schema)) rule
+  rule-there : (rules : List RawRule) (rule : RawRule) → Each Unbroken (rule_places known-here rules rule) → HoldsIn (ItemRefers (note-ids schema)) rule
   rule-there rules rule h =
-      each_to (λ (x : RawItem). Each Unbroken (item_places known-here rules rule x)) (ItemRefers (diagnostic-ids schema)) (item-there rules rule) rule.items
+      each_to (λ (x : RawItem). Each Unbroken (item_places known-here rules rule x)) (ItemRefers (note-ids schema)) (item-there rules rule) rule.items
       (each-apart Unbroken (item_places known-here rules rule) rule.items h)
 
   abbrev RawRefers : RawPattern → Type 0
-  RawRefers pattern = Each (HoldsIn (ItemRefers (diagnostic-ids schema))) pattern.rules
+  RawRefers pattern = Each (HoldsIn (ItemRefers (note-ids schema))) pattern.rules
 
   pattern-there : (rules : List RawRule) (pattern : RawPattern) → Each Unbroken (pattern_places known-here rules pattern) → RawRefers pattern
   pattern-there rules pattern h =
-      each_to (λ (rule : RawRule). Each Unbroken (rule_places known-here rules rule)) (HoldsIn (ItemRefers (diagnostic-ids schema))) (rule-there rules) pattern.rules
+      each_to (λ (rule : RawRule). Each Unbroken (rule_places known-here rules rule)) (HoldsIn (ItemRefers (note-ids schema))) (rule-there rules) pattern.rules
       (each-apart Unbroken (rule_places known-here rules) pattern.rules h.1)
 
   phase-refers : (phase : Phase) → Each Unbroken (phase_places known-here phase) → ActiveRefers (pattern-ids schema) phase
@@ -240,32 +246,32 @@ module _ (schema : RawSchema) where
 
   -- its expansion, as its document says it
   abbrev FlatRefers : FlatPattern → Type 0
-  FlatRefers pattern = Each (λ (rule : FlatRule). Each (NamesThere (diagnostic-ids schema)) rule.assertions) pattern.rules
+  FlatRefers pattern = Each (λ (rule : FlatRule). Each (NamesThere (note-ids schema)) rule.assertions) pattern.rules
 
   flat-refers : Each RawRefers schema.patterns → Each FlatRefers (flat_schema schema).patterns
   flat-refers each =
       patterns_hold schema RawRefers FlatRefers (λ change. Unit {0})
       (λ change pattern origin any own its.
-      rules_hold (ItemRefers (diagnostic-ids schema)) (abstract_rules schema) (abstract_hold (ItemRefers (diagnostic-ids schema)) schema each) change (HoldsIn (ItemRefers (diagnostic-ids schema)))
-      (λ (rule : FlatRule). Each (NamesThere (diagnostic-ids schema)) rule.assertions) (λ rule h. h)
-      (λ rule items own h. each_map (NamesThere (diagnostic-ids schema)) (assertion_with change) _ (assertions_hold (ItemRefers (diagnostic-ids schema)) (NamesThere (diagnostic-ids schema)) (λ a is. is) items h))
+      rules_hold (ItemRefers (note-ids schema)) (abstract_rules schema) (abstract_hold (ItemRefers (note-ids schema)) schema each) change (HoldsIn (ItemRefers (note-ids schema)))
+      (λ (rule : FlatRule). Each (NamesThere (note-ids schema)) rule.assertions) (λ rule h. h)
+      (λ rule items own h. each_map (NamesThere (note-ids schema)) (assertion_with change) _ (assertions_hold (ItemRefers (note-ids schema)) (NamesThere (note-ids schema)) (λ a is. is) items h))
       origin.rules its)
       (λ pattern own. tt) tt (λ pattern own. tt) each
 
-  plain-lets : (lets : List LetDecl) → Each (PlainRefers (diagnostic-ids schema)) (map (λ decl. item.Let decl) lets)
+  plain-lets : (lets : List LetDecl) → Each (PlainRefers (note-ids schema)) (map (λ decl. item.Let decl) lets)
   plain-lets [] = tt
   plain-lets (decl ∷ lets) = (tt, plain-lets lets)
 
-  plain-rule : (rule : FlatRule) → Each (NamesThere (diagnostic-ids schema)) rule.assertions → HoldsIn (PlainRefers (diagnostic-ids schema)) (raw_rule rule)
+  plain-rule : (rule : FlatRule) → Each (NamesThere (note-ids schema)) rule.assertions → HoldsIn (PlainRefers (note-ids schema)) (raw_rule rule)
   plain-rule rule h =
-      each_append (PlainRefers (diagnostic-ids schema)) (map (λ decl. item.Let decl) rule.lets) (map (λ assertion. item.Assertion assertion) rule.assertions) (plain-lets rule.lets)
-      (each_map (PlainRefers (diagnostic-ids schema)) (λ assertion. item.Assertion assertion) rule.assertions h)
+      each_append (PlainRefers (note-ids schema)) (map (λ decl. item.Let decl) rule.lets) (map (λ assertion. item.Assertion assertion) rule.assertions) (plain-lets rule.lets)
+      (each_map (PlainRefers (note-ids schema)) (λ assertion. item.Assertion assertion) rule.assertions h)
 
-  plain-pattern : (pattern : FlatPattern) → FlatRefers pattern → PatternRefers (diagnostic-ids schema) (raw_pattern pattern)
+  plain-pattern : (pattern : FlatPattern) → FlatRefers pattern → PatternRefers (note-ids schema) (raw_pattern pattern)
   plain-pattern pattern h = record {
     origin = refl;
-    rules = each_map (HoldsIn (PlainRefers (diagnostic-ids schema))) raw_rule pattern.rules
-        (each_to (λ (rule : FlatRule). Each (NamesThere (diagnostic-ids schema)) rule.assertions) (λ (rule : FlatRule). HoldsIn (PlainRefers (diagnostic-ids schema)) (raw_rule rule)) plain-rule pattern.rules h);
+    rules = each_map (HoldsIn (PlainRefers (note-ids schema))) raw_rule pattern.rules
+        (each_to (λ (rule : FlatRule). Each (NamesThere (note-ids schema)) rule.assertions) (λ (rule : FlatRule). HoldsIn (PlainRefers (note-ids schema)) (raw_rule rule)) plain-rule pattern.rules h);
   }
 
   abbrev kept : List RawPattern → List RawPattern
@@ -288,17 +294,17 @@ module _ (schema : RawSchema) where
       let raw = each_to (λ (pattern : RawPattern). Each Unbroken (pattern_places known-here rules pattern)) RawRefers (pattern-there rules) schema.patterns
       (each-apart Unbroken (pattern_places known-here rules) schema.patterns parts.1) in
       record {
-        to = subst (λ ids. RefersTo (phase-ids schema) ids (diagnostic-ids schema) (raw_of (flat_schema schema))) (sym (kept-ids schema.patterns)) (record {
+        to = subst (λ ids. RefersTo (phase-ids schema) ids (note-ids schema) (raw_of (flat_schema schema))) (sym (kept-ids schema.patterns)) (record {
           head = phase-there schema.head.default_phase each.0.0;
           active = each_to (λ (phase : Phase). Each Unbroken (phase_places known-here phase)) (ActiveRefers (pattern-ids schema)) phase-refers schema.phases
               (each-apart Unbroken (phase_places known-here) schema.phases parts.0);
-          patterns = each_map (PatternRefers (diagnostic-ids schema)) raw_pattern (flat_schema schema).patterns
-              (each_to FlatRefers (λ (pattern : FlatPattern). PatternRefers (diagnostic-ids schema) (raw_pattern pattern)) plain-pattern (flat_schema schema).patterns (flat-refers raw));
+          patterns = each_map (PatternRefers (note-ids schema)) raw_pattern (flat_schema schema).patterns
+              (each_to FlatRefers (λ (pattern : FlatPattern). PatternRefers (note-ids schema) (raw_pattern pattern)) plain-pattern (flat_schema schema).patterns (flat-refers raw));
         });
       }
 
 -- places are of no account
-module _ (ids : List (List ℕ)) where
+module _ (ids : NoteIds) where
   forget-item : (x : RawItem) → PlainRefers ids x → PlainRefers ids (placeless_item x)
   forget-item (item.Let decl) h = tt
   forget-item (item.Assertion a) h = h
@@ -321,6 +327,7 @@ module _ (ids : List (List ℕ)) where
     rules = recall_each (HoldsIn (PlainRefers ids)) placeless_rule (λ (rule : RawRule) is. recall_each (PlainRefers ids) placeless_item recall-item rule.items is) pattern.rules h.rules;
   }
 
+module _ (ids : List (List ℕ)) where
   forget-phase : (phase : Phase) → ActiveRefers ids phase → ActiveRefers ids (placeless_phase phase)
   forget-phase phase h = forget_each (λ (a : Active). IsThere ids a.pattern) placeless_active (λ a is. is) phase.active h
 
@@ -337,32 +344,35 @@ module _ (schema : RawSchema) where
   same-patterns : pattern-ids forgotten ≡ pattern-ids schema
   same-patterns = same_over concrete_id placeless_pattern (λ x. refl) schema.patterns
 
-  same-diagnostics : diagnostic-ids forgotten ≡ diagnostic-ids schema
-  same-diagnostics = names_over (λ (x : Diagnostic). x.id) (λ (x : Diagnostic). x.id) placeless_diagnostic (λ x. refl) schema.diagnostics
+  same-ids : (notes : List Diagnostic) → ids-of (map placeless_diagnostic notes) ≡ ids-of notes
+  same-ids notes = names_over (λ (x : Diagnostic). x.id) (λ (x : Diagnostic). x.id) placeless_diagnostic (λ x. refl) notes
 
-  forget-all : (phases patterns diagnostics : List (List ℕ)) → RefersTo phases patterns diagnostics schema → RefersTo phases patterns diagnostics forgotten
-  forget-all phases patterns diagnostics h = record {
+  same-notes : note-ids forgotten ≡ note-ids schema
+  same-notes = λ t. (same-ids schema.diagnostics t, same-ids schema.properties t)
+
+  forget-all : (phases patterns : List (List ℕ)) (notes : NoteIds) → RefersTo phases patterns notes schema → RefersTo phases patterns notes forgotten
+  forget-all phases patterns notes h = record {
     head = h.head;
     active = forget_each (ActiveRefers patterns) placeless_phase (forget-phase patterns) schema.phases h.active;
-    patterns = forget_each (PatternRefers diagnostics) placeless_pattern (forget-pattern diagnostics) schema.patterns h.patterns;
+    patterns = forget_each (PatternRefers notes) placeless_pattern (forget-pattern notes) schema.patterns h.patterns;
   }
 
-  recall-all : (phases patterns diagnostics : List (List ℕ)) → RefersTo phases patterns diagnostics forgotten → RefersTo phases patterns diagnostics schema
-  recall-all phases patterns diagnostics h = record {
+  recall-all : (phases patterns : List (List ℕ)) (notes : NoteIds) → RefersTo phases patterns notes forgotten → RefersTo phases patterns notes schema
+  recall-all phases patterns notes h = record {
     head = h.head;
     active = recall_each (ActiveRefers patterns) placeless_phase (recall-phase patterns) schema.phases h.active;
-    patterns = recall_each (PatternRefers diagnostics) placeless_pattern (recall-pattern diagnostics) schema.patterns h.patterns;
+    patterns = recall_each (PatternRefers notes) placeless_pattern (recall-pattern notes) schema.patterns h.patterns;
   }
 
   pub referred_forgets : Referred schema → Referred forgotten
   referred_forgets h =
-      let all = forget-all (phase-ids schema) (pattern-ids schema) (diagnostic-ids schema) h.to in
-      let with_phases = subst (λ l. RefersTo l (pattern-ids schema) (diagnostic-ids schema) forgotten) (sym same-phases) all in
-      let with_patterns = subst (λ l. RefersTo (phase-ids forgotten) l (diagnostic-ids schema) forgotten) (sym same-patterns) with_phases in
-      record { to = subst (λ l. RefersTo (phase-ids forgotten) (pattern-ids forgotten) l forgotten) (sym same-diagnostics) with_patterns }
+      let all = forget-all (phase-ids schema) (pattern-ids schema) (note-ids schema) h.to in
+      let with_phases = subst (λ l. RefersTo l (pattern-ids schema) (note-ids schema) forgotten) (sym same-phases) all in
+      let with_patterns = subst (λ l. RefersTo (phase-ids forgotten) l (note-ids schema) forgotten) (sym same-patterns) with_phases in
+      record { to = subst (λ l. RefersTo (phase-ids forgotten) (pattern-ids forgotten) l forgotten) (sym same-notes) with_patterns }
 
   pub referred_recalls : Referred forgotten → Referred schema
   referred_recalls h =
-      let with_phases = subst (λ l. RefersTo l (pattern-ids forgotten) (diagnostic-ids forgotten) forgotten) same-phases h.to in
-      let with_patterns = subst (λ l. RefersTo (phase-ids schema) l (diagnostic-ids forgotten) forgotten) same-patterns with_phases in
-      record { to = recall-all (phase-ids schema) (pattern-ids schema) (diagnostic-ids schema) (subst (λ l. RefersTo (phase-ids schema) (pattern-ids schema) l forgotten) same-diagnostics with_patterns) }
+      let with_phases = subst (λ l. RefersTo l (pattern-ids forgotten) (note-ids forgotten) forgotten) same-phases h.to in
+      let with_patterns = subst (λ l. RefersTo (phase-ids schema) l (note-ids forgotten) forgotten) same-patterns with_phases in
+      record { to = recall-all (phase-ids schema) (pattern-ids schema) (note-ids schema) (subst (λ l. RefersTo (phase-ids schema) (pattern-ids schema) l forgotten) same-notes with_patterns) }

@@ -25,7 +25,7 @@ use Rattle.sch_model.specs.declared.parts.Ns.{Ns}
 use Rattle.sch_model.specs.declared.parts.Part.{Part}
 use Rattle.sch_model.specs.declared.parts.Part.TheVariants.{Chars, ValueOf, Name}
 use Rattle.sch_model.specs.declared.parts.Phase.{Phase}
-use Rattle.sch_flat.specs.FlatDocument.{active_events, assertion_attributes, assertion_events, assertion_name, characters, diagnostic_events, diagnostics_events, flat_events, held_events, let_events, ns_events, only_given, part_events, pattern_events, phase_events, rule_events, title_events}
+use Rattle.sch_flat.specs.FlatDocument.{active_events, assertion_attributes, assertion_events, assertion_name, characters, diagnostics_events, flat_events, held_events, let_events, note_events, notes_events, ns_events, only_given, part_events, pattern_events, phase_events, rule_attributes, rule_events, title_events}
 use Rattle.sch_flat.specs.FlatSize.{bytes_of, is_small, nodes_of}
 use Rattle.sch_flat_laws.proofs.Texts.NameLemmas.{Simple, TagFits, has_sch, other_qnames, simple, tag_free}
 use Rattle.sch_flat_laws.proofs.Texts.WalkLemmas.{Clean, Goes, Sound, clean_all, clean_append, clean_characters, clean_element, clean_nil, element_goes, no_fault, nodes_append, start_free}
@@ -72,7 +72,7 @@ rule_clean : (levels : ℕ) (rule : FlatRule) → Clean (suc (suc (suc levels)))
 unfolding xmlns_prefix
 rule_clean levels rule =
     clean_element (suc (suc levels)) (codes "sch:rule")
-    ((codes "id", rule.id) ∷ (codes "context", Some rule.context) ∷ (codes "role", rule.role) ∷ (codes "flag", rule.flag) ∷ [])
+    (rule_attributes rule)
     (flat_map let_events rule.lets ++ flat_map assertion_events rule.assertions) refl refl
     (clean_append (suc (suc levels)) (flat_map let_events rule.lets) (flat_map assertion_events rule.assertions)
     (clean_all (suc (suc levels)) let_events (let_clean (suc levels)) rule.lets)
@@ -87,18 +87,20 @@ pattern_clean levels pattern =
     (clean_all (suc (suc (suc levels))) let_events (let_clean (suc (suc levels))) pattern.lets)
     (clean_all (suc (suc (suc levels))) rule_events (rule_clean levels) pattern.rules))
 
-diagnostic_clean : (levels : ℕ) (diagnostic : Diagnostic) → Clean (suc (suc levels)) (diagnostic_events diagnostic)
+-- diagnostics or properties, by the names of their elements
+note_clean : (levels : ℕ) (name : List ℕ) → prefix_part name ≡ codes "sch" → (note : Diagnostic) → Clean (suc (suc levels)) (note_events name note)
 unfolding xmlns_prefix
-diagnostic_clean levels diagnostic =
-    clean_element (suc levels) (codes "sch:diagnostic") ((codes "id", Some diagnostic.id) ∷ []) (flat_map part_events diagnostic.message) refl refl
-    (clean_all (suc levels) part_events (part_clean levels) diagnostic.message)
+note_clean levels name is note =
+    clean_element (suc levels) name ((codes "id", Some note.id) ∷ []) (flat_map part_events note.message) is refl
+    (clean_all (suc levels) part_events (part_clean levels) note.message)
 
-diagnostics_clean : (levels : ℕ) (diagnostics : List Diagnostic) → Clean (suc (suc (suc levels))) (diagnostics_events diagnostics)
+notes_clean : (levels : ℕ) (group name : List ℕ) → prefix_part group ≡ codes "sch" → prefix_part name ≡ codes "sch" → (notes : List Diagnostic) →
+    Clean (suc (suc (suc levels))) (notes_events group name notes)
 unfolding xmlns_prefix
-diagnostics_clean levels [] = clean_nil (suc (suc (suc levels)))
-diagnostics_clean levels (d ∷ ds) =
-    clean_element (suc (suc levels)) (codes "sch:diagnostics") [] (flat_map diagnostic_events (d ∷ ds)) refl refl
-    (clean_all (suc (suc levels)) diagnostic_events (diagnostic_clean levels) (d ∷ ds))
+notes_clean levels group name holds is [] = clean_nil (suc (suc (suc levels)))
+notes_clean levels group name holds is (d ∷ ds) =
+    clean_element (suc (suc levels)) group [] (flat_map (note_events name) (d ∷ ds)) holds refl
+    (clean_all (suc (suc levels)) (note_events name) (note_clean levels name is) (d ∷ ds))
 
 title_clean : (levels : ℕ) (title : Option (List ℕ)) → Clean (suc levels) (title_events title)
 unfolding xmlns_prefix
@@ -107,13 +109,15 @@ title_clean levels (Some title) = clean_element levels (codes "sch:title") [] (c
 
 -- what the document element holds, with four levels
 held_clean : (schema : FlatSchema) → Clean 4 (held_events schema)
+unfolding xmlns_prefix
 held_clean schema =
     clean_append 4 (title_events schema.head.title) _ (title_clean 3 schema.head.title)
     (clean_append 4 (flat_map ns_events schema.ns) _ (clean_all 4 ns_events (ns_clean 3) schema.ns)
     (clean_append 4 (flat_map let_events schema.lets) _ (clean_all 4 let_events (let_clean 3) schema.lets)
     (clean_append 4 (flat_map phase_events schema.phases) _ (clean_all 4 phase_events (phase_clean 2) schema.phases)
     (clean_append 4 (flat_map pattern_events schema.patterns) _ (clean_all 4 pattern_events (pattern_clean 0) schema.patterns)
-    (diagnostics_clean 1 schema.diagnostics)))))
+    (clean_append 4 (diagnostics_events schema.diagnostics) _ (notes_clean 1 (codes "sch:diagnostics") (codes "sch:diagnostic") refl refl schema.diagnostics)
+    (notes_clean 1 (codes "sch:properties") (codes "sch:property") refl refl schema.properties))))))
 
 -- the attribute of the document element that declares the prefix
 abbrev declaring : Attr

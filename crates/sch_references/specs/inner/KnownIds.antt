@@ -18,6 +18,7 @@ known_by ids = record {
   is_pattern = is_among ids.patterns;
   is_phase = is_among ids.phases;
   is_diagnostic = is_among ids.diagnostics;
+  is_property = is_among ids.properties;
 }
 
 -- what is known of these rules, and of nothing else
@@ -28,6 +29,7 @@ no_parts rules = record {
   is_pattern = is_among [];
   is_phase = is_among [];
   is_diagnostic = is_among [];
+  is_property = is_among [];
 }
 
 -- what is known, and the ids of a schema besides those of its rules
@@ -38,4 +40,5 @@ with_parts known schema = record {
   is_pattern = with_ids known.is_pattern (flat_map concrete_id schema.patterns);
   is_phase = with_ids known.is_phase (map (λ phase. phase.id) schema.phases);
   is_diagnostic = with_ids known.is_diagnostic (map (λ diagnostic. diagnostic.id) schema.diagnostics);
+  is_property = with_ids known.is_property (map (λ property. property.id) schema.properties);
 }

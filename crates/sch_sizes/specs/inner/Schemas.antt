@@ -51,4 +51,5 @@ with_patterns schema patterns = record {
   phases = schema.phases;
   patterns = patterns;
   diagnostics = schema.diagnostics;
+  properties = schema.properties;
 }

@@ -9,7 +9,7 @@ use Rattle.sch_model.specs.declared.raw.RawPattern.{RawPattern}
 use Rattle.sch_model.specs.declared.raw.RawRule.{RawRule}
 use Rattle.sch_expansion.specs.Filled.{filled}
 use Rattle.sch_expansion.specs.Flat.{assertion_with, bare_pattern, let_with, rule_with}
-use Rattle.sch_flat.specs.FlatDocument.{assertion_events, element, let_events}
+use Rattle.sch_flat.specs.FlatDocument.{assertion_events, element, let_events, rule_attributes}
 use Rattle.sch_sizes.specs.declared.amount.Amount.{Amount}
 use Rattle.sch_sizes.specs.inner.Amounts.{many, nothing, of_events}
 
@@ -50,8 +50,7 @@ abbrev pub sizes : FlatWeights
 sizes = record {
   flat_let = λ decl. of_events (let_events decl);
   flat_assertion = λ assertion. of_events (assertion_events assertion);
-  flat_rule = λ rule. of_events (element (codes "sch:rule")
-      ((codes "id", rule.id) ∷ (codes "context", Some rule.context) ∷ (codes "role", rule.role) ∷ (codes "flag", rule.flag) ∷ []) []);
+  flat_rule = λ rule. of_events (element (codes "sch:rule") (rule_attributes rule) []);
   flat_pattern = λ pattern. of_events (element (codes "sch:pattern") ((codes "id", pattern.id) ∷ []) []);
 }
 

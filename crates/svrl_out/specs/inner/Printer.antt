@@ -3,9 +3,11 @@ use Rattle.std.specs.Prelude.{◌≡◌, ℕ, true, List, ◌++◌, codes}
 use Rattle.std.specs.List.{flat_map, enumerate_from}
 use Rattle.pyx_write.specs.Written.{end_line}
 use Rattle.doc_tree.specs.Lists.{mem}
-use Rattle.doc_tree.specs.Table.{is_live}
+use Rattle.doc_tree.specs.Table.{Table, is_live}
+use Rattle.doc_locations.specs.Locations.{location_of}
 use Rattle.sch_compiled.specs.Findings.{ToldInOrder, outcome_at}
 use Rattle.sch_compiled.specs.declared.parts.PlanRule.{PlanRule}
+use Rattle.svrl_out.specs.declared.report.Place.{Place}
 use Rattle.svrl_out.specs.declared.report.Printer.{Printer}
 use Rattle.svrl_out.specs.Report.{IsOutcomeOf, IsReportable, node_lines, ns_lines, pattern_lines, report}
 
@@ -18,7 +20,7 @@ pub record IsReady (p : Printer) : Type 0 where
 
 -- each live node has an outcome under a pattern, and it names what is in these rules
 abbrev pub HasOutcomes : Printer → ℕ → List PlanRule → Type 0
-HasOutcomes p pattern rules = (n : ℕ) → is_live p.tree.now.nodes n ≡ true → IsOutcomeOf rules (outcome_at p.found.now pattern n)
+HasOutcomes p pattern rules = (n : ℕ) → is_live p.tree.now.nodes n ≡ true → IsOutcomeOf p.tree.now.nodes rules (outcome_at p.found.now pattern n)
 
 -- the report
 abbrev pub printed : Printer → List ℕ
@@ -36,3 +38,11 @@ held_and_end p = held_lines p ++ end_line (codes "svrl:schematron-output")
 -- the lines of a node under a pattern with these rules
 abbrev pub node_text : Printer → ℕ → List PlanRule → ℕ → List ℕ
 node_text p pattern rules n = node_lines p.tree.now.nodes rules (outcome_at p.found.now pattern) n
+
+-- a node, and the location that finds it
+abbrev pub IsPlace : Table → Place → Type 0
+IsPlace T place = place.location ≡ location_of T place.node
+
+-- the place of a node
+abbrev pub IsPlaceOf : Table → ℕ → Place → Type 0
+IsPlaceOf T n place = (place.node ≡ n) × (place.location ≡ location_of T n)

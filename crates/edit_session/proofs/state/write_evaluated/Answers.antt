@@ -5,7 +5,7 @@ use Rattle.edit_session.proofs.state.write_evaluated.Goals as goal
 pub write_report_among-written-requires-clause-reportable : goal.write_report_among-written-requires-clause-reportable
 write_report_among-written-requires-clause-reportable g c =
     let whole = rw c.in-Whole.is at c.requires.evaluated in
-    reportable c.args.plan.now c.args.tree.now.nodes _ c.first_match_fires.ensures c.laws.ensures.ordered whole.0 c.requires.found
+    reportable c.args.plan.now c.args.tree.now.nodes _ c.first_match_fires.ensures c.units_read_live_cells.ensures.findings c.laws.ensures.ordered c.laws.ensures.ways_up whole.0 c.requires.found
 
 pub write_fault-written-requires : goal.write_fault-written-requires
 write_fault-written-requires g c =

@@ -1,4 +1,4 @@
-use Rattle.std.proofs.Common.{ℕ, ◌+◌, ◌-◌, List, length}
+use Rattle.std.proofs.Common.{◌+◌, ◌-◌, List, length}
 use Rattle.doc_tree.specs.Table.{Table}
 use Rattle.xp_meaning.specs.Evaluation.{Lets}
 use Rattle.sch_compiled.specs.declared.parts.PlanRule.{PlanRule}

@@ -9,4 +9,4 @@ returns c =
     let rule = c.args.self.now in
     let first = flat_map let_events rule.lets in
     let last = flat_map assertion_events rule.assertions in
-    c.rule_size.ensures rule.context (first ++ last) c.text_len-context_len.ensures (c.then-held.ensures first last c.size_of_all.ensures c.size_of_all-2.ensures)
+    c.rule_size.ensures rule.context rule.subject (first ++ last) c.text_len.ensures c.option_len.ensures (c.then-held.ensures first last c.size_of_all.ensures c.size_of_all-2.ensures)

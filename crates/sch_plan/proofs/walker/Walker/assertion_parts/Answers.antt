@@ -8,13 +8,12 @@ returns-in_err-test c =
     rw (p.1, p.2) (answers_stop _ _ _ (rw c.as_str.ensures at c.in_err-test.ensures))
 
 pub returns-in-Err : goal.returns-in-Err
-returns-in-Err c =
-    answers_then _ _ _ _ (rw c.as_str.ensures at c.in_ok-test.ensures) (answers_stop _ _ _ (rw c.as_slice.ensures at c.in-Err.ensures))
+returns-in-Err c = answers_then _ _ _ _ (rw c.as_str.ensures at c.in_ok-test.ensures) (answers_stop _ _ _ c.in-Err.ensures)
 
-pub returns-in-Err-message : goal.returns-in-Err-message
-returns-in-Err-message c =
-    answers_then _ _ _ _ (rw c.as_str.ensures at c.in_ok-test.ensures) (answers_then _ _ _ _ (rw c.as_slice.ensures at c.in-Ok.ensures) (answers_stop _ _ _ (rw c.as_slice-in-Ok.ensures at c.in-Err-message.ensures)))
+pub returns-in-Err-texts : goal.returns-in-Err-texts
+returns-in-Err-texts c =
+    answers_then _ _ _ _ (rw c.as_str.ensures at c.in_ok-test.ensures) (answers_then _ _ _ _ c.in-Ok.ensures (answers_stop _ _ _ c.in-Err-texts.ensures))
 
-pub returns-in-Ok-message : goal.returns-in-Ok-message
-returns-in-Ok-message c =
-    answers_then _ _ _ _ (rw c.as_str.ensures at c.in_ok-test.ensures) (answers_then _ _ _ _ (rw c.as_slice.ensures at c.in-Ok.ensures) (answers_then _ _ _ _ (rw c.as_slice-in-Ok.ensures at c.in-Ok-message.ensures) (answers_goes _)))
+pub returns-in-Ok-texts : goal.returns-in-Ok-texts
+returns-in-Ok-texts c =
+    answers_then _ _ _ _ (rw c.as_str.ensures at c.in_ok-test.ensures) (answers_then _ _ _ _ c.in-Ok.ensures (answers_then _ _ _ _ c.in-Ok-texts.ensures (answers_goes _)))

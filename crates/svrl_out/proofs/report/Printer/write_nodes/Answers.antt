@@ -8,9 +8,6 @@ use Rattle.svrl_out.proofs.ToldLemmas.{told-lines}
 use Rattle.svrl_out.proofs.PageLemmas.{but_done, but_failed, but_next, cut_by_memory, cut_by_sink}
 use Rattle.svrl_out.proofs.report.Printer.write_nodes.Goals as goal
 
-pub put_node-requires-clause-live : goal.put_node-requires-clause-live
-put_node-requires-clause-live g c = c.requires.ready.live c.n-item.result (mem-at c.args.self.now.nodes.now c.loop-n.n-index c.n-item.result c.n-item.is c.loop-n-test.true)
-
 pub put_node-requires-clause-outcome : goal.put_node-requires-clause-outcome
 put_node-requires-clause-outcome g c =
     c.requires.outcomes c.n-item.result (c.requires.ready.live c.n-item.result (mem-at c.args.self.now.nodes.now c.loop-n.n-index c.n-item.result c.n-item.is c.loop-n-test.true))
