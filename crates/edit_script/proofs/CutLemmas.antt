@@ -5,8 +5,9 @@ use Rattle.std.proofs.lemmas.Bool.{eqb-true}
 use Rattle.sch_base.specs.Lists.{is_nil}
 use Rattle.pyx_core.specs.Lines.{is_line_end}
 use Rattle.pyx_core.proofs.LineLemmas.{NoEndBelow, first_line, behind_first, no_line, all_unended}
-use Rattle.edit_script.specs.Script.{lines_of, nothing, script_at, with_end}
-use Rattle.edit_script.specs.inner.Lines.{Cuts, Reaches}
+use Rattle.edit_script.specs.Script.{lines_of, script_at, with_end}
+use Rattle.edit_script.specs.Undos.{past_undo}
+use Rattle.edit_script.specs.inner.Lines.{Cuts, IsSpent, Reaches}
 
 cut_at : (bytes : List ℕ) (end : ℕ) → end < length bytes → is_line_end (get_or bytes end 0) ≡ true →
     bytes ≡ with_end (take end bytes) ++ drop (suc end) bytes
@@ -59,15 +60,21 @@ pub record Skips (from : ℕ) (bytes : List ℕ) (number : ℕ) (rest : List ℕ
   pub lines : lines_of bytes ≡ empty ++ lines_of rest
   pub number_is : number ≡ from + length empty
   pub script : (more : List (List ℕ)) → script_at None from (empty ++ more) ≡ script_at None number more
+  pub undo : (more : List (List ℕ)) → past_undo from (empty ++ more) ≡ past_undo number more
   pub few : number + length rest ≤ from + length bytes
 
 pub skips_start : (from : ℕ) (bytes : List ℕ) → Skips from bytes from bytes
-skips_start from bytes = record { empty = []; lines = refl; number_is = omega arith; script = λ more. refl; few = omega arith }
+skips_start from bytes = record { empty = []; lines = refl; number_is = omega arith; script = λ more. refl; undo = λ more. refl; few = omega arith }
 
 empty_step : (number : ℕ) (line : List ℕ) (lines : List (List ℕ)) → (length line == 0) ≡ true →
     script_at None number (line ∷ lines) ≡ script_at None (number + 1) lines
 empty_step number [] lines none = ap (λ n. script_at None n lines) (sym (add-one number))
 empty_step number (b ∷ line) lines none = absurd (none_zero (length line) none)
+
+undo_step : (number : ℕ) (line : List ℕ) (lines : List (List ℕ)) → (length line == 0) ≡ true →
+    past_undo number (line ∷ lines) ≡ past_undo (number + 1) lines
+undo_step number [] lines none = ap (λ n. past_undo n lines) (sym (add-one number))
+undo_step number (b ∷ line) lines none = absurd (none_zero (length line) none)
 
 pub skips_line : (from : ℕ) (bytes : List ℕ) (number : ℕ) (rest line after : List ℕ) → Skips from bytes number rest → Cuts rest line after →
     (length line == 0) ≡ true → Skips from bytes (number + 1) after
@@ -79,6 +86,10 @@ skips_line from bytes number rest line after on cut none = record {
       ap (script_at None from) (append_assoc on.empty (line ∷ []) more)
       ∙ on.script (line ∷ more)
       ∙ empty_step number line more none;
+  undo = λ more.
+      ap (past_undo from) (append_assoc on.empty (line ∷ []) more)
+      ∙ on.undo (line ∷ more)
+      ∙ undo_step number line more none;
   few = omega (arith, on.few, cut.shorter);
 }
 
@@ -93,10 +104,13 @@ skips_found from bytes number rest line after on cut some = record {
   lines = on.lines ∙ ap (λ l. on.empty ++ l) cut.lines;
   number_is = on.number_is;
   script = on.script;
+  undo = on.undo;
   some = some_line line some;
   few = omega (arith, on.few, cut.shorter);
 }
 
 pub skips_end : (from : ℕ) (bytes : List ℕ) (number : ℕ) (rest : List ℕ) → Skips from bytes number rest → lines_of rest ≡ [] →
-    script_at None from (lines_of bytes) ≡ nothing
-skips_end from bytes number rest on none = ap (script_at None from) (on.lines ∙ ap (λ l. on.empty ++ l) none) ∙ on.script []
+    IsSpent from bytes
+skips_end from bytes number rest on none =
+    let lines : lines_of bytes ≡ on.empty ++ [] = on.lines ∙ ap (λ l. on.empty ++ l) none in
+    record { script = ap (script_at None from) lines ∙ on.script []; undo = ap (past_undo from) lines ∙ on.undo [] }

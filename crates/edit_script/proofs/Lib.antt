@@ -2,6 +2,7 @@ pub mod CutLemmas
 pub mod FaultLemmas
 pub mod FieldLemmas
 pub mod FormedLemmas
+pub mod ItemLemmas
 pub mod NumberLemmas
 pub mod PartLemmas
 pub mod PathLemmas

@@ -1,5 +1,5 @@
 -- What was taken of a script gives the command that was read.
-use Rattle.std.proofs.Common.{◌≡◌, ℕ, suc, ◌+◌, true, false, List, [], ◌∷◌, ◌++◌, length, None, Some, Ok, Err, arith, sym, ◌∙◌, ap, append-nil, append_assoc, length-append}
+use Rattle.std.proofs.Common.{◌≡◌, ℕ, suc, ◌+◌, Bool, true, false, List, [], ◌∷◌, ◌++◌, length, None, Some, Ok, Err, arith, refl, sym, ◌∙◌, ap, append-nil, append_assoc, length-append}
 use Rattle.sch_base.specs.Lists.{is_nil}
 use Rattle.edit_script.specs.CommandLine.{command_line}
 use Rattle.edit_script.specs.declared.command.Command.TheVariants.{Insert}
@@ -84,20 +84,23 @@ module _ (number : ℕ) (line rest : List ℕ) (some : is_nil line ≡ false) wh
 -- The script
 
 module _ (from : ℕ) (bytes : List ℕ) (number : ℕ) (line rest : List ℕ) (reached : Reaches from bytes number line rest) where
-  pub next_taken : (done : Taken) → IsTaken number line rest done → Takes done.command (left_from from bytes) (left_from done.number done.rest.now)
-  next_taken done took = record {
+  pub next_taken : (done : Taken) (faulted : Bool) → IsTaken number line rest done →
+      Takes done.command (left_from from bytes faulted) (left_from done.number done.rest.now faulted)
+  next_taken done faulted took = record {
     taken = reached.empty ++ line ∷ took.taken;
     front = reached.lines ∙ ap (λ l. reached.empty ++ line ∷ l) took.front ∙ sym (append_assoc reached.empty (line ∷ took.taken) (lines_of done.rest.now));
     number = omega (arith, took.number_is, reached.number_is, length-append reached.empty (line ∷ took.taken));
     alone = reached.script (line ∷ took.taken) ∙ ap (λ l. script_at None number (line ∷ l)) (sym (append-nil took.taken)) ∙ took.script [];
+    faulted = refl;
   }
 
-  pub next_command : (done : Taken) → IsTaken number line rest done → script_left (left_from from bytes) ≡ onto done.command (script_left (left_from done.number done.rest.now))
-  next_command done took =
+  pub next_command : (done : Taken) (faulted : Bool) → IsTaken number line rest done →
+      script_left (left_from from bytes faulted) ≡ onto done.command (script_left (left_from done.number done.rest.now faulted))
+  next_command done faulted took =
       ap (script_at None from) reached.lines
       ∙ reached.script (line ∷ lines_of rest)
       ∙ ap (λ l. script_at None number (line ∷ l)) took.front
       ∙ took.script (lines_of done.rest.now)
 
-  pub next_stops : (found : ScriptFault) → Breaks number line rest found → script_left (left_from from bytes) ≡ stops found
-  next_stops found breaks = ap (script_at None from) reached.lines ∙ reached.script (line ∷ lines_of rest) ∙ breaks
+  pub next_stops : (found : ScriptFault) (faulted : Bool) → Breaks number line rest found → script_left (left_from from bytes faulted) ≡ stops found
+  next_stops found faulted breaks = ap (script_at None from) reached.lines ∙ reached.script (line ∷ lines_of rest) ∙ breaks

@@ -1,5 +1,5 @@
 -- The commands of an edit script: how its lines become commands, and where its first fault is.
-use Rattle.std.specs.Prelude.{◌≡◌, ℕ, suc, ◌+◌, Bool, ◌&&◌, if◌then◌else◌, List, [], ◌∷◌, ◌++◌, length, Option, None, Some, Result, Ok, Err, is_none}
+use Rattle.std.specs.Prelude.{◌≡◌, ℕ, suc, ◌+◌, Bool, true, false, ◌&&◌, if◌then◌else◌, List, [], ◌∷◌, ◌++◌, length, Option, None, Some, Result, Ok, Err, is_none}
 use Rattle.std.specs.List.{flat_map}
 use Rattle.std.specs.Str.{bytes_eq}
 use Rattle.sch_base.specs.Lists.{is_nil}
@@ -15,6 +15,8 @@ use Rattle.edit_script.specs.declared.command.Command.TheVariants.{Insert}
 use Rattle.edit_script.specs.declared.command.PathStep.{PathStep}
 use Rattle.edit_script.specs.declared.command.Said.{Said}
 use Rattle.edit_script.specs.declared.command.Said.TheVariants.{Whole, Opening}
+use Rattle.edit_script.specs.declared.fault.ScriptError.{ScriptError}
+use Rattle.edit_script.specs.declared.fault.ScriptError.TheVariants.{Fault, Memory}
 use Rattle.edit_script.specs.declared.fault.ScriptFault.{ScriptFault}
 use Rattle.edit_script.specs.declared.fault.ScriptKind.{ScriptKind}
 use Rattle.edit_script.specs.declared.fault.ScriptKind.TheVariants.{BadPayload}
@@ -120,18 +122,24 @@ script_at (Some insert) number (line ∷ lines) =
     if is_dot line then inserts insert (script_at None (suc number) lines)
     else script_at (Some (with_line insert line)) (suc number) lines
 
--- the lines of a script that are left, between commands, and the number of the first
+-- the lines of a script that are left, between commands, and the number of the first; and whether their fault was answered
 pub record LinesLeft : Type 0 where
   pub number : ℕ
   pub lines : List (List ℕ)
+  pub faulted : Bool
 
 -- the lines of some bytes, the first of which has a number
-abbrev pub left_from : ℕ → List ℕ → LinesLeft
-left_from first bytes = record { number = first; lines = lines_of bytes }
+abbrev pub left_from : ℕ → List ℕ → Bool → LinesLeft
+left_from first bytes faulted = record { number = first; lines = lines_of bytes; faulted = faulted }
 
 -- all lines of a script
 abbrev pub at_start : List ℕ → LinesLeft
-at_start bytes = left_from 1 bytes
+at_start bytes = left_from 1 bytes false
+
+-- what is left where an error was answered: the same lines, of which it is known from then on that they have a fault
+abbrev pub left_by : ScriptError → LinesLeft → LinesLeft
+left_by (Fault found) left = record left { faulted = true }
+left_by Memory left = left
 
 -- what the lines that are left give
 abbrev pub script_left : LinesLeft → Script
@@ -147,3 +155,4 @@ pub record Takes (command : Command) (old new : LinesLeft) : Type 0 where
   pub front : old.lines ≡ taken ++ new.lines
   pub number : new.number ≡ old.number + length taken
   pub alone : script_at None old.number taken ≡ onto command nothing
+  pub faulted : new.faulted ≡ old.faulted

@@ -1,8 +1,9 @@
 //! The lines of a script.
 
-ghost use Rattle.std.specs.Prelude.{◌≡◌, ◌+◌, ◌<◌, ◌^◌, [], None, take, drop, length, MatchOption};
-ghost use Rattle.edit_script.specs.Script.{is_dot, lines_of, nothing, script_at};
-ghost use Rattle.edit_script.specs.inner.Lines.{Cuts, Reaches};
+ghost use Rattle.std.specs.Prelude.{◌≡◌, ◌+◌, ◌<◌, ◌^◌, [], take, drop, length, MatchOption};
+ghost use Rattle.edit_script.specs.Script.{is_dot, lines_of};
+ghost use Rattle.edit_script.specs.Undos.{is_undo};
+ghost use Rattle.edit_script.specs.inner.Lines.{Cuts, IsSpent, Reaches};
 
 /// The first of some lines, without its line end, and what follows it; None where no line is left.
 ///
@@ -33,6 +34,13 @@ pub(crate) fn is_dot(line: &[u8]) -> bool
     line == b".".as_slice()
 }
 
+/// Whether the line is `undo`, which takes an edit back.
+pub(crate) fn is_undo(line: &[u8]) -> bool
+    ensures { result ≡ is_undo line.now }
+{
+    line == b"undo".as_slice()
+}
+
 /// A line that isn't empty, its number, and what follows it.
 #[derive(Clone, Copy)]
 pub(crate) struct Numbered<'a> {
@@ -44,7 +52,7 @@ pub(crate) struct Numbered<'a> {
 /// The first line that isn't empty, where the first line has the number; None where there is none.
 pub(crate) fn next_line(from: u64, bytes: &[u8]) -> Option<Numbered>
     requires { from + length bytes.now < 2 ^ 64 }
-    ensures { MatchOption result (script_at None from (lines_of bytes.now) ≡ nothing)
+    ensures { MatchOption result (IsSpent from bytes.now)
         (λ next. Reaches from bytes.now next.number next.line.now next.rest.now) }
 {
     let mut number = from;

@@ -1,10 +1,11 @@
 //! The reader of a script, command by command.
 
-ghost use Rattle.std.specs.Prelude.{◌≡◌, ◌≤◌, ◌+◌, false, suc, length, Ok, IfOk, IfErr, IfNone, IfSome, OnErr};
+ghost use Rattle.std.specs.Prelude.{◌≡◌, ◌≤◌, ◌+◌, true, false, suc, length, Ok, IfOk, IfErr, IfNone, IfSome};
 ghost use Rattle.sch_base.specs.Lists.{is_nil};
 ghost use Rattle.edit_script.specs.CommandLine.{command_line};
 ghost use Rattle.edit_script.specs.declared.command.Said.TheVariants.{Opening};
-ghost use Rattle.edit_script.specs.Script.{Takes, at_start, nothing, onto, script_left, stops};
+ghost use Rattle.edit_script.specs.Script.{Takes, at_start, left_by, nothing, onto, script_left, stops};
+ghost use Rattle.edit_script.specs.Undos.{behind_undo};
 ghost use Rattle.edit_script.specs.WellFormed.{WellFormedCommand};
 ghost use Rattle.edit_script.specs.declared.limits.TheConstants.{MAX_SCRIPT_BYTES};
 ghost use Rattle.edit_script.specs.Faults.{IfFault};
@@ -12,13 +13,13 @@ ghost use Rattle.edit_script.specs.inner.Reader.{Breaks, IsTaken};
 
 use crate::command::{Command, Path, Said};
 use crate::command_line::command_line;
-use crate::lines::{Numbered, next_line};
+use crate::lines::{Numbered, is_undo, next_line};
 use crate::payload::read_insertion;
 use crate::{ScriptError, ScriptFault};
 use std::alloc::Global;
 use std::marker::Model;
 
-/// A reader of a script, seen by contracts as the lines that are left, and the number of the first.
+/// A reader of a script, seen by contracts as the lines that are left, the number of the first, and whether their fault was answered.
 ///
 /// The time of all calls together grows with the bytes, asking again after a fault apart: the line with the fault, or the
 /// insert whose fragment has it, is then read again.
@@ -29,6 +30,8 @@ pub struct ScriptReader<'a> {
     number: u64,
     /// The lines that are left.
     rest: &'a [u8],
+    /// Whether the fault of these lines was answered.
+    faulted: bool,
 }
 
 impl<'a> Model for ScriptReader<'a> {
@@ -38,7 +41,7 @@ impl<'a> Model for ScriptReader<'a> {
 
     ghost Value = { LinesLeft };
 
-    ghost view = { λ r. left_from r.number r.rest.now };
+    ghost view = { λ r. left_from r.number r.rest.now r.faulted };
 
     ghost invariant = { λ r. IsWithin r.number r.rest.now };
 }
@@ -53,6 +56,7 @@ impl<'a> ScriptReader<'a> {
             alloc,
             number: 1,
             rest: bytes,
+            faulted: false,
         }
     }
 
@@ -66,15 +70,46 @@ impl<'a> ScriptReader<'a> {
         ensures formed { IfOk result (λ next. IfSome next WellFormedCommand) }
         ensures end { IfOk result (λ next. IfNone next ((script_left self.old ≡ nothing) × (self.new ≡ self.old))) }
         ensures fault { IfErr result (IfFault (λ found. script_left self.old ≡ stops found)) }
-        ensures unchanged { OnErr result (self.new ≡ self.old) }
+        ensures stands { IfErr result (λ error. self.new ≡ left_by error self.old) }
     {
         let Some(next) = next_line(self.number, self.rest) else {
             return Ok(None);
         };
-        let taken = read_command(self.alloc, next)?;
-        self.number = taken.number;
-        self.rest = taken.rest;
-        Ok(Some(taken.command))
+        match read_command(self.alloc, next) {
+            Ok(taken) => {
+                self.number = taken.number;
+                self.rest = taken.rest;
+                Ok(Some(taken.command))
+            }
+            Err(ScriptError::Fault(found)) => {
+                self.faulted = true;
+                Err(ScriptError::Fault(found))
+            }
+            Err(ScriptError::Memory) => Err(ScriptError::Memory),
+        }
+    }
+
+    /// Takes the line `undo`, where it is the next that isn't empty, and answers whether it did: for scripts in which edits may be
+    /// taken back. Asked before each `next`, which finds no command in such a line.
+    ///
+    /// A reader that has answered a fault takes none. Takes no memory; costs the empty lines in front.
+    pub fn take_undo(&mut self) -> bool
+        ensures taken { result ≡ true → behind_undo self.old ≡ Some self.new }
+        ensures none { result ≡ false → behind_undo self.old ≡ None }
+        ensures unchanged { result ≡ false → self.new ≡ self.old }
+    {
+        if self.faulted {
+            return false;
+        }
+        let Some(next) = next_line(self.number, self.rest) else {
+            return false;
+        };
+        if !is_undo(next.line) {
+            return false;
+        }
+        self.number = next.number + 1;
+        self.rest = next.rest;
+        true
     }
 }
 
