@@ -1,0 +1,4 @@
+pub mod SubtreeItems
+pub mod FragmentNest
+pub mod FragmentTests
+pub mod Subtrees
