@@ -1,19 +1,21 @@
 -- A node that an insert brought goes again by a delete.
-use Rattle.std.proofs.Common.{◌≡◌, ◌≢◌, ℕ, ◌-◌, ◌≤◌, Bool, true, false, ◌&&◌, eqb, List, [], ◌∷◌, ◌++◌, length, take, drop, None, Some, refl, sym, ap, ◌∙◌, subst, true≢false, arith, eq-eqb, eqb-true}
-use Rattle.std.specs.Prelude.{slice_index_or}
+use Rattle.std.proofs.Common.{◌≡◌, ◌≢◌, ℕ, ◌-◌, ◌≤◌, Bool, true, false, ◌&&◌, eqb, suc, cond, List, [], ◌∷◌, ◌++◌, length, take, drop, Option, None, Some, refl, sym, ap, ◌∙◌, subst, true≢false, arith, eq-eqb, eqb-true}
+use Rattle.std.specs.Prelude.{count_by, slice_index_or}
 use Rattle.std.proofs.lemmas.List.{take-append-drop}
 use Rattle.pyx_core.specs.declared.event.Event.{Event}
 use Rattle.doc_table.proofs.Appending.{holder-live}
 use Rattle.doc_table.proofs.Fitting.{texts-kept}
 use Rattle.doc_table.proofs.Forests.{formed-of}
-use Rattle.doc_table.proofs.TreeLaws.{ways-up}
+use Rattle.doc_table.proofs.ListLemmas.{occurs-append, sum_by-same}
+use Rattle.doc_table.proofs.TreeLaws.{ordered, walks, ways-up}
 use Rattle.doc_table.specs.inner.Sound.{Formed}
 use Rattle.doc_edits.specs.Fitting.{MayTake}
 use Rattle.doc_edits.proofs.DeletionLemmas.{meeting-on}
 use Rattle.doc_edits.proofs.InsertionLemmas.{content-kept, entry-new, given-content, kids-parent, old-other}
-use Rattle.doc_tree.specs.kind.Kind.TheVariants.{Attribute}
+use Rattle.doc_tree.specs.kind.Kind.{Kind}
+use Rattle.doc_tree.specs.kind.Kind.TheVariants.{Root, Element, Attribute, Text, Comment, Pi}
 use Rattle.doc_tree.specs.Changes.{deleted, deleted_by, given_number, inserted, meeting, removed}
-use Rattle.doc_tree.specs.Kinds.{can_be_kid, is_document, is_element}
+use Rattle.doc_tree.specs.Kinds.{can_be_kid, holds_kids, is_document, is_element, is_kind}
 use Rattle.doc_tree.specs.Laws.{TextsApart, WellFormed}
 use Rattle.doc_tree.specs.Lists.{mem, occurs}
 use Rattle.doc_tree.specs.Refusals.{deletion_refusal, top_of}
@@ -24,15 +26,28 @@ use Rattle.doc_tree.proofs.ListLemmas.{In, In-mem, occurs-head}
 use Rattle.doc_undo_laws.specs.Undoing.{InsertionsAreUndone}
 use Rattle.doc_undo_laws.proofs.DeletionUndone.{listed, not-before, not-behind}
 use Rattle.doc_undo_laws.proofs.PieceLines.{top-in, top-number}
+use Rattle.doc_undo_laws.proofs.Settling.{Stays, inserted-stays}
 use Rattle.edit_script.specs.declared.command.Command.{Command}
 use Rattle.edit_script.specs.declared.command.Command.TheVariants.{Insert, Delete}
-use Rattle.edit_commands.specs.Commands.{InsertedAt, IsEdited, command_refusal, insertion_refusal, refusal_where}
+use Rattle.edit_script.specs.declared.command.PathStep.{PathStep}
+use Rattle.edit_commands.specs.Commands.{InsertedAt, IsEdited, command_refusal, insertion_refusal, refusal_where, top_kind}
+use Rattle.edit_commands.specs.Paths.{led_from, node_named}
+use Rattle.edit_commands.proofs.DepthLemmas.{kind-of-top}
 use Rattle.edit_command_laws.specs.TreesKept.{EditsKeepTrees}
 use Rattle.edit_command_laws.proofs.TreesKept.{fits}
 use Rattle.edit_iso_laws.specs.CommandsMove.{none, then}
 use Rattle.edit_iso_laws.proofs.CommandLemmas.{piece-may}
-use Rattle.edit_paths.specs.PathTo.{LeadsTo, PathsLead, path_to}
-use Rattle.edit_undo_laws.specs.Undoing.{InsertsAreUndone}
+use Rattle.edit_undo_laws.specs.Entries.{step_under, undoing_where}
+use Rattle.edit_undo_laws.specs.Undoing.{InsertsAreUndone, TakesBack}
+use Rattle.edit_undo_laws.proofs.PathsKept.{led-on, path-kept, step-leads}
+
+same-kind : (kind : Kind) → is_kind kind (Some kind) ≡ true
+same-kind Root = refl
+same-kind Element = refl
+same-kind Attribute = refl
+same-kind Text = refl
+same-kind Comment = refl
+same-kind Pi = refl
 
 module _ (T : Table) (n : ℕ) where
   -- no texts meet where the number doesn't stand
@@ -135,25 +150,62 @@ module _ (before : Contents) (p at : ℕ) (events : List Event) (V : Table) (edi
   pub free-after : deletion_refusal V (length T) ≡ None
   free-after = rw (form-after.kid_kind p (length T) kid, up, no-root) refl
 
-pub inserts-are-undone : EditsKeepTrees → InsertionsAreUndone → PathsLead → InsertsAreUndone
-inserts-are-undone keeps undone lead before after path at events form document free edited =
+  -- the step to it
+  kids-live : (m k : ℕ) → In k (kids_of T m) → is_live T k ≡ true
+  kids-live m k h = (ways-up T t).kid_live m k (In-mem k (kids_of T m) h)
+
+  stays : (m : ℕ) → is_live T m ≡ true → Stays T V p m
+  stays m alive = subst (λ U. Stays T U p m) (sym edited.is) (inserted-stays T P p (at - 1) live m alive)
+
+  path-after : (path : List PathStep) → node_named T path ≡ Some p → node_named V path ≡ Some p
+  path-after path named =
+      path-kept T V form p (λ m. is_live T m ≡ true) (λ m alive ne. (stays m alive).kids ne) (λ m k alive ne h. ap kind_at (stays k (kids-live m k h)).content)
+      (λ m k alive ne h. kids-live m k h) (holder-live T 0 (ap holds_kids form.root_kind)) path named
+
+  counts-same : (kind : Kind) (ks : List ℕ) → ((k : ℕ) → In k ks → is_live T k ≡ true) → count_by (λ k. is_kind kind (kind_of T k)) ks ≡ count_by (λ k. is_kind kind (kind_of V k)) ks
+  counts-same kind ks alive =
+      sum_by-same (λ k. cond (is_kind kind (kind_of T k)) 1 0) (λ k. cond (is_kind kind (kind_of V k)) 1 0) ks
+      (λ k h. ap (λ o. cond (is_kind kind (kind_at o)) 1 0) (sym (stays k (alive k h)).content))
+
+  front-live : (k : ℕ) → In k front → is_live T k ≡ true
+  front-live k h =
+      kids-live p k (subst (In k) (take-append-drop (at - 1) (kids_of T p)) (omega (arith, h, occurs-append k front back)))
+
+  kind-is : kind_of V (length T) ≡ top_kind events
+  kind-is =
+      kind-top ∙ (ap (kind_of P) (ap (λ ks. slice_index_or ks 0 0) edited.scoped.one)
+      ∙ kind-of-top P edited.well_formed (ordered P piece) (ways-up P piece) (walks P piece) events edited.scoped.lines_are edited.scoped.top edited.scoped.one)
+
+  pub stepped : (path : List PathStep) → node_named T path ≡ Some p → node_named V (path ++ step_under T p at (top_kind events)) ≡ Some (length T)
+  stepped path named =
+      led-on V (Some 0) path (step_under T p at (top_kind events))
+      ∙ (ap (λ o. led_from V o (step_under T p at (top_kind events))) (path-after path named) ∙ by (top_kind events) kind-is)
+    where
+      by : (o : Option Kind) → kind_of V (length T) ≡ o → led_from V (Some p) (step_under T p at o) ≡ Some (length T)
+      by None e = absurd (true≢false (sym (form-after.kid_kind p (length T) kid) ∙ ap can_be_kid e))
+      by (Some kind) e =
+          ap (λ c. led_from V (Some p) (record { kind = kind; index = suc c } ∷ [])) (counts-same kind front front-live)
+          ∙ step-leads V p (length T) kind front back kids (ap (is_kind kind) e ∙ same-kind kind)
+
+pub inserts-are-undone : EditsKeepTrees → InsertionsAreUndone → InsertsAreUndone
+inserts-are-undone keeps undone before after path at events form document free edited =
     let p : ℕ = edited.node in
     let V : Table = after.nodes in
     let kept : WellFormed V × (is_document V ≡ true) = keeps before (Insert path at events) V form document free edited in
     let free-at : insertion_refusal before p at events ≡ None = ap (refusal_where before (Insert path at events)) (sym edited.named) ∙ free in
     let n : ℕ = length before.nodes in
-    let leads : LeadsTo V n (path_to V n) =
-    lead V n kept.0 (lives before p at events V edited.edited form kept.0 free-at) (other before p at events V edited.edited form kept.0 free-at) in
+    let way : List PathStep = path ++ step_under before.nodes p at (top_kind events) in
+    let named : node_named V way ≡ Some n = stepped before p at events V edited.edited form kept.0 free-at path edited.named in
     let gone : SameTree before.nodes (removed V n) =
     subst (λ U. SameTree before.nodes (removed U n)) (sym edited.edited.is)
     (undone before.nodes edited.edited.piece p (at - 1) form edited.edited.well_formed
     (piece-may before p at events edited.edited.piece edited.edited.well_formed edited.edited.scoped free-at)) in
     let end : Contents = record after { nodes = deleted V n } in
-    let command : Command = Delete (path_to V n) in
-    let free2 : command_refusal after command ≡ None = ap (refusal_where after command) leads.named ∙ free-after before p at events V edited.edited form kept.0 free-at in
-    let done : IsEdited V command (deleted V n) = record { node = n; named = leads.named; edited = refl } in
-    record {
+    let command : Command = Delete way in
+    let free2 : command_refusal after command ≡ None = ap (refusal_where after command) named ∙ free-after before p at events V edited.edited form kept.0 free-at in
+    let done : IsEdited V command (deleted V n) = record { node = n; named = named; edited = refl } in
+    subst (λ o. TakesBack before after (undoing_where before.nodes (Insert path at events) o)) (sym edited.named) (record {
       end = end;
       done = then after end end command [] free2 done refl (none end);
       same = subst (SameTree before.nodes) (sym (is-removed before p at events V edited.edited form kept.0 free-at)) gone;
-    }
+    })

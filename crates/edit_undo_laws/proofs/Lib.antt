@@ -1,2 +1,16 @@
+pub mod PathsKept
+pub mod ScopesKept
+pub mod AttributesFound
 pub mod InsertUndone
 pub mod TextUndone
+pub mod SettingUndone
+pub mod AttributeSteps
+pub mod OwnAttributes
+pub mod LosingAttributes
+pub mod GainingAttributes
+pub mod UnsettingUndone
+pub mod RemovalCounts
+pub mod SubtreeComes
+pub mod DeletingUndone
+pub mod EntriesFormed
+pub mod EntriesAsk

@@ -30,7 +30,8 @@ use Rattle.edit_commands.specs.Commands.{IsEdited, command_refusal, refusal_wher
 use Rattle.edit_commands.specs.Paths.{kids_of_kind, led_from, node_named}
 use Rattle.edit_commands.proofs.TextLemmas.{may-say}
 use Rattle.edit_iso_laws.specs.CommandsMove.{none, then}
-use Rattle.edit_undo_laws.specs.Undoing.{TextsAreUndone}
+use Rattle.edit_undo_laws.specs.Entries.{undoing_where}
+use Rattle.edit_undo_laws.specs.Undoing.{TakesBack, TextsAreUndone}
 
 -- a path leads where it led, where kids and kinds stay
 module _ (T U : Table) (kids : (m : ℕ) → kids_of U m ≡ kids_of T m) (kinds : (m : ℕ) → kind_of U m ≡ kind_of T m) where
@@ -67,6 +68,29 @@ own-text T n new free = by (has_own_text (kind_of T n)) refl
         let never : Some WrongKind ≡ None = sym wrong ∙ free in
         absurd (cc)
 
+-- there is room for a text that was there
+pub room-back : (T : Table) (n : ℕ) (new : List ℕ) → WellFormed T → Formed T → Formed (said T n new) → MaySay T n new →
+    nat_lt (MAX_LIVE_TEXT_BYTES + length (value_of (said T n new) n)) (text_bytes (said T n new) + length (value_of T n)) ≡ false
+room-back T n new form t u may = by (nat_lt (MAX_LIVE_TEXT_BYTES + length (value_of (said T n new) n)) (text_bytes (said T n new) + length (value_of T n))) refl
+  where
+    by : (b : Bool) → nat_lt (MAX_LIVE_TEXT_BYTES + length (value_of (said T n new) n)) (text_bytes (said T n new) + length (value_of T n)) ≡ b → b ≡ false
+    by false e = refl
+    by true e =
+        absurd (omega (
+          arith,
+          ltb-true (MAX_LIVE_TEXT_BYTES + length (value_of (said T n new) n)) (text_bytes (said T n new) + length (value_of T n)) e,
+          ap length (value-said T n new may.lives may.has_text),
+          held-said T n new may.lives may.has_text,
+          text-count (said T n new) u.forest u.whole,
+          text-count T t.forest t.whole,
+          form.little_text,
+        ))
+
+-- another text leaves paths as they lead
+pub path-same : (T : Table) (n : ℕ) (new : List ℕ) (path : List PathStep) → node_named (said T n new) path ≡ node_named T path
+path-same T n new path =
+    led-same T (said T n new) (λ m. (same-links (saying new) (saying-kind new) T n m).kids) (λ m. same-kind (saying new) (saying-kind new) T n m) (Some 0) path
+
 module _ (T : Table) (n : ℕ) (new : List ℕ) (form : WellFormed T) (free : text_refusal T n new ≡ None) (own : has_own_text (kind_of T n) ≡ true) where
   abbrev U : Table
   U = said T n new
@@ -92,26 +116,13 @@ module _ (T : Table) (n : ℕ) (new : List ℕ) (form : WellFormed T) (free : te
       by true true e f = absurd (form.some_text n (text-of (kind_of T n) e) (nil-of (value_of T n) f))
 
   little : nat_lt (MAX_LIVE_TEXT_BYTES + length (value_of U n)) (text_bytes U + length (value_of T n)) ≡ false
-  little = by (nat_lt (MAX_LIVE_TEXT_BYTES + length (value_of U n)) (text_bytes U + length (value_of T n))) refl
-    where
-      by : (b : Bool) → nat_lt (MAX_LIVE_TEXT_BYTES + length (value_of U n)) (text_bytes U + length (value_of T n)) ≡ b → b ≡ false
-      by false e = refl
-      by true e =
-          absurd (omega (
-            arith,
-            ltb-true (MAX_LIVE_TEXT_BYTES + length (value_of U n)) (text_bytes U + length (value_of T n)) e,
-            ap length (value-said T n new may.lives may.has_text),
-            held-said T n new may.lives may.has_text,
-            text-count U u.forest u.whole,
-            text-count T t.forest t.whole,
-            form.little_text,
-          ))
+  little = room-back T n new form t u may
 
   pub free-after : text_refusal U n (value_of T n) ≡ None
   free-after = rw (ap has_own_text (kind-same n) ∙ own, not-empty, little) refl
 
   pub path-after : (path : List PathStep) → node_named U path ≡ node_named T path
-  path-after path = led-same T U (λ m. (same-links (saying new) (saying-kind new) T n m).kids) kind-same (Some 0) path
+  path-after path = path-same T n new path
 
 pub texts-are-undone : TextsAreUndone
 texts-are-undone before after path new n form named free edited =
@@ -127,8 +138,8 @@ texts-are-undone before after path new n form named free edited =
     ap (refusal_where after command) named2 ∙ (ap (λ U. text_refusal U n (value_of T n)) is ∙ free-after T n new form free-at own) in
     let done : IsEdited after.nodes command (said after.nodes n (value_of T n)) = record { node = n; named = named2; edited = refl } in
     let again : said after.nodes n (value_of T n) ≡ T = ap (λ U. said U n (value_of T n)) is ∙ said-back T n new in
-    record {
+    subst (λ o. TakesBack before after (undoing_where T (SetText path new) o)) (sym named) (record {
       end = end;
       done = then after end end command [] free2 done refl (none end);
       same = subst (SameTree T) (sym again) (same-lines-same-tree T T form form refl);
-    }
+    })

@@ -1,11 +1,21 @@
 //! Commands that take a command of an edit script back. Laws, as calls that do nothing.
 #![tactic(auto)]
 
-ghost use Rattle.edit_undo_laws.specs.Undoing.{InsertsAreUndone, TextsAreUndone};
+ghost use Rattle.edit_undo_laws.specs.Undoing.{
+  InsertsAreUndone,
+  LoneDeletionsAreUndone,
+  SettingsAreUndone,
+  TextsAreUndone,
+  UndoingsAreFormed,
+  UndoingsAskFor,
+  UnsettingsAreUndone,
+};
 
-use doc_undo_laws::insertions_are_undone;
+use doc_undo_laws::{attributes_are_given_back, deletions_are_undone, insertions_are_undone};
 use edit_command_laws::edits_keep_trees;
-use edit_paths::paths_lead;
+use name_scopes_laws::fragments_have_pieces;
+use sch_base::qnames_split;
+use subtree_events::subtrees_are_fragments;
 
 /// The node that came is deleted.
 pub fn inserts_are_undone()
@@ -13,10 +23,48 @@ pub fn inserts_are_undone()
 {
     edits_keep_trees();
     insertions_are_undone();
-    paths_lead();
 }
 
 /// The node says its own text again.
 pub fn texts_are_undone()
     ensures { TextsAreUndone }
 {}
+
+/// The attribute has its own value again, or goes where it came.
+pub fn settings_are_undone()
+    ensures { SettingsAreUndone }
+{
+    attributes_are_given_back();
+}
+
+/// The attribute comes again, and those behind it in their order.
+pub fn unsettings_are_undone()
+    ensures { UnsettingsAreUndone }
+{
+    attributes_are_given_back();
+    qnames_split();
+}
+
+/// The node comes again with all below it, where no two texts met.
+pub fn lone_deletions_are_undone()
+    ensures { LoneDeletionsAreUndone }
+{
+    deletions_are_undone();
+    fragments_have_pieces();
+    subtrees_are_fragments();
+}
+
+/// A script can hold the commands that take a command back.
+pub fn undoings_are_formed()
+    ensures { UndoingsAreFormed }
+{
+    qnames_split();
+    subtrees_are_fragments();
+}
+
+/// They may ask for as many numbers as there are nodes that come again, and for one where an attribute has its value again.
+pub fn undoings_ask_for()
+    ensures { UndoingsAskFor }
+{
+    subtrees_are_fragments();
+}
