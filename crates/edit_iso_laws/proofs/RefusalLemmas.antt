@@ -28,7 +28,7 @@ use Rattle.edit_script.specs.declared.command.Command.{Command}
 use Rattle.edit_script.specs.declared.command.Command.TheVariants.{Insert, Delete, SetText, SetAttr, UnsetAttr}
 use Rattle.edit_commands.specs.Commands.{command_refusal, insertion_refusal, path_of, refusal_at, refusal_where, size_refusal, top_kind}
 use Rattle.edit_commands.specs.Paths.{node_named}
-use Rattle.edit_iso_laws.specs.CommandsMove.{RefusalsMove, numbers_asked}
+use Rattle.edit_iso_laws.specs.CommandsMove.{NumbersMove, RefusalsMove, numbers_for_value, numbers_made, numbers_made_at, numbers_made_where}
 use Rattle.edit_iso_laws.specs.PathsMove.{PathsMove}
 use Rattle.tree_iso.specs.Renumbering.{Hangs, RenumberedTreesHang, Renumbers, SameTreesAreRenumbered, renumbered}
 use Rattle.tree_iso.proofs.NumberLemmas.{any-moved, eqb-moved}
@@ -203,7 +203,7 @@ module _ (before other : Contents) (f : ℕ → ℕ) (r : Renumbers f before.nod
       (place-same f T U r hangs.root n at (top_kind events) ∙ first.0)
       (or-both (piece_refusal U (f n) events) (size_refusal other events) (piece-same f T U r hangs scopes n events ∙ second.0) (size-free events second.1 room))
 
-  value-free : (found : Option ℕ) (value : List ℕ) → value_refusal before found value ≡ None → length U + 1 ≤ MAX_NODE_NUMBERS → value_refusal other (option_map f found) value ≡ None
+  value-free : (found : Option ℕ) (value : List ℕ) → value_refusal before found value ≡ None → length U + numbers_for_value found ≤ MAX_NODE_NUMBERS → value_refusal other (option_map f found) value ≡ None
   value-free (Some a) value free room =
       ap₂ (λ (own whole : ℕ). if nat_lt (MAX_LIVE_TEXT_BYTES + own) (whole + length value) then Some TooMuchText else None) (ap (λ o. length (value_at o)) (r.content a)) bytes ∙ free
   value-free None value free room =
@@ -215,7 +215,7 @@ module _ (before other : Contents) (f : ℕ → ℕ) (r : Renumbers f before.nod
       else if nat_lt MAX_NODE_NUMBERS (suc (length T)) then Some IdsSpent else if nat_lt c (suc (length (order T))) then Some TooManyPairs else None) cap ∙ free))
       (enough (suc (length U)) (omega (arith, room)))
 
-  setting-free : (n : ℕ) (prefix local value : List ℕ) → setting_refusal before n prefix local value ≡ None → length U + 1 ≤ MAX_NODE_NUMBERS → setting_refusal other (f n) prefix local value ≡ None
+  setting-free : (n : ℕ) (prefix local value : List ℕ) → setting_refusal before n prefix local value ≡ None → length U + numbers_for_value (attribute_meant T n prefix local) ≤ MAX_NODE_NUMBERS → setting_refusal other (f n) prefix local value ≡ None
   setting-free n prefix local value free room =
       let parts = or-parts (name_refusal T n prefix local) (value_refusal before (attribute_meant T n prefix local) value) free in
       or-both (name_refusal U (f n) prefix local) (value_refusal other (attribute_meant U (f n) prefix local) value)
@@ -230,22 +230,48 @@ module _ (before other : Contents) (f : ℕ → ℕ) (r : Renumbers f before.nod
       by None = refl
       by (Some a) = refl
 
-  at-free : (command : Command) (n : ℕ) → refusal_at before command n ≡ None → length U + numbers_asked command ≤ MAX_NODE_NUMBERS → refusal_at other command (f n) ≡ None
+  at-free : (command : Command) (n : ℕ) → refusal_at before command n ≡ None → length U + numbers_made_at T command n ≤ MAX_NODE_NUMBERS → refusal_at other command (f n) ≡ None
   at-free (Insert path at events) n free room = insertion-free n at events free room
   at-free (Delete path) n free room = deletion-same f T U r hangs.root n ∙ free
   at-free (SetText path text) n free room = text-same f T U r hangs.root n text ∙ free
   at-free (SetAttr path name value) n free room = setting-free n (prefix_part name) (local_part name) value free room
   at-free (UnsetAttr path name) n free room = unsetting-free n (prefix_part name) (local_part name) free
 
-  command-free : (command : Command) → command_refusal before command ≡ None → length U + numbers_asked command ≤ MAX_NODE_NUMBERS → command_refusal other command ≡ None
+  command-free : (command : Command) → command_refusal before command ≡ None → length U + numbers_made T command ≤ MAX_NODE_NUMBERS → command_refusal other command ≡ None
   command-free command free room =
-      ap (refusal_where other command) (paths.path f T U (path_of command) form form-other r) ∙ by (node_named T (path_of command)) refl free
+      ap (refusal_where other command) (paths.path f T U (path_of command) form form-other r) ∙ by (node_named T (path_of command)) free room
     where
-      by : (o : Option ℕ) → node_named T (path_of command) ≡ o → refusal_where before command o ≡ None → refusal_where other command (option_map f o) ≡ None
-      by None e h = absurd (cc)
-      by (Some n) e h = at-free command n h room
+      by : (o : Option ℕ) → refusal_where before command o ≡ None → length U + numbers_made_where T command o ≤ MAX_NODE_NUMBERS → refusal_where other command (option_map f o) ≡ None
+      by None h _ = absurd (cc)
+      by (Some n) h enough_left = at-free command n h enough_left
+
+  -- how many numbers it makes
+  at-numbers : (command : Command) (n : ℕ) → numbers_made_at U command (f n) ≡ numbers_made_at T command n
+  at-numbers (Insert path at events) n = refl
+  at-numbers (Delete path) n = refl
+  at-numbers (SetText path text) n = refl
+  at-numbers (SetAttr path name value) n =
+      ap numbers_for_value (meant n (prefix_part name) (local_part name)) ∙ by (attribute_meant T n (prefix_part name) (local_part name))
+    where
+      by : (o : Option ℕ) → numbers_for_value (option_map f o) ≡ numbers_for_value o
+      by None = refl
+      by (Some a) = refl
+  at-numbers (UnsetAttr path name) n = refl
+
+  command-numbers : (command : Command) → numbers_made U command ≡ numbers_made T command
+  command-numbers command = ap (numbers_made_where U command) (paths.path f T U (path_of command) form form-other r) ∙ by (node_named T (path_of command))
+    where
+      by : (o : Option ℕ) → numbers_made_where U command (option_map f o) ≡ numbers_made_where T command o
+      by None = refl
+      by (Some n) = at-numbers command n
 
 pub refusals-move : RenumberedTreesHang → SameTreesAreRenumbered → PathsMove → RefusalsMove
 refusals-move hang renumber paths before other command form form-other alike cap free room =
     let r : Renumbers (renumbered before.nodes other.nodes) before.nodes other.nodes = renumber before.nodes other.nodes form form-other alike in
     command-free before other (renumbered before.nodes other.nodes) r (hang (renumbered before.nodes other.nodes) before.nodes other.nodes form form-other r) cap paths form form-other command free room
+
+pub numbers-move : RenumberedTreesHang → SameTreesAreRenumbered → PathsMove → NumbersMove
+numbers-move hang renumber paths before other command form form-other alike =
+    let r : Renumbers (renumbered before.nodes other.nodes) before.nodes other.nodes = renumber before.nodes other.nodes form form-other alike in
+    let same : Contents = record before { nodes = other.nodes } in
+    command-numbers before same (renumbered before.nodes other.nodes) r (hang (renumbered before.nodes other.nodes) before.nodes other.nodes form form-other r) refl paths form form-other command

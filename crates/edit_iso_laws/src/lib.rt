@@ -2,7 +2,7 @@
 //! nothing.
 #![tactic(auto)]
 
-ghost use Rattle.edit_iso_laws.specs.CommandsMove.{CommandsMove, RefusalsMove, ScriptsGoOn, ScriptsMove};
+ghost use Rattle.edit_iso_laws.specs.CommandsMove.{CommandsMove, NumbersMove, RefusalsMove, ScriptsGoOn, ScriptsMove};
 ghost use Rattle.edit_iso_laws.specs.PathsMove.{PathsMove};
 
 use doc_iso_laws::{additions_move, changes_move};
@@ -47,7 +47,16 @@ pub fn refusals_move()
     paths_move();
 }
 
-/// Commands that were done on one of them are done on the other, to the same end, where enough numbers are left.
+/// A command makes as many new numbers in one of them as in the other.
+pub fn numbers_move()
+    ensures { NumbersMove }
+{
+    renumbered_trees_hang();
+    same_trees_are_renumbered();
+    paths_move();
+}
+
+/// Commands that were done on one of them are done on the other, to the same end, with as many new numbers, where these are left.
 pub fn scripts_go_on()
     ensures { ScriptsGoOn }
 {
@@ -55,4 +64,5 @@ pub fn scripts_go_on()
     edits_make_trees();
     commands_move();
     refusals_move();
+    numbers_move();
 }
