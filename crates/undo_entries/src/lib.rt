@@ -1,0 +1,9 @@
+//! The commands that take a command of an edit script back, and the events of a subtree, by which it comes again.
+#![tactic(auto)]
+
+mod entry;
+mod events;
+mod names;
+
+pub use entry::{CommandList, Entry};
+pub use events::subtree_events;
