@@ -101,6 +101,18 @@ impl Watch {
         self.tree.laws();
     }
 
+    /// The allocator of which it takes memory.
+    pub fn alloc(&self) -> Global {
+        self.alloc
+    }
+
+    /// How many watches there are.
+    pub fn len(&self) -> usize
+        ensures { result ≡ length self.now.expressions }
+    {
+        self.list.len()
+    }
+
     /// How many watches are stale: those that were not evaluated yet, and those that read what an edit has touched since.
     ///
     /// Looks at each of them.
