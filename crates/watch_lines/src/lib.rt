@@ -6,5 +6,5 @@ mod fault;
 mod reading;
 
 pub use fault::{WatchError, WatchFault, WatchKind};
-pub use reading::{MAX_WATCHES, read_watches};
+pub use reading::{LineWord, MAX_WATCHES, read_watches};
 pub use watch_list::WatchList;

@@ -42,7 +42,7 @@ pub fn read_watches(alloc: Global, bytes: &[u8]) -> Result<WatchList, WatchError
 
 /// The words with which lines begin.
 #[derive(Clone, Copy)]
-enum LineWord {
+pub enum LineWord {
     /// `ns`: a prefix and its namespace.
     Namespace,
     /// `watch`: an expression.
