@@ -1,0 +1,3 @@
+pub mod Judged
+pub mod OneReading
+pub mod SomeReading
