@@ -29,7 +29,7 @@ use Rattle.sch_loading.proofs.PartLemmas.{by_cause}
 pub memory_writing : IsOfWriting Memory
 memory_writing = record { unnamed = refl; usage = refl; missing = refl; read_fault = refl; writes = refl; all_read = one_of_both all_files }
 
-fault_writing : IsOfWriting WriteFault
+pub fault_writing : IsOfWriting WriteFault
 fault_writing = record { unnamed = refl; usage = refl; missing = refl; read_fault = refl; writes = refl; all_read = λ _ _ all. all }
 
 -- Texts that are written
@@ -202,3 +202,8 @@ text_behind outputs texts value old new text last may comes result wrote shows v
 pub on_ok : {A : Type 0} (P : Type 0) (result : Result A Stop) → P → OnOk result P
 on_ok P (Ok value) holds = holds
 on_ok P (Err stop) holds = tt
+
+-- and what follows from that
+pub ok_with : {A E P Q : Type 0} (result : Result A E) → (P → Q) → OnOk result P → OnOk result Q
+ok_with (Ok value) so holds = so holds
+ok_with (Err error) so holds = tt

@@ -24,14 +24,14 @@ use Rattle.edit_commands.specs.declared.refusal.ApplyError.TheVariants as apply
 use Rattle.edit_command_laws.specs.OneEdit.{OneEdit}
 use Rattle.edit_commands.specs.Commands.{IsEdited, RefusesCommand, command_refusal}
 use Rattle.sch_compiled.specs.declared.plan.Plan.{Plan}
-use Rattle.edit_session.specs.Pairs.{has_too_many_pairs, pair_cap_for}
+use Rattle.edit_session.specs.Pairs.{has_too_many_pairs}
 use Rattle.edit_session.specs.Standing.{Standing}
-use Rattle.edit_session.specs.State.{shows, state_text}
 use Rattle.edit_session.specs.declared.state.Shown.{Shown}
 use Rattle.sch_stops.specs.declared.refusal.ScriptRefusal.TheVariants as refusal
 use Rattle.sch_words.specs.declared.status.Status.TheVariants as status
 use Rattle.sch_stops.specs.declared.stop.Stop.{Stop}
 use Rattle.sch_stops.specs.declared.stop.Stop.TheVariants.{ScriptRefused, Memory}
+use Rattle.sch_cli.specs.Telling.{Telling}
 use Rattle.sch_cli.specs.Following.{Begins, Follows, comes_to_end, edited, edits, nothing_yet, refused, refuses, stops_at, then_shown, under}
 use Rattle.sch_stops.specs.EditLines.{edit_line, refused_line}
 use Rattle.sch_stops.specs.Output.{Output}
@@ -43,7 +43,7 @@ use Rattle.sch_loading.specs.Stages.{Is, goes, halt_if}
 use Rattle.sch_cli.specs.inner.Followers.{Beginning, Ending, Goes, IsLed, IsReady, IsUndone, Place, in_front_of, treed_by}
 use Rattle.sch_loading.specs.Reads.{EndsAs}
 use Rattle.sch_cli.specs.inner.Carried.{Concludes, Shows}
-use Rattle.sch_cli.specs.inner.Sessions.{HasCost, IsEvaluated}
+use Rattle.sch_cli.specs.inner.Sessions.{Document, HasCost}
 use Rattle.sch_cli.specs.inner.Writing.{IsOfWriting, WroteText}
 use Rattle.sch_cli.proofs.CostLemmas.{costs_same, past_edited, past_refused}
 use Rattle.sch_cli.proofs.EndLemmas.{concludes_behind, memory_writing, on_ok}
@@ -92,66 +92,66 @@ few_commands bytes short =
 -- Commands
 
 -- no reason depends on names
-pub refusal_under : (plan : Plan) (tree : Contents) (command : Command) → tree.pair_cap ≡ pair_cap_for plan → command_refusal (under plan tree.nodes) command ≡ command_refusal tree command
-refusal_under plan tree command cap = ap (λ (count : ℕ). command_refusal (record { nodes = tree.nodes; names = []; pair_cap = count }) command) (sym cap)
+pub refusal_under : (telling : Telling) (tree : Contents) (command : Command) → tree.pair_cap ≡ telling.pair_cap → command_refusal (under telling tree.nodes) command ≡ command_refusal tree command
+refusal_under telling tree command cap = ap (λ (count : ℕ). command_refusal (record { nodes = tree.nodes; names = []; pair_cap = count }) command) (sym cap)
 
 -- what is to come does not depend on how its place is told
-pub follows_same : (plan other : Plan) (T U : Table) (n m : ℕ) (seen shown : Shown) (script rest : Script) (output : Output) → plan ≡ other → T ≡ U → n ≡ m → seen ≡ shown → script ≡ rest →
-    Follows plan T n seen script output → Follows other U m shown rest output
-follows_same plan other T U n m seen shown script rest output plans trees numbers states scripts follows =
+pub follows_same : (telling other : Telling) (T U : Table) (n m : ℕ) (seen shown : Shown) (script rest : Script) (output : Output) → telling ≡ other → T ≡ U → n ≡ m → seen ≡ shown → script ≡ rest →
+    Follows telling T n seen script output → Follows other U m shown rest output
+follows_same telling other T U n m seen shown script rest output tellings trees numbers states scripts follows =
     subst (λ (s : Script). Follows other U m shown s output) scripts
     (subst (λ (s : Shown). Follows other U m s script output) states
     (subst (λ (k : ℕ). Follows other U k seen script output) numbers
     (subst (λ (X : Table). Follows other X n seen script output) trees
-    (subst (λ (p : Plan). Follows p T n seen script output) plans follows))))
+    (subst (λ (p : Telling). Follows p T n seen script output) tellings follows))))
 
-begins_same : (plan other : Plan) (T U : Table) (n m : ℕ) (script rest : Script) (text : List ℕ) → plan ≡ other → T ≡ U → n ≡ m → script ≡ rest → Begins plan T n script text → Begins other U m rest text
-begins_same plan other T U n m script rest text plans trees numbers scripts begins =
+begins_same : (telling other : Telling) (T U : Table) (n m : ℕ) (script rest : Script) (text : List ℕ) → telling ≡ other → T ≡ U → n ≡ m → script ≡ rest → Begins telling T n script text → Begins other U m rest text
+begins_same telling other T U n m script rest text tellings trees numbers scripts begins =
     subst (λ (s : Script). Begins other U m s text) scripts
     (subst (λ (k : ℕ). Begins other U k script text) numbers
     (subst (λ (X : Table). Begins other X n script text) trees
-    (subst (λ (p : Plan). Begins p T n script text) plans begins)))
+    (subst (λ (p : Telling). Begins p T n script text) tellings begins)))
 
 -- where a place is told by another
-pub record IsPlace (at : Place) (plan : Plan) (T : Table) (number : ℕ) (rest : Script) : Type 0 where
-  pub plan_is : at.session.plan ≡ plan
+pub record IsPlace (at : Place) (telling : Telling) (T : Table) (number : ℕ) (rest : Script) : Type 0 where
+  pub telling_is : at.session.telling ≡ telling
   pub tree_is : at.session.tree.nodes ≡ T
   pub number_is : at.number ≡ number
   pub rest_is : at.script ≡ rest
 
-module _ (at later : Place) (command : Command) (cap : at.session.tree.pair_cap ≡ pair_cap_for at.session.plan) where
+module _ (at later : Place) (command : Command) (cap : at.session.tree.pair_cap ≡ at.session.telling.pair_cap) where
   -- an accepted command leads from one place to the next
   pub led_edited : (U : Table) → command_refusal at.session.tree command ≡ None → IsEdited at.session.tree.nodes command U →
-      IsPlace later at.session.plan U (at.number + 1) at.script → later.seen ≡ then_shown at.seen (shows at.session.plan U) →
-      IsLed (in_front_of command at) later (edit_line at.number ++ state_text at.session.plan U)
+      IsPlace later at.session.telling U (at.number + 1) at.script → later.seen ≡ then_shown at.seen (at.session.telling.shows U) →
+      IsLed (in_front_of command at) later (edit_line at.number ++ at.session.telling.text U)
   led_edited U none makes place seen = record {
-    ends = λ output follows. edits at.session.tree.nodes U at.number at.seen command at.script output (refusal_under at.session.plan at.session.tree command cap ∙ none) makes
-        (follows_same later.session.plan at.session.plan later.session.tree.nodes U later.number (at.number + 1) later.seen (then_shown at.seen (shows at.session.plan U)) later.script at.script output
-        place.plan_is place.tree_is place.number_is seen place.rest_is follows);
-    begins = λ more begins. edited at.session.tree.nodes U at.number command at.script more (refusal_under at.session.plan at.session.tree command cap ∙ none) makes
-        (begins_same later.session.plan at.session.plan later.session.tree.nodes U later.number (at.number + 1) later.script at.script more
-        place.plan_is place.tree_is place.number_is place.rest_is begins);
+    ends = λ output follows. edits at.session.tree.nodes U at.number at.seen command at.script output (refusal_under at.session.telling at.session.tree command cap ∙ none) makes
+        (follows_same later.session.telling at.session.telling later.session.tree.nodes U later.number (at.number + 1) later.seen (then_shown at.seen (at.session.telling.shows U)) later.script at.script output
+        place.telling_is place.tree_is place.number_is seen place.rest_is follows);
+    begins = λ more begins. edited at.session.tree.nodes U at.number command at.script more (refusal_under at.session.telling at.session.tree command cap ∙ none) makes
+        (begins_same later.session.telling at.session.telling later.session.tree.nodes U later.number (at.number + 1) later.script at.script more
+        place.telling_is place.tree_is place.number_is place.rest_is begins);
   }
 
   -- and its text is one that is written
   pub begun_edited : (U : Table) → command_refusal at.session.tree command ≡ None → IsEdited at.session.tree.nodes command U →
-      Beginning (in_front_of command at) ((edit_line at.number ++ state_text at.session.plan U) ++ [])
-  begun_edited U none makes = edited at.session.tree.nodes U at.number command at.script [] (refusal_under at.session.plan at.session.tree command cap ∙ none) makes (nothing_yet U (at.number + 1) at.script)
+      Beginning (in_front_of command at) ((edit_line at.number ++ at.session.telling.text U) ++ [])
+  begun_edited U none makes = edited at.session.tree.nodes U at.number command at.script [] (refusal_under at.session.telling at.session.tree command cap ∙ none) makes (nothing_yet U (at.number + 1) at.script)
 
   -- and so does a refused command, which changes nothing
-  pub led_refused : (reason : EditRefusal) → command_refusal at.session.tree command ≡ Some reason → IsPlace later at.session.plan at.session.tree.nodes (at.number + 1) at.script → later.seen ≡ at.seen →
+  pub led_refused : (reason : EditRefusal) → command_refusal at.session.tree command ≡ Some reason → IsPlace later at.session.telling at.session.tree.nodes (at.number + 1) at.script → later.seen ≡ at.seen →
       IsLed (in_front_of command at) later (refused_line at.number reason)
   led_refused reason some place seen = record {
-    ends = λ output follows. refuses at.session.tree.nodes at.number at.seen command reason at.script output (refusal_under at.session.plan at.session.tree command cap ∙ some)
-        (follows_same later.session.plan at.session.plan later.session.tree.nodes at.session.tree.nodes later.number (at.number + 1) later.seen at.seen later.script at.script output
-        place.plan_is place.tree_is place.number_is seen place.rest_is follows);
-    begins = λ more begins. refused at.session.tree.nodes at.number command reason at.script more (refusal_under at.session.plan at.session.tree command cap ∙ some)
-        (begins_same later.session.plan at.session.plan later.session.tree.nodes at.session.tree.nodes later.number (at.number + 1) later.script at.script more
-        place.plan_is place.tree_is place.number_is place.rest_is begins);
+    ends = λ output follows. refuses at.session.tree.nodes at.number at.seen command reason at.script output (refusal_under at.session.telling at.session.tree command cap ∙ some)
+        (follows_same later.session.telling at.session.telling later.session.tree.nodes at.session.tree.nodes later.number (at.number + 1) later.seen at.seen later.script at.script output
+        place.telling_is place.tree_is place.number_is seen place.rest_is follows);
+    begins = λ more begins. refused at.session.tree.nodes at.number command reason at.script more (refusal_under at.session.telling at.session.tree command cap ∙ some)
+        (begins_same later.session.telling at.session.telling later.session.tree.nodes at.session.tree.nodes later.number (at.number + 1) later.script at.script more
+        place.telling_is place.tree_is place.number_is place.rest_is begins);
   }
 
   pub begun_refused : (reason : EditRefusal) → command_refusal at.session.tree command ≡ Some reason → Beginning (in_front_of command at) (refused_line at.number reason ++ [])
-  begun_refused reason some = refused at.session.tree.nodes at.number command reason at.script [] (refusal_under at.session.plan at.session.tree command cap ∙ some)
+  begun_refused reason some = refused at.session.tree.nodes at.number command reason at.script [] (refusal_under at.session.telling at.session.tree command cap ∙ some)
       (nothing_yet at.session.tree.nodes (at.number + 1) at.script)
 
 -- a text that was written leads on, or a front of it was
@@ -191,88 +191,79 @@ goes_nowhere earlier later log = record {
 }
 
 -- what comes of an accepted command
-pub command_edited : (at later : Place) (command : Command) (session : Standing) (old new : SinkLog) (result : Result (Unit {0}) Stop) → at.session.tree.pair_cap ≡ pair_cap_for at.session.plan →
-    command_refusal at.session.tree command ≡ None → IsEdited at.session.tree.nodes command session.tree.nodes → session.plan ≡ at.session.plan →
-    WroteText {A = Unit {0}} old new (edit_line at.number ++ state_text session.plan session.tree.nodes) result →
-    later.session.plan ≡ session.plan → later.session.tree ≡ session.tree → later.number ≡ at.number + 1 → later.script ≡ at.script →
-    OnOk result (later.seen ≡ then_shown at.seen (shows session.plan session.tree.nodes)) → Goes {A = Unit {0}} (in_front_of command at) later old new result
-command_edited at later command session old new result cap none makes plan wrote plans trees numbers scripts seen =
-    goes_by {A = Unit {0}} (in_front_of command at) later old new (edit_line at.number ++ state_text at.session.plan session.tree.nodes) result (led result seen)
+pub command_edited : (at later : Place) (command : Command) (session : Document) (old new : SinkLog) (result : Result (Unit {0}) Stop) → at.session.tree.pair_cap ≡ at.session.telling.pair_cap →
+    command_refusal at.session.tree command ≡ None → IsEdited at.session.tree.nodes command session.tree.nodes → session.telling ≡ at.session.telling →
+    WroteText {A = Unit {0}} old new (edit_line at.number ++ session.telling.text session.tree.nodes) result →
+    later.session.telling ≡ session.telling → later.session.tree ≡ session.tree → later.number ≡ at.number + 1 → later.script ≡ at.script →
+    OnOk result (later.seen ≡ then_shown at.seen (session.telling.shows session.tree.nodes)) → Goes {A = Unit {0}} (in_front_of command at) later old new result
+command_edited at later command session old new result cap none makes telling wrote tellings trees numbers scripts seen =
+    goes_by {A = Unit {0}} (in_front_of command at) later old new (edit_line at.number ++ at.session.telling.text session.tree.nodes) result (led result seen)
     (begun_edited at later command cap session.tree.nodes none makes)
-    (subst (λ (p : Plan). WroteText {A = Unit {0}} old new (edit_line at.number ++ state_text p session.tree.nodes) result) plan wrote)
+    (subst (λ (p : Telling). WroteText {A = Unit {0}} old new (edit_line at.number ++ p.text session.tree.nodes) result) telling wrote)
   where
-    led : (result : Result (Unit {0}) Stop) → OnOk result (later.seen ≡ then_shown at.seen (shows session.plan session.tree.nodes)) →
-        OnOk result (IsLed (in_front_of command at) later (edit_line at.number ++ state_text at.session.plan session.tree.nodes))
+    led : (result : Result (Unit {0}) Stop) → OnOk result (later.seen ≡ then_shown at.seen (session.telling.shows session.tree.nodes)) →
+        OnOk result (IsLed (in_front_of command at) later (edit_line at.number ++ at.session.telling.text session.tree.nodes))
     led (Ok done) seen = led_edited at later command cap session.tree.nodes none makes
-        (record { plan_is = plans ∙ plan; tree_is = ap (λ (tree : Contents). tree.nodes) trees; number_is = numbers; rest_is = scripts })
-        (seen ∙ ap (λ (p : Plan). then_shown at.seen (shows p session.tree.nodes)) plan)
+        (record { telling_is = tellings ∙ telling; tree_is = ap (λ (tree : Contents). tree.nodes) trees; number_is = numbers; rest_is = scripts })
+        (seen ∙ ap (λ (p : Telling). then_shown at.seen (p.shows session.tree.nodes)) telling)
     led (Err stop) seen = tt
 
 -- and of a refused one
-pub command_refused : (at later : Place) (command : Command) (reason : EditRefusal) (old new : SinkLog) (result : Result (Unit {0}) Stop) → at.session.tree.pair_cap ≡ pair_cap_for at.session.plan →
+pub command_refused : (at later : Place) (command : Command) (reason : EditRefusal) (old new : SinkLog) (result : Result (Unit {0}) Stop) → at.session.tree.pair_cap ≡ at.session.telling.pair_cap →
     command_refusal at.session.tree command ≡ Some reason → WroteText {A = Unit {0}} old new (refused_line at.number reason) result →
-    later.session.plan ≡ at.session.plan → later.session.tree.nodes ≡ at.session.tree.nodes → later.number ≡ at.number + 1 → later.script ≡ at.script → later.seen ≡ at.seen →
+    later.session.telling ≡ at.session.telling → later.session.tree.nodes ≡ at.session.tree.nodes → later.number ≡ at.number + 1 → later.script ≡ at.script → later.seen ≡ at.seen →
     Goes {A = Unit {0}} (in_front_of command at) later old new result
-command_refused at later command reason old new result cap some wrote plans trees numbers scripts seen =
+command_refused at later command reason old new result cap some wrote tellings trees numbers scripts seen =
     goes_by {A = Unit {0}} (in_front_of command at) later old new (refused_line at.number reason) result (led result)
     (begun_refused at later command cap reason some) wrote
   where
     led : (result : Result (Unit {0}) Stop) → OnOk result (IsLed (in_front_of command at) later (refused_line at.number reason))
-    led (Ok done) = led_refused at later command cap reason some (record { plan_is = plans; tree_is = trees; number_is = numbers; rest_is = scripts }) seen
+    led (Ok done) = led_refused at later command cap reason some (record { telling_is = tellings; tree_is = trees; number_is = numbers; rest_is = scripts }) seen
     led (Err stop) = tt
 
 -- and of one that is not done
-pub command_undone : (at later : Place) (command : Command) (error : ApplyError) (old new : SinkLog) (result : Result (Unit {0}) Stop) → at.session.tree.pair_cap ≡ pair_cap_for at.session.plan →
+pub command_undone : (at later : Place) (command : Command) (error : ApplyError) (old new : SinkLog) (result : Result (Unit {0}) Stop) → at.session.tree.pair_cap ≡ at.session.telling.pair_cap →
     RefusesCommand at.session.tree command error → IsUndone at.number error old new result →
-    later.session.plan ≡ at.session.plan → later.session.tree.nodes ≡ at.session.tree.nodes → later.number ≡ at.number + 1 → later.script ≡ at.script → later.seen ≡ at.seen →
+    later.session.telling ≡ at.session.telling → later.session.tree.nodes ≡ at.session.tree.nodes → later.number ≡ at.number + 1 → later.script ≡ at.script → later.seen ≡ at.seen →
     Goes {A = Unit {0}} (in_front_of command at) later old new result
-command_undone at later command (apply.Refused reason) old new result cap some undone plans trees numbers scripts seen =
-    command_refused at later command reason old new result cap some undone.0 plans trees numbers scripts seen
-command_undone at later command apply.Memory old new result cap some undone plans trees numbers scripts seen =
+command_undone at later command (apply.Refused reason) old new result cap some undone tellings trees numbers scripts seen =
+    command_refused at later command reason old new result cap some undone.0 tellings trees numbers scripts seen
+command_undone at later command apply.Memory old new result cap some undone tellings trees numbers scripts seen =
     subst (λ (r : Result (Unit {0}) Stop). Goes {A = Unit {0}} (in_front_of command at) later old new r) (sym undone.0)
     (subst (λ (log : SinkLog). Goes {A = Unit {0}} (in_front_of command at) later old log (Err Memory)) (sym undone.1) (goes_nowhere (in_front_of command at) later old))
 
 -- what comes behind a command has its visits: where it is accepted
-pub costs_edited : (at session later : Standing) (command : Command) (rest left : Script) → OneEdit → at.tree.pair_cap ≡ pair_cap_for at.plan →
-    command_refusal at.tree command ≡ None → IsEdited at.tree.nodes command session.tree.nodes → session.plan ≡ at.plan →
-    later.plan ≡ session.plan → later.tree ≡ session.tree → left ≡ rest → HasCost at (onto command rest) → HasCost later left
-costs_edited at session later command rest left one_edit cap none makes plan plans trees scripts costs =
-    let more = past_edited at.plan one_edit at.tree.nodes session.tree.nodes command rest (refusal_under at.plan at.tree command cap ∙ none) makes costs in
-    (more.0, costs_same at.plan later.plan session.tree.nodes later.tree.nodes rest left more.0 (sym (plans ∙ plan)) (ap (λ (tree : Contents). tree.nodes) (sym trees)) (sym scripts) more.1)
+pub costs_edited : (at session later : Document) (command : Command) (rest left : Script) → OneEdit → at.tree.pair_cap ≡ at.telling.pair_cap →
+    command_refusal at.tree command ≡ None → IsEdited at.tree.nodes command session.tree.nodes → session.telling ≡ at.telling →
+    later.telling ≡ session.telling → later.tree ≡ session.tree → left ≡ rest → HasCost at (onto command rest) → HasCost later left
+costs_edited at session later command rest left one_edit cap none makes telling tellings trees scripts costs =
+    let more = past_edited at.telling one_edit at.tree.nodes session.tree.nodes command rest (refusal_under at.telling at.tree command cap ∙ none) makes costs in
+    (more.0, costs_same at.telling later.telling session.tree.nodes later.tree.nodes rest left more.0 (sym (tellings ∙ telling)) (ap (λ (tree : Contents). tree.nodes) (sym trees)) (sym scripts) more.1)
 
 -- and where it is refused
-pub costs_refused : (at later : Standing) (command : Command) (reason : EditRefusal) (rest left : Script) → at.tree.pair_cap ≡ pair_cap_for at.plan →
-    command_refusal at.tree command ≡ Some reason → later.plan ≡ at.plan → later.tree.nodes ≡ at.tree.nodes → left ≡ rest → HasCost at (onto command rest) → HasCost later left
-costs_refused at later command reason rest left cap some plans trees scripts costs =
-    let more = past_refused at.plan at.tree.nodes command reason rest (refusal_under at.plan at.tree command cap ∙ some) costs in
-    (more.0, costs_same at.plan later.plan at.tree.nodes later.tree.nodes rest left more.0 (sym plans) (sym trees) (sym scripts) more.1)
+pub costs_refused : (at later : Document) (command : Command) (reason : EditRefusal) (rest left : Script) → at.tree.pair_cap ≡ at.telling.pair_cap →
+    command_refusal at.tree command ≡ Some reason → later.telling ≡ at.telling → later.tree.nodes ≡ at.tree.nodes → left ≡ rest → HasCost at (onto command rest) → HasCost later left
+costs_refused at later command reason rest left cap some tellings trees scripts costs =
+    let more = past_refused at.telling at.tree.nodes command reason rest (refusal_under at.telling at.tree command cap ∙ some) costs in
+    (more.0, costs_same at.telling later.telling at.tree.nodes later.tree.nodes rest left more.0 (sym tellings) (sym trees) (sym scripts) more.1)
 
 -- the next place is ready too
-pub ready_after : (at later : Place) (command : Command) → IsReady (in_front_of command at) → later.session.tree.pair_cap ≡ at.session.tree.pair_cap → later.session.plan ≡ at.session.plan →
-    later.number ≡ at.number + 1 → later.script ≡ at.script → HasCost later.session later.script → IsEvaluated later.session → IsReady later
-ready_after at later command ready caps plans numbers scripts costs fresh = record {
-  cap = caps ∙ ready.cap ∙ ap pair_cap_for (sym plans);
+pub ready_after : (at later : Place) (command : Command) → IsReady (in_front_of command at) → later.session.tree.pair_cap ≡ at.session.tree.pair_cap → later.session.telling ≡ at.session.telling →
+    later.number ≡ at.number + 1 → later.script ≡ at.script → HasCost later.session later.script → IsReady later
+ready_after at later command ready caps tellings numbers scripts costs = record {
+  cap = caps ∙ ready.cap ∙ ap (λ (t : Telling). t.pair_cap) (sym tellings);
   few =
       let length_is : length later.script.commands ≡ length at.script.commands = ap (λ (s : Script). length s.commands) scripts in
       omega (arith, ready.few, numbers, length_is);
   costs = costs;
-  fresh = fresh;
 }
-
--- where the state behind it is written
-pub ready_written : (at later : Place) (command : Command) (result : Result (Unit {0}) Stop) → IsReady (in_front_of command at) → later.session.tree.pair_cap ≡ at.session.tree.pair_cap →
-    later.session.plan ≡ at.session.plan → later.number ≡ at.number + 1 → later.script ≡ at.script → HasCost later.session later.script →
-    OnOk result (IsEvaluated later.session) → OnOk result (IsReady later)
-ready_written at later command (Ok done) ready caps plans numbers scripts costs fresh = ready_after at later command ready caps plans numbers scripts costs fresh
-ready_written at later command (Err stop) ready caps plans numbers scripts costs fresh = tt
 
 -- behind one that is not done
 pub ready_undone : (at later : Place) (command : Command) (error : ApplyError) (old new : SinkLog) (result : Result (Unit {0}) Stop) → IsReady (in_front_of command at) →
     RefusesCommand at.session.tree command error → IsUndone at.number error old new result → later.session ≡ at.session → later.number ≡ at.number + 1 → later.script ≡ at.script → OnOk result (IsReady later)
 ready_undone at later command (apply.Refused reason) old new result ready some undone sessions numbers scripts =
-    on_ok (IsReady later) result (ready_after at later command ready (ap (λ (s : Standing). s.tree.pair_cap) sessions) (ap (λ (s : Standing). s.plan) sessions) numbers scripts
-    (costs_refused at.session later.session command reason at.script later.script ready.cap some (ap (λ (s : Standing). s.plan) sessions) (ap (λ (s : Standing). s.tree.nodes) sessions) scripts ready.costs)
-    (subst IsEvaluated (sym sessions) ready.fresh))
+    on_ok (IsReady later) result (ready_after at later command ready (ap (λ (s : Document). s.tree.pair_cap) sessions) (ap (λ (s : Document). s.telling) sessions) numbers scripts
+    (costs_refused at.session later.session command reason at.script later.script ready.cap some (ap (λ (s : Document). s.telling) sessions) (ap (λ (s : Document). s.tree.nodes) sessions) scripts ready.costs))
 ready_undone at later command apply.Memory old new result ready some undone sessions numbers scripts =
     subst (λ (r : Result (Unit {0}) Stop). OnOk r (IsReady later)) (sym undone.0) tt
 
@@ -296,16 +287,16 @@ led_on a b c text more first next = record {
 }
 
 -- the place in front of the next command is the one that was come to
-pub led_same : (earlier later rest : Place) (command : Command) (text : List ℕ) → IsPlace later rest.session.plan rest.session.tree.nodes rest.number (onto command rest.script) → later.seen ≡ rest.seen →
+pub led_same : (earlier later rest : Place) (command : Command) (text : List ℕ) → IsPlace later rest.session.telling rest.session.tree.nodes rest.number (onto command rest.script) → later.seen ≡ rest.seen →
     IsLed earlier later text → IsLed earlier (in_front_of command rest) text
 led_same earlier later rest command text place seen led = record {
-  ends = λ output follows. led.ends output (follows_same rest.session.plan later.session.plan rest.session.tree.nodes later.session.tree.nodes rest.number later.number rest.seen later.seen
-      (onto command rest.script) later.script output (sym place.plan_is) (sym place.tree_is) (sym place.number_is) (sym seen) (sym place.rest_is) follows);
-  begins = λ more begins. led.begins more (begins_same rest.session.plan later.session.plan rest.session.tree.nodes later.session.tree.nodes rest.number later.number
-      (onto command rest.script) later.script more (sym place.plan_is) (sym place.tree_is) (sym place.number_is) (sym place.rest_is) begins);
+  ends = λ output follows. led.ends output (follows_same rest.session.telling later.session.telling rest.session.tree.nodes later.session.tree.nodes rest.number later.number rest.seen later.seen
+      (onto command rest.script) later.script output (sym place.telling_is) (sym place.tree_is) (sym place.number_is) (sym seen) (sym place.rest_is) follows);
+  begins = λ more begins. led.begins more (begins_same rest.session.telling later.session.telling rest.session.tree.nodes later.session.tree.nodes rest.number later.number
+      (onto command rest.script) later.script more (sym place.telling_is) (sym place.tree_is) (sym place.number_is) (sym place.rest_is) begins);
 }
 
-pub come_before : (earlier later rest : Place) (command : Command) (old new : SinkLog) → IsPlace later rest.session.plan rest.session.tree.nodes rest.number (onto command rest.script) → later.seen ≡ rest.seen →
+pub come_before : (earlier later rest : Place) (command : Command) (old new : SinkLog) → IsPlace later rest.session.telling rest.session.tree.nodes rest.number (onto command rest.script) → later.seen ≡ rest.seen →
     HasCome earlier later old new → HasCome earlier (in_front_of command rest) old new
 come_before earlier later rest command old new place seen come = record { text = come.text; led = led_same earlier later rest command come.text place seen come.led; out = come.out }
 
@@ -324,7 +315,7 @@ next_command next command old new is says = subst (λ (n : Option Command). IfSo
 pub come_to_next : (earlier later : Place) (rest : Script) (next : Option Command) (command : Command) (old new : SinkLog) → next ≡ Some command → IfSome next (λ c. later.script ≡ onto c rest) →
     HasCome earlier later old new → HasCome earlier (in_front_of command (record later { script = rest })) old new
 come_to_next earlier later rest next command old new is says come = come_before earlier later (record later { script = rest }) command old new
-    (record { plan_is = refl; tree_is = refl; number_is = refl; rest_is = next_command next command later.script rest is says }) refl come
+    (record { telling_is = refl; tree_is = refl; number_is = refl; rest_is = next_command next command later.script rest is says }) refl come
 
 -- the script is at its end where there is none
 pub no_next : (next : Option Command) (left : Script) (Stays : Type 0) → ((command : Command) → next ≡ Some command → ⊥) → IfNone next ((left ≡ nothing) × Stays) → left ≡ nothing
@@ -342,7 +333,7 @@ pub rest_ends : (earlier later : Place) (old mid : SinkLog) → HasCome earlier 
     Concludes (Ending earlier) (λ _. ⊥) (Beginning earlier) (Appends old.written mid.written) (Ok later.seen)
 rest_ends earlier later old mid come none = comes_to_conclude earlier later old mid mid come (Ok later.seen) (record {
   output = ended [] later.seen;
-  may_be = subst (λ (s : Script). Follows later.session.plan later.session.tree.nodes later.number later.seen s (ended [] later.seen)) (sym none)
+  may_be = subst (λ (s : Script). Follows later.session.telling later.session.tree.nodes later.number later.seen s (ended [] later.seen)) (sym none)
       (comes_to_end later.session.tree.nodes later.number later.seen);
   ends_so = refl;
   err_is = refl;
@@ -358,7 +349,7 @@ rest_stops earlier later old mid come error stop result is says found = subst (C
     by : (error : ScriptError) → IfFault (λ found. later.script ≡ stops found) error → Concludes (Ending later) (λ _. ⊥) (Beginning later) (Appends mid.written mid.written) (Err (of_script error))
     by (script.Fault fault) found = record {
       output = stopped_by (ScriptRefused (refusal.Faulted fault));
-      may_be = subst (λ (s : Script). Follows later.session.plan later.session.tree.nodes later.number later.seen s (stopped_by (ScriptRefused (refusal.Faulted fault)))) (sym found)
+      may_be = subst (λ (s : Script). Follows later.session.telling later.session.tree.nodes later.number later.seen s (stopped_by (ScriptRefused (refusal.Faulted fault)))) (sym found)
           (stops_at later.session.tree.nodes later.number later.seen fault);
       ends_so = refl;
       err_is = refl;
@@ -401,38 +392,38 @@ goes_faults before later mid new count stop result is same next = subst (λ (r :
 -- The first state
 
 -- the first state is not written whole
-pub first_stops : (plan : Plan) (T : Table) (bytes : List ℕ) (old new : SinkLog) (stop : Stop) (result : Result Shown Stop) → result ≡ Err stop →
-    WroteText {A = Shown} old new (state_text plan T) (Err stop) → Concludes (States plan T bytes) (λ _. ⊥) (BeginsStates plan T bytes) (Appends old.written new.written) result
-first_stops plan T bytes old new stop result is wrote = subst (Concludes (States plan T bytes) (λ _. ⊥) (BeginsStates plan T bytes) (Appends old.written new.written)) (sym is)
-    (by_cause (λ _. ⊥) (λ says. Shows (States plan T bytes) (Appends old.written new.written) says.ends says.err) (λ _. ⊥) (λ name. ⊥ × Appends old.written new.written [])
-    (AppendsFront old.written new.written (state_text plan T)) (Fronted (BeginsStates plan T bytes) (Appends old.written new.written))
-    (AppendsFront old.written new.written (state_text plan T)) (Appends old.written new.written [] ⊎ Fronted (BeginsStates plan T bytes) (Appends old.written new.written))
+pub first_stops : (telling : Telling) (T : Table) (bytes : List ℕ) (old new : SinkLog) (stop : Stop) (result : Result Shown Stop) → result ≡ Err stop →
+    WroteText {A = Shown} old new (telling.text T) (Err stop) → Concludes (States telling T bytes) (λ _. ⊥) (BeginsStates telling T bytes) (Appends old.written new.written) result
+first_stops telling T bytes old new stop result is wrote = subst (Concludes (States telling T bytes) (λ _. ⊥) (BeginsStates telling T bytes) (Appends old.written new.written)) (sym is)
+    (by_cause (λ _. ⊥) (λ says. Shows (States telling T bytes) (Appends old.written new.written) says.ends says.err) (λ _. ⊥) (λ name. ⊥ × Appends old.written new.written [])
+    (AppendsFront old.written new.written (telling.text T)) (Fronted (BeginsStates telling T bytes) (Appends old.written new.written))
+    (AppendsFront old.written new.written (telling.text T)) (Appends old.written new.written [] ⊎ Fronted (BeginsStates telling T bytes) (Appends old.written new.written))
     (λ stop no. absurd no) (λ name no. absurd no) front (λ appended. inr (front appended)) stop wrote.told)
   where
-    front : AppendsFront old.written new.written (state_text plan T) → Fronted (BeginsStates plan T bytes) (Appends old.written new.written)
+    front : AppendsFront old.written new.written (telling.text T) → Fronted (BeginsStates telling T bytes) (Appends old.written new.written)
     front appended = record {
-      text = state_text plan T ++ [];
+      text = telling.text T ++ [];
       comes = ([], nothing_yet T 1 (script_of bytes), refl);
       done = appended.0;
       left = appended.1;
-      is_front = append-nil (state_text plan T) ∙ appended.2;
+      is_front = append-nil (telling.text T) ∙ appended.2;
       out = appended.3;
     }
 
 -- and behind it stands what comes of the commands
-pub first_then : (plan : Plan) (T : Table) (bytes : List ℕ) (old mid new : SinkLog) (first : Place) → IsPlace first plan T 1 (script_of bytes) → first.seen ≡ shows plan T →
-    Appends old.written mid.written (state_text plan T) → (result : Result Shown Stop) →
-    Concludes (Ending first) (λ _. ⊥) (Beginning first) (Appends mid.written new.written) result → Concludes (States plan T bytes) (λ _. ⊥) (BeginsStates plan T bytes) (Appends old.written new.written) result
-first_then plan T bytes old mid new first place seen out = concludes_behind (Ending first) (States plan T bytes) (Beginning first) (BeginsStates plan T bytes) old.written mid.written new.written (state_text plan T) out
+pub first_then : (telling : Telling) (T : Table) (bytes : List ℕ) (old mid new : SinkLog) (first : Place) → IsPlace first telling T 1 (script_of bytes) → first.seen ≡ telling.shows T →
+    Appends old.written mid.written (telling.text T) → (result : Result Shown Stop) →
+    Concludes (Ending first) (λ _. ⊥) (Beginning first) (Appends mid.written new.written) result → Concludes (States telling T bytes) (λ _. ⊥) (BeginsStates telling T bytes) (Appends old.written new.written) result
+first_then telling T bytes old mid new first place seen out = concludes_behind (Ending first) (States telling T bytes) (Beginning first) (BeginsStates telling T bytes) old.written mid.written new.written (telling.text T) out
     (λ output follows. (
       output,
-      follows_same first.session.plan plan first.session.tree.nodes T first.number 1 first.seen (shows plan T) first.script (script_of bytes) output
-          place.plan_is place.tree_is place.number_is seen place.rest_is follows,
+      follows_same first.session.telling telling first.session.tree.nodes T first.number 1 first.seen (telling.shows T) first.script (script_of bytes) output
+          place.telling_is place.tree_is place.number_is seen place.rest_is follows,
       refl,
     ))
     (λ more begins. (
       more,
-      begins_same first.session.plan plan first.session.tree.nodes T first.number 1 first.script (script_of bytes) more place.plan_is place.tree_is place.number_is place.rest_is begins,
+      begins_same first.session.telling telling first.session.tree.nodes T first.number 1 first.script (script_of bytes) more place.telling_is place.tree_is place.number_is place.rest_is begins,
       refl,
     ))
     ([], nothing_yet T 1 (script_of bytes), refl)

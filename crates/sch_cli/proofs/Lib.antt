@@ -9,3 +9,4 @@ pub mod ScriptCases
 pub mod SessionLemmas
 pub mod StepLemmas
 pub mod MeasureLemmas
+pub mod WatchLemmas

@@ -42,11 +42,12 @@ use Rattle.sch_cli.specs.Following.{Follows, comes_to_end, stops_at, then_shown}
 use Rattle.sch_cli.specs.Measuring.{LeadsTo, measure_text, measured_as, past_edited, past_refused, to_a_fault, to_the_end}
 use Rattle.sch_cli.specs.Output.{ended, in_front, status_shown}
 use Rattle.sch_cli.specs.Steps.{CountsAtMost}
+use Rattle.sch_cli.specs.Telling.{Telling, by_plan}
 use Rattle.sch_cli.specs.inner.Carried.{Concludes}
 use Rattle.sch_cli.specs.inner.Counts.{CountsAlong, RoseFor}
 use Rattle.sch_cli.specs.inner.Followers.{Ending, Place, in_front_of, scripted_by}
 use Rattle.sch_cli.specs.inner.Measurers.{ConcludesMeasure, IsUnderWay, Moved, MovesTo, RestMeasured, StopsAt, is_fault, measured_of, place_at, text_of_both}
-use Rattle.sch_cli.specs.inner.Sessions.{HasCost, IsEvaluated, ScriptCost, next_cost}
+use Rattle.sch_cli.specs.inner.Sessions.{Document, HasCost, IsEvaluated, LeavesDirty, ScriptCost, document_of, next_cost}
 use Rattle.sch_cli.specs.inner.Writing.{IsOfWriting, WroteText}
 use Rattle.sch_cli.specs.declared.following.Scripted.{Scripted}
 use Rattle.sch_cli.specs.declared.measuring.Measured.{Measured}
@@ -54,7 +55,7 @@ use Rattle.sch_cli.specs.declared.measuring.Measurer.{Measurer}
 use Rattle.sch_cli.proofs.EndLemmas.{text_ends}
 use Rattle.sch_cli.proofs.FollowLemmas.{IsPlace, follows_same, led_edited, led_on, led_refused, led_same, next_command, refusal_under}
 use Rattle.sch_cli.proofs.StepLemmas.{ahead_none, ahead_on, costed_edited, costed_on, costed_refused, costed_to_next, not_costed}
-use Rattle.sch_cli.proofs.SessionLemmas.{RunsDirty}
+use Rattle.sch_cli.proofs.SessionLemmas.{RunsDirty, leaves-dirty}
 
 -- Faults among what is shown
 
@@ -77,11 +78,11 @@ then-fault Findings next = refl
 
 -- The documents that commands make
 
-leads-same : (plan other : Plan) (T V U : Table) (script rest : Script) → plan ≡ other → T ≡ V → script ≡ rest → LeadsTo plan T script U → LeadsTo other V rest U
-leads-same plan other T V U script rest plans trees scripts leads =
+leads-same : (telling other : Telling) (T V U : Table) (script rest : Script) → telling ≡ other → T ≡ V → script ≡ rest → LeadsTo telling T script U → LeadsTo other V rest U
+leads-same telling other T V U script rest tellings trees scripts leads =
     subst (λ (s : Script). LeadsTo other V s U) scripts
     (subst (λ (X : Table). LeadsTo other X script U) trees
-    (subst (λ (p : Plan). LeadsTo p T script U) plans leads))
+    (subst (λ (p : Telling). LeadsTo p T script U) tellings leads))
 
 -- From place to place
 
@@ -107,43 +108,43 @@ pub moved-to-next : (earlier later : Place) (rest : Script) (next : Option Edit)
 moved-to-next earlier later rest next command before after is says moved = record {
   text = moved.text;
   led = led_same earlier later (record later { script = rest }) command moved.text
-      (record { plan_is = refl; tree_is = refl; number_is = refl; rest_is = next_command next command later.script rest is says }) refl moved.led;
-  leads = λ U leads. moved.leads U (leads-same later.session.plan later.session.plan later.session.tree.nodes later.session.tree.nodes U (onto command rest) later.script refl refl
+      (record { telling_is = refl; tree_is = refl; number_is = refl; rest_is = next_command next command later.script rest is says }) refl moved.led;
+  leads = λ U leads. moved.leads U (leads-same later.session.telling later.session.telling later.session.tree.nodes later.session.tree.nodes U (onto command rest) later.script refl refl
       (sym (next_command next command later.script rest is says)) leads);
   costed = costed_to_next earlier later rest next command before after is says moved.costed;
 }
 
 -- an accepted command leads on
-pub moved-edited : (at later : Place) (command : Edit) (session : Standing) (before after : ℕ) → at.session.tree.pair_cap ≡ pair_cap_for at.session.plan →
+pub moved-edited : (at later : Place) (command : Edit) (session : Document) (before after : ℕ) → at.session.tree.pair_cap ≡ at.session.telling.pair_cap →
     command_refusal at.session.tree command ≡ None → IsEdited at.session.tree.nodes command session.tree.nodes →
-    session.plan ≡ at.session.plan → RunsDirty at.session.plan at.session.tree.nodes command session →
-    later.session.plan ≡ session.plan → later.session.tree ≡ session.tree → later.number ≡ at.number + 1 → later.script ≡ at.script → later.seen ≡ then_shown at.seen (shows session.plan session.tree.nodes) →
-    RoseFor (next_cost session) before after (shows session.plan session.tree.nodes) → Moved (in_front_of command at) later before after
-moved-edited at later command session before after cap none makes plan dirty plans trees numbers scripts seen rose =
+    session.telling ≡ at.session.telling → LeavesDirty at.session command session →
+    later.session.telling ≡ session.telling → later.session.tree ≡ session.tree → later.number ≡ at.number + 1 → later.script ≡ at.script → later.seen ≡ then_shown at.seen (session.telling.shows session.tree.nodes) →
+    RoseFor (session.next) before after (session.telling.shows session.tree.nodes) → Moved (in_front_of command at) later before after
+moved-edited at later command session before after cap none makes telling dirty tellings trees numbers scripts seen rose =
     let tables = ap (λ (tree : Contents). tree.nodes) trees in
     record {
       text = _;
       led = led_edited at later command cap session.tree.nodes none makes
-          (record { plan_is = plans ∙ plan; tree_is = tables; number_is = numbers; rest_is = scripts })
-          (seen ∙ ap (λ (p : Plan). then_shown at.seen (shows p session.tree.nodes)) plan);
-      leads = λ U leads. past_edited at.session.tree.nodes session.tree.nodes U command at.script (refusal_under at.session.plan at.session.tree command cap ∙ none) makes
-          (leads-same later.session.plan at.session.plan later.session.tree.nodes session.tree.nodes U later.script at.script (plans ∙ plan) tables scripts leads);
-      costed = costed_edited at later command session before after cap none makes plan dirty plans trees scripts seen rose;
+          (record { telling_is = tellings ∙ telling; tree_is = tables; number_is = numbers; rest_is = scripts })
+          (seen ∙ ap (λ (p : Telling). then_shown at.seen (p.shows session.tree.nodes)) telling);
+      leads = λ U leads. past_edited at.session.tree.nodes session.tree.nodes U command at.script (refusal_under at.session.telling at.session.tree command cap ∙ none) makes
+          (leads-same later.session.telling at.session.telling later.session.tree.nodes session.tree.nodes U later.script at.script (tellings ∙ telling) tables scripts leads);
+      costed = costed_edited at later command session before after cap none makes telling dirty tellings trees scripts seen rose;
     }
 
 -- and so does a refused one
-pub moved-refused : (at later : Place) (command : Edit) (reason : EditRefusal) (count : ℕ) → at.session.tree.pair_cap ≡ pair_cap_for at.session.plan →
+pub moved-refused : (at later : Place) (command : Edit) (reason : EditRefusal) (count : ℕ) → at.session.tree.pair_cap ≡ at.session.telling.pair_cap →
     command_refusal at.session.tree command ≡ Some reason → later.session ≡ at.session → later.number ≡ at.number + 1 → later.script ≡ at.script → later.seen ≡ at.seen →
     Moved (in_front_of command at) later count count
 moved-refused at later command reason count cap some sessions numbers scripts seen =
-    let plans = ap (λ (s : Standing). s.plan) sessions in
-    let tables = ap (λ (s : Standing). s.tree.nodes) sessions in
+    let tellings = ap (λ (s : Document). s.telling) sessions in
+    let tables = ap (λ (s : Document). s.tree.nodes) sessions in
     record {
       text = _;
-      led = led_refused at later command cap reason some (record { plan_is = plans; tree_is = tables; number_is = numbers; rest_is = scripts }) seen;
-      leads = λ U leads. past_refused at.session.tree.nodes U command reason at.script (refusal_under at.session.plan at.session.tree command cap ∙ some)
-          (leads-same later.session.plan at.session.plan later.session.tree.nodes at.session.tree.nodes U later.script at.script plans tables scripts leads);
-      costed = costed_refused at later command reason count cap some plans tables scripts seen;
+      led = led_refused at later command cap reason some (record { telling_is = tellings; tree_is = tables; number_is = numbers; rest_is = scripts }) seen;
+      leads = λ U leads. past_refused at.session.tree.nodes U command reason at.script (refusal_under at.session.telling at.session.tree command cap ∙ some)
+          (leads-same later.session.telling at.session.telling later.session.tree.nodes at.session.tree.nodes U later.script at.script tellings tables scripts leads);
+      costed = costed_refused at later command reason count cap some tellings tables scripts seen;
     }
 
 -- Commands, as a measurer does them
@@ -159,8 +160,8 @@ pub moves-edited : (at : Measurer) (later : Measurer) (command : Edit) (session 
 moves-edited at later command session before after cap none makes plan dirty plans trees scripts faulted rose number seen is = record {
   number = number + 1;
   seen = then_shown seen (shows session.plan session.tree.nodes);
-  moved = moved-edited (place_at at number seen) (place_at later (number + 1) (then_shown seen (shows session.plan session.tree.nodes))) command session before after
-      cap none makes plan dirty plans trees refl (ap script_left scripts) refl rose;
+  moved = moved-edited (place_at at number seen) (place_at later (number + 1) (then_shown seen (shows session.plan session.tree.nodes))) command (document_of session) before after
+      cap none makes (ap by_plan plan) (leaves-dirty at.session command session plan dirty) (ap by_plan plans) trees refl (ap script_left scripts) refl rose;
   faulted = faulted ∙ ap (λ (b : Bool). b || is_some (first_fault session.plan session.tree.nodes)) is
       ∙ ap (λ (b : Bool). is_fault seen || b) (sym (shows-fault session.plan session.tree.nodes))
       ∙ sym (then-fault seen (shows session.plan session.tree.nodes));
@@ -184,7 +185,7 @@ pub moves-refused : (at later : Measurer) (command : Edit) (reason : EditRefusal
 moves-refused at later command reason count cap some sessions scripts faulted number seen is = record {
   number = number + 1;
   seen = seen;
-  moved = moved-refused (place_at at number seen) (place_at later (number + 1) seen) command reason count cap some sessions refl (ap script_left scripts) refl;
+  moved = moved-refused (place_at at number seen) (place_at later (number + 1) seen) command reason count cap some (ap document_of sessions) refl (ap script_left scripts) refl;
   faulted = faulted ∙ is;
 }
 
@@ -207,7 +208,7 @@ moves-next first at later mid next command before start after number seen is say
 
 -- the script has a fault, or memory runs out in front of a command
 pub stops-there : (first at later : Measurer) (before after : ℕ) (number : ℕ) (seen : Shown) (error : ScriptError) (stop : Stop) (result : Result (Unit {0}) Stop) → result ≡ Err stop → stop ≡ of_script error →
-    IfFault (λ found. script_left at.script ≡ stops found) error → HasCost at.session (script_left at.script) → MovesTo (place_at first number seen) at before after →
+    IfFault (λ found. script_left at.script ≡ stops found) error → HasCost (document_of at.session) (script_left at.script) → MovesTo (place_at first number seen) at before after →
     RestMeasured (place_at first number seen) later before after result
 stops-there first at later before after number seen error stop result is says found costs so_far =
     let there = place_at at so_far.number so_far.seen in
@@ -221,7 +222,7 @@ stops-there first at later before after number seen error stop result is says fo
 -- memory runs out at a command
 pub stops-for-memory : (first at later : Measurer) (mid : Script) (next : Option Edit) (command : Edit) (before start after : ℕ) (number : ℕ) (seen : Shown) (stop : Stop) (result : Result (Unit {0}) Stop) →
     result ≡ Err stop → stop ≡ Memory → next ≡ Some command → IfSome next (λ c. script_left at.script ≡ onto c mid) → MovesTo (place_at first number seen) at before start →
-    CountsAtMost (ScriptCost at.session (onto command mid)) start after → RestMeasured (place_at first number seen) later before after result
+    CountsAtMost (ScriptCost (document_of at.session) (onto command mid)) start after → RestMeasured (place_at first number seen) later before after result
 stops-for-memory first at later mid next command before start after number seen stop result is memory some says so_far ahead =
     let there = place_at at so_far.number so_far.seen in
     subst (RestMeasured (place_at first number seen) later before after) (sym is) (
@@ -233,42 +234,42 @@ stops-for-memory first at later mid next command before start after number seen 
     )
 
 -- the script in front of a command that is next has its visits
-pub costs-next : (session : Standing) (script mid : Script) (next : Option Edit) (command : Edit) → next ≡ Some command → IfSome next (λ c. script ≡ onto c mid) → HasCost session script →
+pub costs-next : (session : Document) (script mid : Script) (next : Option Edit) (command : Edit) → next ≡ Some command → IfSome next (λ c. script ≡ onto c mid) → HasCost session script →
     HasCost session (onto command mid)
 costs-next session script mid next command is says = subst (HasCost session) (next_command next command script mid is says)
 
 -- The whole
 
 -- what comes of following the script, once it was gone through or has a fault
-module _ (plan : Plan) (T : Table) (bytes : List ℕ) (first : Place) (place : IsPlace first plan T 1 (script_of bytes)) (seen : first.seen ≡ shows plan T) where
-  followed : (later : Place) (before after : ℕ) (moved : Moved first later before after) (output : Output) → Ending later output → States plan T bytes (in_front (state_text plan T) (in_front moved.text output))
+module _ (plan : Plan) (T : Table) (bytes : List ℕ) (first : Place) (place : IsPlace first (by_plan plan) T 1 (script_of bytes)) (seen : first.seen ≡ shows plan T) where
+  followed : (later : Place) (before after : ℕ) (moved : Moved first later before after) (output : Output) → Ending later output → States (by_plan plan) T bytes (in_front (state_text plan T) (in_front moved.text output))
   followed later before after moved output ends = (
     in_front moved.text output,
-    follows_same first.session.plan plan first.session.tree.nodes T first.number 1 first.seen (shows plan T) first.script (script_of bytes) (in_front moved.text output)
-        place.plan_is place.tree_is place.number_is seen place.rest_is (moved.led.ends output ends),
+    follows_same first.session.telling (by_plan plan) first.session.tree.nodes T first.number 1 first.seen (shows plan T) first.script (script_of bytes) (in_front moved.text output)
+        place.telling_is place.tree_is place.number_is seen place.rest_is (moved.led.ends output ends),
     refl,
   )
 
-  led-to : (later : Place) (before after : ℕ) (moved : Moved first later before after) → LeadsTo later.session.plan later.session.tree.nodes later.script later.session.tree.nodes →
-      LeadsTo plan T (script_of bytes) later.session.tree.nodes
+  led-to : (later : Place) (before after : ℕ) (moved : Moved first later before after) → LeadsTo later.session.telling later.session.tree.nodes later.script later.session.tree.nodes →
+      LeadsTo (by_plan plan) T (script_of bytes) later.session.tree.nodes
   led-to later before after moved leads =
-      leads-same first.session.plan plan first.session.tree.nodes T later.session.tree.nodes first.script (script_of bytes) place.plan_is place.tree_is place.rest_is
+      leads-same first.session.telling (by_plan plan) first.session.tree.nodes T later.session.tree.nodes first.script (script_of bytes) place.telling_is place.tree_is place.rest_is
       (moved.leads later.session.tree.nodes leads)
 
   -- the script was gone through
   pub measure-told : (later : Place) (before after : ℕ) (old new : SinkLog) (faulted : Bool) (a b : Measured) (result : Result Shown Stop) → Moved first later before after → later.script ≡ nothing →
-      later.session.plan ≡ plan → faulted ≡ is_fault later.seen → a ≡ measured_of plan T → b ≡ measured_of later.session.plan later.session.tree.nodes →
+      faulted ≡ is_fault later.seen → a ≡ measured_of plan T → b ≡ measured_of plan later.session.tree.nodes →
       ConcludesMeasure faulted old new (text_of_both a b) result → Concludes (Measures plan T bytes) (λ _. ⊥) (MeasuresText plan T bytes) (Appends old.written new.written) result
-  measure-told later before after old new faulted a b result moved none plans is a_is b_is concludes =
+  measure-told later before after old new faulted a b result moved none is a_is b_is concludes =
       by later.seen
       (record {
         followed = _;
         states = followed later before after moved (ended [] later.seen)
-            (subst (λ (s : Script). Follows later.session.plan later.session.tree.nodes later.number later.seen s (ended [] later.seen)) (sym none)
+            (subst (λ (s : Script). Follows later.session.telling later.session.tree.nodes later.number later.seen s (ended [] later.seen)) (sym none)
             (comes_to_end later.session.tree.nodes later.number later.seen));
         last = later.session.tree.nodes;
         leads = led-to later before after moved
-            (subst (λ (s : Script). LeadsTo later.session.plan later.session.tree.nodes s later.session.tree.nodes) (sym none) (to_the_end later.session.tree.nodes));
+            (subst (λ (s : Script). LeadsTo later.session.telling later.session.tree.nodes s later.session.tree.nodes) (sym none) (to_the_end later.session.tree.nodes));
         is = refl;
       })
       (subst (λ (t : Bool). ConcludesMeasure t old new text result) is (subst (λ (t : List ℕ). ConcludesMeasure faulted old new t result) text_is concludes))
@@ -278,7 +279,7 @@ module _ (plan : Plan) (T : Table) (bytes : List ℕ) (first : Place) (place : I
 
       text_is : text_of_both a b ≡ text
       text_is = ap (λ (m : Measured). text_of_both m b) a_is
-          ∙ ap (text_of_both (measured_of plan T)) (b_is ∙ ap (λ (p : Plan). measured_of p later.session.tree.nodes) plans)
+          ∙ ap (text_of_both (measured_of plan T)) b_is
 
       by : (shown : Shown) → Measures plan T bytes (measured_as (status_shown shown) text (in_front (state_text plan T) (in_front moved.text (ended [] shown)))) →
           ConcludesMeasure (is_fault shown) old new text result → Concludes (Measures plan T bytes) (λ _. ⊥) (MeasuresText plan T bytes) (Appends old.written new.written) result
@@ -305,11 +306,11 @@ module _ (plan : Plan) (T : Table) (bytes : List ℕ) (first : Place) (place : I
         may_be = record {
           followed = _;
           states = followed at.later before after at.moved (stopped_by (ScriptRefused (refusal.Faulted fault)))
-              (subst (λ (s : Script). Follows at.later.session.plan at.later.session.tree.nodes at.later.number at.later.seen s (stopped_by (ScriptRefused (refusal.Faulted fault)))) (sym at.stopped)
+              (subst (λ (s : Script). Follows at.later.session.telling at.later.session.tree.nodes at.later.number at.later.seen s (stopped_by (ScriptRefused (refusal.Faulted fault)))) (sym at.stopped)
               (stops_at at.later.session.tree.nodes at.later.number at.later.seen fault));
           last = at.later.session.tree.nodes;
           leads = led-to at.later before after at.moved
-              (subst (λ (s : Script). LeadsTo at.later.session.plan at.later.session.tree.nodes s at.later.session.tree.nodes) (sym at.stopped) (to_a_fault at.later.session.tree.nodes fault));
+              (subst (λ (s : Script). LeadsTo at.later.session.telling at.later.session.tree.nodes s at.later.session.tree.nodes) (sym at.stopped) (to_a_fault at.later.session.tree.nodes fault));
           is = refl;
         };
         ends_so = refl;

@@ -31,7 +31,6 @@ use Rattle.sch_compiled.specs.declared.plan.Plan.{Plan}
 use Rattle.sch_plan.specs.Compiled.{compiled}
 use Rattle.sch_plan.specs.OnePlan.{OnePlan}
 use Rattle.edit_session.specs.Pairs.{has_too_many_pairs}
-use Rattle.edit_session.specs.State.{shows, state_text}
 use Rattle.edit_session.specs.declared.state.Shown.{Shown}
 use Rattle.sch_stops.specs.declared.refusal.FileRefusal.TheVariants.{TooLarge}
 use Rattle.sch_stops.specs.declared.refusal.ScriptRefusal.TheVariants as script
@@ -39,13 +38,18 @@ use Rattle.sch_words.specs.declared.status.Status.TheVariants.{ScriptRefused, Us
 use Rattle.sch_stops.specs.Refusals.{script_refused_line}
 use Rattle.sch_measure.specs.Shelf.{measure_files}
 use Rattle.sch_measure.specs.declared.shelf.TheConstants.{SCHEMA_NAME, DOCUMENT_NAME, SCRIPT_NAME}
-use Rattle.sch_cli.specs.Behaviours.{Any, Apart, IsEnd, IsOutput, Making, Measures, Opening, OpeningAll, States, Treeing, asked_by, behaviour, too_many_pairs, tree_under}
+use Rattle.xp_typed_tree.specs.TypedTree.{TypedTree}
+use Rattle.watch_lines.specs.Watches.{WatchesAre}
+use Rattle.watch_lines_laws.specs.Reading.{OneReading}
+use Rattle.sch_stops.specs.declared.watches.WatchesRefusal.TheVariants as watches
+use Rattle.sch_cli.specs.Telling.{Telling, by_plan, by_watches}
+use Rattle.sch_cli.specs.Behaviours.{Any, Apart, IsEnd, IsOutput, Making, Measures, Opening, OpeningAll, OpeningWatch, States, Treeing, WatchingAll, WatchingOn, asked_by, behaviour, too_many_pairs, tree_under, watched_on}
 use Rattle.sch_cli.specs.Measuring.{LeadsTo, measure_text, measured_as, past_edited, past_refused, to_a_fault, to_the_end}
-use Rattle.sch_words.specs.Commands.{Command, tell, expand, validate, follow, measure, summarize, command_of, default_phase}
+use Rattle.sch_words.specs.Commands.{Command, tell, expand, validate, follow, measure, summarize, watch, command_of, default_phase}
 use Rattle.sch_loading.specs.Documents.{IsDocument, IsParsed}
 use Rattle.sch_cli.specs.Following.{Follows, comes_to_end, edits, refuses, stops_at, then_shown, under}
 use Rattle.sch_stops.specs.EditLines.{edit_line, refused_line}
-use Rattle.sch_loading.specs.Loading.{Compiling, Expanding, Fetching, Flattening, Inclusion, Loading, Parsing, Planning, Reading, Reporting, Saying, Scripting, as_script, at_include, held_under, included, parsed, planned, refused_document, refused_report, refused_rule}
+use Rattle.sch_loading.specs.Loading.{Compiling, Expanding, Expressing, Fetching, Flattening, Inclusion, Loading, Parsing, Planning, Reading, Reporting, Saying, Scripting, Watching, as_script, at_include, expressions, held_under, included, parsed, planned, refused_document, refused_report, refused_rule, refused_watches}
 use Rattle.sch_stops.specs.Output.{Output, stopped, usage_line}
 use Rattle.sch_cli.specs.Output.{expanded, in_front, notice_output, state, summed_up}
 use Rattle.sch_loading.specs.Stages.{Came, Is, Stage, Then, goes, halt_at, halt_if, halts, unread}
@@ -64,8 +68,8 @@ fault-same : (fault other : ScriptFault) → stops fault ≡ stops other → fau
 fault-same fault other same = let faults : Some fault ≡ Some other = ap (λ (s : Script). s.fault) same in cc
 
 -- what follows from a place is one output
-module _ (one_edit : OneEdit) (plan : Plan) where
-  one-follows : (T : Table) (n : ℕ) (seen : Shown) (script other : Script) (a b : Output) → script ≡ other → Follows plan T n seen script a → Follows plan T n seen other b → a ≡ b
+module _ (one_edit : OneEdit) (telling : Telling) where
+  one-follows : (T : Table) (n : ℕ) (seen : Shown) (script other : Script) (a b : Output) → script ≡ other → Follows telling T n seen script a → Follows telling T n seen other b → a ≡ b
   one-follows T n seen _ _ _ _ same (comes_to_end _ _ _) (comes_to_end _ _ _) = refl
   one-follows T n seen _ _ _ _ same (comes_to_end _ _ _) (stops_at _ _ _ fault) = absurd (ends-or-stops fault same)
   one-follows T n seen _ _ _ _ same (comes_to_end _ _ _) (refuses _ _ _ command reason rest output some follows) = absurd (ends-or-goes command rest same)
@@ -78,29 +82,29 @@ module _ (one_edit : OneEdit) (plan : Plan) where
   one-follows T n seen _ _ _ _ same (refuses _ _ _ command reason rest output some follows) (stops_at _ _ _ fault) = absurd (stops-or-goes fault command rest (sym same))
   one-follows T n seen _ _ _ _ same (refuses _ _ _ command reason rest output some follows) (refuses _ _ _ other cause more written so behind) =
       let at = command-same command other rest more same in
-      let reasons : reason ≡ cause = refused-same some (ap (command_refusal (under plan T)) at.0 ∙ so) in
+      let reasons : reason ≡ cause = refused-same some (ap (command_refusal (under telling T)) at.0 ∙ so) in
       ap (λ (r : EditRefusal). in_front (refused_line n r) output) reasons
       ∙ ap (in_front (refused_line n cause)) (one-follows T (n + 1) seen rest more output written at.1 follows behind)
   one-follows T n seen _ _ _ _ same (refuses _ _ _ command reason rest output some follows) (edits _ V _ _ other more written none makes behind) =
       let at = command-same command other rest more same in
-      absurd (refused-or-none some (ap (command_refusal (under plan T)) at.0 ∙ none))
+      absurd (refused-or-none some (ap (command_refusal (under telling T)) at.0 ∙ none))
   one-follows T n seen _ _ _ _ same (edits _ U _ _ command rest output none makes follows) (comes_to_end _ _ _) = absurd (ends-or-goes command rest (sym same))
   one-follows T n seen _ _ _ _ same (edits _ U _ _ command rest output none makes follows) (stops_at _ _ _ fault) = absurd (stops-or-goes fault command rest (sym same))
   one-follows T n seen _ _ _ _ same (edits _ U _ _ command rest output none makes follows) (refuses _ _ _ other cause more written so behind) =
       let at = command-same command other rest more same in
-      absurd (refused-or-none (ap (command_refusal (under plan T)) at.0 ∙ so) none)
+      absurd (refused-or-none (ap (command_refusal (under telling T)) at.0 ∙ so) none)
   one-follows T n seen _ _ _ _ same (edits _ U _ _ command rest output none makes follows) (edits _ V _ _ other more written empty made behind) =
       let at = command-same command other rest more same in
       let trees : V ≡ U = sym (one_edit T U V command makes (subst (λ (c : EditCommand). IsEdited T c V) (sym at.0) made)) in
-      ap (in_front (edit_line n ++ state_text plan U))
-      (one-follows U (n + 1) (then_shown seen (shows plan U)) rest more output written at.1 follows (subst (λ (X : Table). Follows plan X (n + 1) (then_shown seen (shows plan X)) more written) trees behind))
-      ∙ ap (λ (X : Table). in_front (edit_line n ++ state_text plan X) written) (sym trees)
+      ap (in_front (edit_line n ++ telling.text U))
+      (one-follows U (n + 1) (then_shown seen (telling.shows U)) rest more output written at.1 follows (subst (λ (X : Table). Follows telling X (n + 1) (then_shown seen (telling.shows X)) more written) trees behind))
+      ∙ ap (λ (X : Table). in_front (edit_line n ++ telling.text X) written) (sym trees)
 
-  one-states : (T : Table) (bytes : List ℕ) (a b : Output) → States plan T bytes a → States plan T bytes b → a ≡ b
-  one-states T bytes a b p q = p.2 ∙ ap (in_front (state_text plan T)) (one-follows T 1 (shows plan T) (script_of bytes) (script_of bytes) p.0 q.0 refl p.1 q.1) ∙ sym q.2
+  pub one-states : (T : Table) (bytes : List ℕ) (a b : Output) → States telling T bytes a → States telling T bytes b → a ≡ b
+  one-states T bytes a b p q = p.2 ∙ ap (in_front (telling.text T)) (one-follows T 1 (telling.shows T) (script_of bytes) (script_of bytes) p.0 q.0 refl p.1 q.1) ∙ sym q.2
 
   -- and so is the document that commands make
-  one-leads : (T : Table) (script other : Script) (U V : Table) → script ≡ other → LeadsTo plan T script U → LeadsTo plan T other V → U ≡ V
+  one-leads : (T : Table) (script other : Script) (U V : Table) → script ≡ other → LeadsTo telling T script U → LeadsTo telling T other V → U ≡ V
   one-leads T _ _ _ _ same (to_the_end _) (to_the_end _) = refl
   one-leads T _ _ _ _ same (to_the_end _) (to_a_fault _ fault) = refl
   one-leads T _ _ _ _ same (to_the_end _) (past_refused _ V command reason rest some leads) = absurd (ends-or-goes command rest same)
@@ -115,23 +119,24 @@ module _ (one_edit : OneEdit) (plan : Plan) where
       one-leads T rest more U V (command-same command other rest more same).1 leads behind
   one-leads T _ _ _ _ same (past_refused _ U command reason rest some leads) (past_edited _ W V other more none makes behind) =
       let at = command-same command other rest more same in
-      absurd (refused-or-none some (ap (command_refusal (under plan T)) at.0 ∙ none))
+      absurd (refused-or-none some (ap (command_refusal (under telling T)) at.0 ∙ none))
   one-leads T _ _ _ _ same (past_edited _ X U command rest none makes leads) (to_the_end _) = absurd (ends-or-goes command rest (sym same))
   one-leads T _ _ _ _ same (past_edited _ X U command rest none makes leads) (to_a_fault _ fault) = absurd (stops-or-goes fault command rest (sym same))
   one-leads T _ _ _ _ same (past_edited _ X U command rest none makes leads) (past_refused _ V other cause more so behind) =
       let at = command-same command other rest more same in
-      absurd (refused-or-none (ap (command_refusal (under plan T)) at.0 ∙ so) none)
+      absurd (refused-or-none (ap (command_refusal (under telling T)) at.0 ∙ so) none)
   one-leads T _ _ _ _ same (past_edited _ X U command rest none makes leads) (past_edited _ W V other more empty made behind) =
       let at = command-same command other rest more same in
       let trees : W ≡ X = sym (one_edit T X W command makes (subst (λ (c : EditCommand). IsEdited T c W) (sym at.0) made)) in
-      one-leads X rest more U V at.1 leads (subst (λ (Y : Table). LeadsTo plan Y more V) trees behind)
+      one-leads X rest more U V at.1 leads (subst (λ (Y : Table). LeadsTo telling Y more V) trees behind)
 
+module _ (one_edit : OneEdit) (plan : Plan) where
   pub one-measures : (T : Table) (bytes : List ℕ) (a b : Output) → Measures plan T bytes a → Measures plan T bytes b → a ≡ b
   one-measures T bytes a b p q =
-      let lasts : p.last ≡ q.last = one-leads T (script_of bytes) (script_of bytes) p.last q.last refl p.leads q.leads in
+      let lasts : p.last ≡ q.last = one-leads one_edit (by_plan plan) T (script_of bytes) (script_of bytes) p.last q.last refl p.leads q.leads in
       p.is
       ∙ ap (λ (U : Table). measured_as p.followed.ends (measure_text plan T U) p.followed) lasts
-      ∙ ap (λ (o : Output). measured_as o.ends (measure_text plan T q.last) o) (one-states T bytes p.followed q.followed p.states q.states)
+      ∙ ap (λ (o : Output). measured_as o.ends (measure_text plan T q.last) o) (one-states one_edit (by_plan plan) T bytes p.followed q.followed p.states q.states)
       ∙ sym q.is
 
 -- stages over another shelf
@@ -205,13 +210,34 @@ module _ (one_tree : OneTree) (one_inclusion : OneInclusion) (one_plan : OnePlan
       (one-opening phase schema document) (λ treed. one-then (Scripting files script) (λ bytes. Is (goes (record { treed = treed; script = bytes })))
       (one-scripting script) (λ bytes. one-is (goes (record { treed = treed; script = bytes }))))
 
+  -- watched expressions
+  one-expressing : OneReading → (found : Option (List ℕ)) → Single (Expressing found)
+  one-expressing one_reading None = one-is (halts (refused_watches watches.TooLarge))
+  one-expressing one_reading (Some bytes) = one-by (WatchesAre bytes) expressions (one_reading bytes)
+
+  one-watching : OneReading → (named : List ℕ) → Single (Watching files named)
+  one-watching one_reading named = one-then (Fetching files named MAX_FILE_BYTES) Expressing (one-fetching files named MAX_FILE_BYTES) (one-expressing one_reading)
+
+  one-watching-on : (exprs : List TypedTree) (document : List ℕ) → Single (WatchingOn files exprs document)
+  one-watching-on exprs document = one-then (Loading files document) (λ T. Is (goes (watched_on exprs T))) (one-loading document) (λ T. one-is (goes (watched_on exprs T)))
+
+  one-opening-watch : OneReading → (named document : List ℕ) → Single (OpeningWatch files named document)
+  one-opening-watch one_reading named document =
+      one-then (Watching files named) (λ exprs. WatchingOn files exprs document) (one-watching one_reading named) (λ exprs. one-watching-on exprs document)
+
+  pub one-watching-all : OneReading → (named document script : List ℕ) → Single (WatchingAll files named document script)
+  one-watching-all one_reading named document script =
+      one-then (OpeningWatch files named document) (λ watched. Then (Scripting files script) (λ bytes. Is (goes (record { watched = watched; script = bytes }))))
+      (one-opening-watch one_reading named document) (λ watched. one-then (Scripting files script) (λ bytes. Is (goes (record { watched = watched; script = bytes })))
+      (one-scripting script) (λ bytes. one-is (goes (record { watched = watched; script = bytes }))))
+
 -- what is made for a measure
 pub one-making : OneTree → OneInclusion → OnePlan → OneEdit → (items : ℕ) → Single (Making items)
 one-making one_tree one_inclusion one_plan one_edit items =
     one-apart (OpeningAll (measure_files items) default_phase SCHEMA_NAME.now DOCUMENT_NAME.now SCRIPT_NAME.now)
     (one-opening-all one_tree one_inclusion one_plan one_edit (measure_files items) default_phase SCHEMA_NAME.now DOCUMENT_NAME.now SCRIPT_NAME.now)
 
-module _ (one_tree : OneTree) (one_inclusion : OneInclusion) (one_plan : OnePlan) (one_edit : OneEdit) (files : Files) where
+module _ (one_tree : OneTree) (one_inclusion : OneInclusion) (one_plan : OnePlan) (one_edit : OneEdit) (one_reading : OneReading) (files : Files) where
   -- and so the output of a run
   one-from : {A : Type 0} (ready : Stage A) (outputs : A → Output → Type 0) → Single ready → ((value : A) (a b : Output) → outputs value a → outputs value b → a ≡ b) → Single (Then ready (λ value. Any (outputs value)))
   one-from ready outputs one each = one-then ready (λ value. Any (outputs value)) one (λ value. one-by (outputs value) goes (each value))
@@ -228,8 +254,10 @@ module _ (one_tree : OneTree) (one_inclusion : OneInclusion) (one_plan : OnePlan
       (one-then (Reporting files report) (λ said. Is (goes (summed_up said))) (one-reporting one_tree one_inclusion one_plan one_edit files report) (λ said. one-is (goes (summed_up said))))
   one-ends (Some (validate phase schema document)) = one-from (Opening files phase schema document) (λ at output. output ≡ state at.plan at.tree)
       (one-opening one_tree one_inclusion one_plan one_edit files phase schema document) (λ at a b p q. p ∙ sym q)
-  one-ends (Some (follow phase schema document script)) = one-from (OpeningAll files phase schema document script) (λ at. States at.treed.plan at.treed.tree at.script)
-      (one-opening-all one_tree one_inclusion one_plan one_edit files phase schema document script) (λ at. one-states one_edit at.treed.plan at.treed.tree at.script)
+  one-ends (Some (follow phase schema document script)) = one-from (OpeningAll files phase schema document script) (λ at. States (by_plan at.treed.plan) at.treed.tree at.script)
+      (one-opening-all one_tree one_inclusion one_plan one_edit files phase schema document script) (λ at. one-states one_edit (by_plan at.treed.plan) at.treed.tree at.script)
+  one-ends (Some (watch named document script)) = one-from (WatchingAll files named document script) (λ at. States (by_watches at.watched.expressions) at.watched.tree at.script)
+      (one-watching-all one_tree one_inclusion one_plan one_edit files one_reading named document script) (λ at. one-states one_edit (by_watches at.watched.expressions) at.watched.tree at.script)
   one-ends (Some (measure items)) = one-from (Making items) (λ at. Measures at.treed.plan at.treed.tree at.script)
       (one-making one_tree one_inclusion one_plan one_edit items) (λ at. one-measures one_edit at.treed.plan at.treed.tree at.script)
 

@@ -14,6 +14,8 @@ use Rattle.sch_words.specs.declared.command.Command.{Command as Borrowed}
 use Rattle.sch_words.specs.declared.notice.Notice.{Notice}
 use Rattle.sch_words.specs.declared.status.Status.{Status}
 use Rattle.sch_words.specs.declared.status.Status.TheVariants as status
+use Rattle.sch_stops.specs.declared.watches.WatchesRefusal.TheVariants as watches
+use Rattle.sch_stops.specs.Watches.{watch_place}
 use Rattle.sch_stops.specs.declared.stop.Stop.{Stop}
 use Rattle.sch_stops.specs.declared.stop.Stop.TheVariants.{Usage, SchemaRefused, DocumentRefused, ScriptRefused, Missing, ReadFault, WriteFault, Memory}
 use Rattle.sch_words.specs.Commands.{Command, command_of, tell}
@@ -154,11 +156,13 @@ told_line old new (b ∷ line) result some wrote = (result, wrote)
 
 -- each stop has a line
 has_line : (stop : Stop) → line_of stop ≡ [] → ⊥
-unfolding include_text rule_text script_fault_line svrl_text
+unfolding include_text rule_text script_fault_line svrl_text watch_place
 has_line Usage none = cc
 has_line (SchemaRefused (schema.File name refusal)) none = cc
 has_line (SchemaRefused (schema.Include kind name)) none = cc
 has_line (SchemaRefused (schema.Rule fault location)) none = cc
+has_line (SchemaRefused (schema.Watches watches.TooLarge)) none = cc
+has_line (SchemaRefused (schema.Watches (watches.Faulted fault))) none = cc
 has_line (DocumentRefused (document.File refusal)) none = cc
 has_line (DocumentRefused document.TooManyPairs) none = cc
 has_line (DocumentRefused (document.Report fault location)) none = cc

@@ -10,29 +10,25 @@ use Rattle.edit_command_laws.specs.OneEdit.{OneEdit}
 use Rattle.edit_commands.specs.Commands.{IsEdited, RefusesCommand, command_refusal}
 use Rattle.edit_commands.specs.declared.refusal.ApplyError.{ApplyError}
 use Rattle.edit_commands.specs.declared.refusal.ApplyError.TheVariants as apply
-use Rattle.sch_compiled.specs.declared.plan.Plan.{Plan}
-use Rattle.edit_session.specs.Pairs.{pair_cap_for}
-use Rattle.edit_session.specs.Standing.{Standing}
-use Rattle.edit_session.specs.State.{shows}
 use Rattle.edit_session.specs.declared.state.Shown.{Shown}
 use Rattle.edit_session.specs.declared.state.Shown.TheVariants.{Clean, Findings, Fault}
 use Rattle.sch_words.specs.declared.status.Status.{Status}
 use Rattle.sch_stops.specs.declared.stop.Stop.{Stop}
 use Rattle.sch_stops.specs.declared.stop.Stop.TheVariants.{Usage, SchemaRefused, DocumentRefused, ScriptRefused, Missing, ReadFault, WriteFault, Memory}
+use Rattle.sch_cli.specs.Telling.{Telling}
 use Rattle.sch_cli.specs.Behaviours.{StatesCost, asked_by}
 use Rattle.sch_cli.specs.Following.{then_shown}
 use Rattle.sch_cli.specs.Runs.{Costs, CountsOver}
-use Rattle.sch_cli.specs.Steps.{CountsBy, EditsCost, at_the_end, edit_cost, first_cost, of_edited, of_refused}
+use Rattle.sch_cli.specs.Steps.{CountsBy, EditsCost, at_the_end, of_edited, of_refused}
 use Rattle.sch_cli.specs.inner.Carried.{Visits, status_of_end}
 use Rattle.sch_cli.specs.inner.Counts.{CostOn, CountsAhead, CountsAlong, CountsOn, IsCosted, RoseFor}
 use Rattle.sch_cli.specs.inner.Followers.{IsUndone, Place, in_front_of}
-use Rattle.sch_cli.specs.inner.Sessions.{HasCost, IsUnevaluated, next_cost}
+use Rattle.sch_cli.specs.inner.Sessions.{Document, HasCost, IsUnevaluated, LeavesDirty}
 use Rattle.sch_cli.specs.inner.Writing.{IsOfWriting}
 use Rattle.sch_cli.proofs.CarryLemmas.{counts_in, uncounted}
 use Rattle.sch_cli.proofs.CostLemmas.{costs_same, past_edited}
 use Rattle.sch_cli.proofs.EndLemmas.{on_ok}
 use Rattle.sch_cli.proofs.FollowLemmas.{next_command, refusal_under}
-use Rattle.sch_cli.proofs.SessionLemmas.{RunsDirty, first-is, next-is-edit}
 
 -- Faults among what is shown
 
@@ -59,8 +55,8 @@ not_next Findings next whole is = whole is
 rose_is : (a b before after : ℕ) (seen : Shown) → a ≡ b → RoseFor a before after seen → RoseFor b before after seen
 rose_is a b before after seen is = subst (λ (n : ℕ). RoseFor n before after seen) is
 
-cost_is : (plan : Plan) (T : Table) (script : Script) (a b : ℕ) → a ≡ b → EditsCost plan T script a → EditsCost plan T script b
-cost_is plan T script a b is = subst (EditsCost plan T script) is
+cost_is : (telling : Telling) (T : Table) (script : Script) (a b : ℕ) → a ≡ b → EditsCost telling T script a → EditsCost telling T script b
+cost_is telling T script a b is = subst (EditsCost telling T script) is
 
 -- one state more
 rose_then : (first more start before after : ℕ) (seen next later : Shown) → later ≡ then_shown seen next → RoseFor more before after next → RoseFor first start before seen →
@@ -79,66 +75,66 @@ rose_then first more start before after seen next later is rose was = record {
 -- Commands
 
 -- an accepted command costs the visits of what it left dirty
-pub costed_edited : (at later : Place) (command : Edit) (session : Standing) (before after : ℕ) → at.session.tree.pair_cap ≡ pair_cap_for at.session.plan →
+pub costed_edited : (at later : Place) (command : Edit) (session : Document) (before after : ℕ) → at.session.tree.pair_cap ≡ at.session.telling.pair_cap →
     command_refusal at.session.tree command ≡ None → IsEdited at.session.tree.nodes command session.tree.nodes →
-    session.plan ≡ at.session.plan → RunsDirty at.session.plan at.session.tree.nodes command session →
-    later.session.plan ≡ session.plan → later.session.tree ≡ session.tree → later.script ≡ at.script → later.seen ≡ then_shown at.seen (shows session.plan session.tree.nodes) →
-    RoseFor (next_cost session) before after (shows session.plan session.tree.nodes) → IsCosted (in_front_of command at) later before after
-costed_edited at later command session before after cap none makes plan dirty plans trees scripts seen rose = record {
-  cost = edit_cost at.session.plan at.session.tree.nodes command session.tree.nodes;
-  led = λ rest costs. of_edited at.session.tree.nodes session.tree.nodes command at.script rest (refusal_under at.session.plan at.session.tree command cap ∙ none) makes
-      (costs_same later.session.plan at.session.plan later.session.tree.nodes session.tree.nodes later.script at.script rest (plans ∙ plan) (ap (λ (tree : Contents). tree.nodes) trees) scripts costs);
-  rose = λ first start was. rose_then first (edit_cost at.session.plan at.session.tree.nodes command session.tree.nodes) start before after at.seen (shows session.plan session.tree.nodes) later.seen seen
-      (rose_is (next_cost session) (edit_cost at.session.plan at.session.tree.nodes command session.tree.nodes) before after (shows session.plan session.tree.nodes)
-      (next-is-edit at.session.plan at.session.tree.nodes command session plan dirty) rose) was;
+    session.telling ≡ at.session.telling → LeavesDirty at.session command session →
+    later.session.telling ≡ session.telling → later.session.tree ≡ session.tree → later.script ≡ at.script → later.seen ≡ then_shown at.seen (session.telling.shows session.tree.nodes) →
+    RoseFor (session.next) before after (session.telling.shows session.tree.nodes) → IsCosted (in_front_of command at) later before after
+costed_edited at later command session before after cap none makes telling dirty tellings trees scripts seen rose = record {
+  cost = at.session.telling.edit_cost at.session.tree.nodes command session.tree.nodes;
+  led = λ rest costs. of_edited at.session.tree.nodes session.tree.nodes command at.script rest (refusal_under at.session.telling at.session.tree command cap ∙ none) makes
+      (costs_same later.session.telling at.session.telling later.session.tree.nodes session.tree.nodes later.script at.script rest (tellings ∙ telling) (ap (λ (tree : Contents). tree.nodes) trees) scripts costs);
+  rose = λ first start was. rose_then first (at.session.telling.edit_cost at.session.tree.nodes command session.tree.nodes) start before after at.seen (session.telling.shows session.tree.nodes) later.seen seen
+      (rose_is (session.next) (at.session.telling.edit_cost at.session.tree.nodes command session.tree.nodes) before after (session.telling.shows session.tree.nodes)
+      dirty rose) was;
 }
 
 -- where it is written whole
-pub costed_whole : (at later : Place) (command : Edit) (session : Standing) (before after : ℕ) (result : Result (Unit {0}) Stop) → at.session.tree.pair_cap ≡ pair_cap_for at.session.plan →
+pub costed_whole : (at later : Place) (command : Edit) (session : Document) (before after : ℕ) (result : Result (Unit {0}) Stop) → at.session.tree.pair_cap ≡ at.session.telling.pair_cap →
     command_refusal at.session.tree command ≡ None → IsEdited at.session.tree.nodes command session.tree.nodes →
-    session.plan ≡ at.session.plan → RunsDirty at.session.plan at.session.tree.nodes command session →
-    later.session.plan ≡ session.plan → later.session.tree ≡ session.tree → later.script ≡ at.script → OnOk result (later.seen ≡ then_shown at.seen (shows session.plan session.tree.nodes)) →
-    OnOk result (RoseFor (next_cost session) before after (shows session.plan session.tree.nodes)) → OnOk result (IsCosted (in_front_of command at) later before after)
-costed_whole at later command session before after (Ok done) cap none makes plan dirty plans trees scripts seen rose =
-    costed_edited at later command session before after cap none makes plan dirty plans trees scripts seen rose
-costed_whole at later command session before after (Err stop) cap none makes plan dirty plans trees scripts seen rose = tt
+    session.telling ≡ at.session.telling → LeavesDirty at.session command session →
+    later.session.telling ≡ session.telling → later.session.tree ≡ session.tree → later.script ≡ at.script → OnOk result (later.seen ≡ then_shown at.seen (session.telling.shows session.tree.nodes)) →
+    OnOk result (RoseFor (session.next) before after (session.telling.shows session.tree.nodes)) → OnOk result (IsCosted (in_front_of command at) later before after)
+costed_whole at later command session before after (Ok done) cap none makes telling dirty tellings trees scripts seen rose =
+    costed_edited at later command session before after cap none makes telling dirty tellings trees scripts seen rose
+costed_whole at later command session before after (Err stop) cap none makes telling dirty tellings trees scripts seen rose = tt
 
 -- a refused command costs none
-pub costed_refused : (at later : Place) (command : Edit) (reason : EditRefusal) (count : ℕ) → at.session.tree.pair_cap ≡ pair_cap_for at.session.plan →
-    command_refusal at.session.tree command ≡ Some reason → later.session.plan ≡ at.session.plan → later.session.tree.nodes ≡ at.session.tree.nodes → later.script ≡ at.script → later.seen ≡ at.seen →
+pub costed_refused : (at later : Place) (command : Edit) (reason : EditRefusal) (count : ℕ) → at.session.tree.pair_cap ≡ at.session.telling.pair_cap →
+    command_refusal at.session.tree command ≡ Some reason → later.session.telling ≡ at.session.telling → later.session.tree.nodes ≡ at.session.tree.nodes → later.script ≡ at.script → later.seen ≡ at.seen →
     IsCosted (in_front_of command at) later count count
-costed_refused at later command reason count cap some plans trees scripts seen = record {
+costed_refused at later command reason count cap some tellings trees scripts seen = record {
   cost = 0;
   led = λ rest costs.
       let same : rest ≡ 0 + rest = omega arith in
-      cost_is at.session.plan at.session.tree.nodes (onto command at.script) rest (0 + rest) same
-      (of_refused at.session.tree.nodes command reason at.script rest (refusal_under at.session.plan at.session.tree command cap ∙ some)
-      (costs_same later.session.plan at.session.plan later.session.tree.nodes at.session.tree.nodes later.script at.script rest plans trees scripts costs));
+      cost_is at.session.telling at.session.tree.nodes (onto command at.script) rest (0 + rest) same
+      (of_refused at.session.tree.nodes command reason at.script rest (refusal_under at.session.telling at.session.tree command cap ∙ some)
+      (costs_same later.session.telling at.session.telling later.session.tree.nodes at.session.tree.nodes later.script at.script rest tellings trees scripts costs));
   rose = λ first start was.
       let same : first ≡ first + 0 = omega arith in
       rose_is first (first + 0) start count later.seen same (subst (RoseFor first start count) (sym seen) was);
 }
 
 -- one that is not done leads no further, or costs none
-pub costed_undone : (at later : Place) (command : Edit) (error : ApplyError) (old new : SinkLog) (result : Result (Unit {0}) Stop) (count : ℕ) → at.session.tree.pair_cap ≡ pair_cap_for at.session.plan →
+pub costed_undone : (at later : Place) (command : Edit) (error : ApplyError) (old new : SinkLog) (result : Result (Unit {0}) Stop) (count : ℕ) → at.session.tree.pair_cap ≡ at.session.telling.pair_cap →
     RefusesCommand at.session.tree command error → IsUndone at.number error old new result →
-    later.session.plan ≡ at.session.plan → later.session.tree.nodes ≡ at.session.tree.nodes → later.script ≡ at.script → later.seen ≡ at.seen →
+    later.session.telling ≡ at.session.telling → later.session.tree.nodes ≡ at.session.tree.nodes → later.script ≡ at.script → later.seen ≡ at.seen →
     OnOk result (IsCosted (in_front_of command at) later count count)
-costed_undone at later command (apply.Refused reason) old new result count cap some undone plans trees scripts seen =
-    on_ok (IsCosted (in_front_of command at) later count count) result (costed_refused at later command reason count cap some plans trees scripts seen)
-costed_undone at later command apply.Memory old new result count cap some undone plans trees scripts seen =
+costed_undone at later command (apply.Refused reason) old new result count cap some undone tellings trees scripts seen =
+    on_ok (IsCosted (in_front_of command at) later count count) result (costed_refused at later command reason count cap some tellings trees scripts seen)
+costed_undone at later command apply.Memory old new result count cap some undone tellings trees scripts seen =
     subst (λ (r : Result (Unit {0}) Stop). OnOk r (IsCosted (in_front_of command at) later count count)) (sym undone.0) tt
 
 -- what comes of a command counts at most the visits of what is to come: where it is accepted
-pub ahead_edited : (at : Place) (command : Edit) (session : Standing) (before after : ℕ) → OneEdit → at.session.tree.pair_cap ≡ pair_cap_for at.session.plan →
+pub ahead_edited : (at : Place) (command : Edit) (session : Document) (before after : ℕ) → OneEdit → at.session.tree.pair_cap ≡ at.session.telling.pair_cap →
     command_refusal at.session.tree command ≡ None → IsEdited at.session.tree.nodes command session.tree.nodes →
-    session.plan ≡ at.session.plan → RunsDirty at.session.plan at.session.tree.nodes command session →
-    HasCost at.session (onto command at.script) → after ≤ before + next_cost session → CountsAhead (in_front_of command at) before after
-ahead_edited at command session before after one_edit cap none makes plan dirty costs at_most =
-    let free = refusal_under at.session.plan at.session.tree command cap ∙ none in
-    let rest = past_edited at.session.plan one_edit at.session.tree.nodes session.tree.nodes command at.script free makes costs in
-    let first : next_cost session ≡ edit_cost at.session.plan at.session.tree.nodes command session.tree.nodes = next-is-edit at.session.plan at.session.tree.nodes command session plan dirty in (
-      edit_cost at.session.plan at.session.tree.nodes command session.tree.nodes + rest.0,
+    session.telling ≡ at.session.telling → LeavesDirty at.session command session →
+    HasCost at.session (onto command at.script) → after ≤ before + session.next → CountsAhead (in_front_of command at) before after
+ahead_edited at command session before after one_edit cap none makes telling dirty costs at_most =
+    let free = refusal_under at.session.telling at.session.tree command cap ∙ none in
+    let rest = past_edited at.session.telling one_edit at.session.tree.nodes session.tree.nodes command at.script free makes costs in
+    let first : session.next ≡ at.session.telling.edit_cost at.session.tree.nodes command session.tree.nodes = dirty in (
+      at.session.telling.edit_cost at.session.tree.nodes command session.tree.nodes + rest.0,
       of_edited at.session.tree.nodes session.tree.nodes command at.script rest.0 free makes rest.1,
       omega (arith, at_most, first),
     )
@@ -150,7 +146,7 @@ not_costed at count = record {
   cost = 0;
   led = λ rest costs.
       let same : rest ≡ 0 + rest = omega arith in
-      cost_is at.session.plan at.session.tree.nodes at.script rest (0 + rest) same costs;
+      cost_is at.session.telling at.session.tree.nodes at.script rest (0 + rest) same costs;
   rose = λ first start was.
       let same : first ≡ first + 0 = omega arith in
       rose_is first (first + 0) start count at.seen same was;
@@ -161,7 +157,7 @@ costed_on a b c before mid after first next = record {
   cost = first.cost + next.cost;
   led = λ rest costs.
       let same : first.cost + (next.cost + rest) ≡ (first.cost + next.cost) + rest = omega arith in
-      cost_is a.session.plan a.session.tree.nodes a.script (first.cost + (next.cost + rest)) ((first.cost + next.cost) + rest) same (first.led (next.cost + rest) (next.led rest costs));
+      cost_is a.session.telling a.session.tree.nodes a.script (first.cost + (next.cost + rest)) ((first.cost + next.cost) + rest) same (first.led (next.cost + rest) (next.led rest costs));
   rose = λ amount start was.
       let same : (amount + first.cost) + next.cost ≡ amount + (first.cost + next.cost) = omega arith in
       rose_is ((amount + first.cost) + next.cost) (amount + (first.cost + next.cost)) start after c.seen same (next.rose (amount + first.cost) start (first.rose amount start was));
@@ -172,20 +168,20 @@ pub costed_to_next : (earlier later : Place) (rest : Script) (next : Option Edit
     IsCosted earlier later before after → IsCosted earlier (in_front_of command (record later { script = rest })) before after
 costed_to_next earlier later rest next command before after is says costed = record {
   cost = costed.cost;
-  led = λ more costs. costed.led more (costs_same later.session.plan later.session.plan later.session.tree.nodes later.session.tree.nodes (onto command rest) later.script more refl refl
+  led = λ more costs. costed.led more (costs_same later.session.telling later.session.telling later.session.tree.nodes later.session.tree.nodes (onto command rest) later.script more refl refl
       (sym (next_command next command later.script rest is says)) costs);
   rose = costed.rose;
 }
 
 -- what a script costs whose end was come to
-all_cost : (earlier later : Place) (before after first : ℕ) (costed : IsCosted earlier later before after) → EditsCost later.session.plan later.session.tree.nodes later.script 0 → CostOn earlier first (first + costed.cost)
+all_cost : (earlier later : Place) (before after first : ℕ) (costed : IsCosted earlier later before after) → EditsCost later.session.telling later.session.tree.nodes later.script 0 → CostOn earlier first (first + costed.cost)
 all_cost earlier later before after first costed none =
     let same : costed.cost + 0 ≡ costed.cost = omega arith in
-    (costed.cost, cost_is earlier.session.plan earlier.session.tree.nodes earlier.script (costed.cost + 0) costed.cost same (costed.led 0 none), refl)
+    (costed.cost, cost_is earlier.session.telling earlier.session.tree.nodes earlier.script (costed.cost + 0) costed.cost same (costed.led 0 none), refl)
 
 pub rest_counts : (earlier later : Place) (before after : ℕ) → IsCosted earlier later before after → later.script ≡ nothing → CountsOn earlier before after (Ok later.seen)
 rest_counts earlier later before after costed none = λ first start was.
-    let costs = all_cost earlier later before after first costed (subst (λ (s : Script). EditsCost later.session.plan later.session.tree.nodes s 0) (sym none) (at_the_end later.session.tree.nodes)) in
+    let costs = all_cost earlier later before after first costed (subst (λ (s : Script). EditsCost later.session.telling later.session.tree.nodes s 0) (sym none) (at_the_end later.session.tree.nodes)) in
     (first + costed.cost, costs, costed.rose first start was)
 
 -- what counts at most the visits of what is to come
@@ -228,33 +224,33 @@ along_by costs before after (Err (Missing name)) writing counts = absurd (true�
 along_by costs before after (Err (ReadFault name)) writing counts = absurd (true≢false (sym writing.writes))
 
 -- the first state costs the visits of all units
-pub state_counts : (plan : Plan) (T : Table) (before after : ℕ) (result : Result Shown Stop) → IfErr result IsOfWriting →
-    IfOk result (RoseFor (first_cost plan T) before after) → after ≤ before + first_cost plan T → CountsBy (λ cost. cost ≡ first_cost plan T) (status_of_end result) before after
-state_counts plan T before after result writing rose at_most = along_by (λ cost. cost ≡ first_cost plan T) before after result writing (by result rose)
+pub state_counts : (telling : Telling) (T : Table) (before after : ℕ) (result : Result Shown Stop) → IfErr result IsOfWriting →
+    IfOk result (RoseFor (telling.first_cost T) before after) → after ≤ before + telling.first_cost T → CountsBy (λ cost. cost ≡ telling.first_cost T) (status_of_end result) before after
+state_counts telling T before after result writing rose at_most = along_by (λ cost. cost ≡ telling.first_cost T) before after result writing (by result rose)
   where
-    by : (result : Result Shown Stop) → IfOk result (RoseFor (first_cost plan T) before after) → CountsAlong (λ cost. cost ≡ first_cost plan T) before after result
-    by (Ok seen) rose = (first_cost plan T, refl, rose)
-    by (Err stop) rose = (first_cost plan T, refl, at_most)
+    by : (result : Result Shown Stop) → IfOk result (RoseFor (telling.first_cost T) before after) → CountsAlong (λ cost. cost ≡ telling.first_cost T) before after result
+    by (Ok seen) rose = (telling.first_cost T, refl, rose)
+    by (Err stop) rose = (telling.first_cost T, refl, at_most)
 
 -- the first state of a script does not come to its end
-pub first_counts : (session : Standing) (bytes : List ℕ) (before after : ℕ) (stop : Stop) (result : Result Shown Stop) → result ≡ Err stop → IsUnevaluated session →
-    HasCost session (script_of bytes) → after ≤ before + next_cost session → CountsAlong (StatesCost session.plan session.tree.nodes bytes) before after result
-first_counts session bytes before after stop result is none costs at_most = subst (CountsAlong (StatesCost session.plan session.tree.nodes bytes) before after) (sym is)
-    (let first : next_cost session ≡ first_cost session.plan session.tree.nodes = first-is session none in
-    (first_cost session.plan session.tree.nodes + costs.0, (costs.0, costs.1, refl), omega (arith, at_most, first)))
+pub first_counts : (session : Document) (bytes : List ℕ) (before after : ℕ) (stop : Stop) (result : Result Shown Stop) → result ≡ Err stop → IsUnevaluated session →
+    HasCost session (script_of bytes) → after ≤ before + session.next → CountsAlong (StatesCost session.telling session.tree.nodes bytes) before after result
+first_counts session bytes before after stop result is none costs at_most = subst (CountsAlong (StatesCost session.telling session.tree.nodes bytes) before after) (sym is)
+    (let first : session.next ≡ session.telling.first_cost session.tree.nodes = none in
+    (session.telling.first_cost session.tree.nodes + costs.0, (costs.0, costs.1, refl), omega (arith, at_most, first)))
 
 -- the states, the first of which was written
-pub states_count : (session : Standing) (bytes : List ℕ) (first : Place) (before mid after : ℕ) (result : Result Shown Stop) → IsUnevaluated session →
-    first.session.plan ≡ session.plan → first.session.tree ≡ session.tree → first.script ≡ script_of bytes →
-    RoseFor (next_cost session) before mid first.seen → CountsOn first mid after result → CountsAlong (StatesCost session.plan session.tree.nodes bytes) before after result
-states_count session bytes first before mid after result none plans trees scripts rose counts =
-    along_as (CostOn first (next_cost session)) (StatesCost session.plan session.tree.nodes bytes) before after result
+pub states_count : (session : Document) (bytes : List ℕ) (first : Place) (before mid after : ℕ) (result : Result Shown Stop) → IsUnevaluated session →
+    first.session.telling ≡ session.telling → first.session.tree ≡ session.tree → first.script ≡ script_of bytes →
+    RoseFor (session.next) before mid first.seen → CountsOn first mid after result → CountsAlong (StatesCost session.telling session.tree.nodes bytes) before after result
+states_count session bytes first before mid after result none tellings trees scripts rose counts =
+    along_as (CostOn first (session.next)) (StatesCost session.telling session.tree.nodes bytes) before after result
     (λ cost costs. (
       costs.0,
-      costs_same first.session.plan session.plan first.session.tree.nodes session.tree.nodes first.script (script_of bytes) costs.0 plans (ap (λ (tree : Contents). tree.nodes) trees) scripts costs.1,
-      costs.2 ∙ ap (λ (n : ℕ). n + costs.0) (first-is session none),
+      costs_same first.session.telling session.telling first.session.tree.nodes session.tree.nodes first.script (script_of bytes) costs.0 tellings (ap (λ (tree : Contents). tree.nodes) trees) scripts costs.1,
+      costs.2 ∙ ap (λ (n : ℕ). n + costs.0) none,
     ))
-    (counts (next_cost session) before rose)
+    (counts (session.next) before rose)
 
 -- The words
 

@@ -3,23 +3,25 @@ use Rattle.std.specs.Prelude.{◌≡◌, ◌⊎◌, ℕ, ◌+◌, ◌++◌, Bool
 use Rattle.sch_io.specs.Files.{Files}
 use Rattle.doc_tree.specs.Table.{Table}
 use Rattle.edit_script.specs.Script.{script_of}
+use Rattle.xp_typed_tree.specs.TypedTree.{TypedTree}
 use Rattle.sch_compiled.specs.declared.plan.Plan.{Plan}
 use Rattle.edit_session.specs.Pairs.{has_too_many_pairs}
-use Rattle.edit_session.specs.State.{shows, state_text}
+use Rattle.edit_session.specs.State.{state_text}
 use Rattle.sch_stops.specs.declared.refusal.DocumentRefusal.TheVariants.{TooManyPairs}
 use Rattle.sch_words.specs.declared.status.Status.TheVariants.{DocumentRefused, Usage}
-use Rattle.sch_words.specs.Commands.{Command, tell, expand, validate, follow, measure, summarize, command_of, default_phase}
+use Rattle.sch_words.specs.Commands.{Command, tell, expand, validate, follow, measure, summarize, watch, command_of, default_phase}
 use Rattle.sch_measure.specs.Shelf.{measure_files}
 use Rattle.sch_measure.specs.declared.shelf.TheConstants.{SCHEMA_NAME, DOCUMENT_NAME, SCRIPT_NAME}
 use Rattle.sch_cli.specs.Following.{Begins, Follows}
 use Rattle.sch_cli.specs.Measuring.{LeadsTo, measure_text, measured_as}
-use Rattle.sch_loading.specs.Loading.{Expanding, Loading, Planning, Reporting, Scripting}
+use Rattle.sch_cli.specs.Telling.{Telling, by_plan, by_watches}
+use Rattle.sch_loading.specs.Loading.{Expanding, Loading, Planning, Reporting, Scripting, Watching}
 use Rattle.sch_stops.specs.Output.{Output, stopped, usage_line}
 use Rattle.sch_cli.specs.Output.{expanded, in_front, notice_output, state, summed_up}
 use Rattle.sch_stops.specs.Refusals.{document_refused_line}
 use Rattle.sch_loading.specs.Reads.{Named, file, schema_file}
 use Rattle.sch_loading.specs.Stages.{By, Is, Stage, Then, goes, halt_if, halts}
-use Rattle.sch_cli.specs.Steps.{EditsCost, first_cost}
+use Rattle.sch_cli.specs.Steps.{EditsCost}
 
 -- A document under a plan, and a script for it
 
@@ -52,19 +54,49 @@ abbrev pub OpeningAll : Files → List ℕ → List ℕ → List ℕ → List �
 OpeningAll files phase schema document script =
     Then (Opening files phase schema document) (λ treed. Then (Scripting files script) (λ bytes. Is (goes (record { treed = treed; script = bytes }))))
 
+-- Watched expressions, a document, and a script for it
+
+-- watched expressions with a document's tree
+pub record Watched : Type 0 where
+  pub expressions : List TypedTree
+  pub tree : Table
+
+abbrev pub watched_on : List TypedTree → Table → Watched
+watched_on exprs T = record { expressions = exprs; tree = T }
+
+-- the tree of the named document, with watched expressions
+abbrev pub WatchingOn : Files → List TypedTree → List ℕ → Stage Watched
+WatchingOn files exprs document = Then (Loading files document) (λ T. Is (goes (watched_on exprs T)))
+
+-- the watched expressions come first, then the document
+abbrev pub OpeningWatch : Files → List ℕ → List ℕ → Stage Watched
+OpeningWatch files watches document = Then (Watching files watches) (λ exprs. WatchingOn files exprs document)
+
+-- these, and the bytes of a script
+pub record WatchedScript : Type 0 where
+  pub watched : Watched
+  pub script : List ℕ
+
+-- the watched expressions come first, then the document, then all bytes of the script
+abbrev pub WatchingAll : Files → List ℕ → List ℕ → List ℕ → Stage WatchedScript
+WatchingAll files watches document script =
+    Then (OpeningWatch files watches document) (λ watched. Then (Scripting files script) (λ bytes. Is (goes (record { watched = watched; script = bytes }))))
+
+-- The states behind the commands of a script
+
 -- the state of a document, and behind it what is written for the commands of a script
-abbrev pub States : Plan → Table → List ℕ → Output → Type 0
-States plan T script output =
-    (rest : Output) × Follows plan T 1 (shows plan T) (script_of script) rest × (output ≡ in_front (state_text plan T) rest)
+abbrev pub States : Telling → Table → List ℕ → Output → Type 0
+States telling T script output =
+    (rest : Output) × Follows telling T 1 (telling.shows T) (script_of script) rest × (output ≡ in_front (telling.text T) rest)
 
 -- the state, and behind it what the first of the commands write
-abbrev pub BeginsStates : Plan → Table → List ℕ → List ℕ → Type 0
-BeginsStates plan T script text =
-    (more : List ℕ) × Begins plan T 1 (script_of script) more × (text ≡ state_text plan T ++ more)
+abbrev pub BeginsStates : Telling → Table → List ℕ → List ℕ → Type 0
+BeginsStates telling T script text =
+    (more : List ℕ) × Begins telling T 1 (script_of script) more × (text ≡ telling.text T ++ more)
 
 -- the visits of the states
-abbrev pub StatesCost : Plan → Table → List ℕ → ℕ → Type 0
-StatesCost plan T script cost = (later : ℕ) × EditsCost plan T (script_of script) later × (cost ≡ first_cost plan T + later)
+abbrev pub StatesCost : Telling → Table → List ℕ → ℕ → Type 0
+StatesCost telling T script cost = (later : ℕ) × EditsCost telling T (script_of script) later × (cost ≡ telling.first_cost T + later)
 
 -- What is made for a measure
 
@@ -79,9 +111,9 @@ Making items = Apart (OpeningAll (measure_files items) default_phase SCHEMA_NAME
 -- what is measured of a document and of what the commands of a script make of it, by what comes of following the script
 pub record Measures (plan : Plan) (T : Table) (script : List ℕ) (output : Output) : Type 0 where
   pub followed : Output
-  pub states : States plan T script followed
+  pub states : States (by_plan plan) T script followed
   pub last : Table
-  pub leads : LeadsTo plan T (script_of script) last
+  pub leads : LeadsTo (by_plan plan) T (script_of script) last
   pub is : output ≡ measured_as followed.ends (measure_text plan T last) followed
 
 -- and the text of it
@@ -125,14 +157,18 @@ behaviour (Some (expand schema)) = writes (schema_file schema ∷ []) (λ files.
 behaviour (Some (summarize report)) = writes (file report ∷ []) (λ files. Then (Reporting files report) (λ said. Is (goes (summed_up said))))
 behaviour (Some (validate phase schema document)) =
     from (schema_file schema ∷ file document ∷ []) (λ files. Opening files phase schema document)
-    (λ at output. output ≡ state at.plan at.tree) (λ at text. text ≡ state_text at.plan at.tree) (λ at cost. cost ≡ first_cost at.plan at.tree) true
+    (λ at output. output ≡ state at.plan at.tree) (λ at text. text ≡ state_text at.plan at.tree) (λ at cost. cost ≡ (by_plan at.plan).first_cost at.tree) true
 behaviour (Some (follow phase schema document script)) =
     from (schema_file schema ∷ file document ∷ file script ∷ []) (λ files. OpeningAll files phase schema document script)
-    (λ at. States at.treed.plan at.treed.tree at.script) (λ at. BeginsStates at.treed.plan at.treed.tree at.script)
-    (λ at. StatesCost at.treed.plan at.treed.tree at.script) true
+    (λ at. States (by_plan at.treed.plan) at.treed.tree at.script) (λ at. BeginsStates (by_plan at.treed.plan) at.treed.tree at.script)
+    (λ at. StatesCost (by_plan at.treed.plan) at.treed.tree at.script) true
+behaviour (Some (watch watches document script)) =
+    from (file watches ∷ file document ∷ file script ∷ []) (λ files. WatchingAll files watches document script)
+    (λ at. States (by_watches at.watched.expressions) at.watched.tree at.script) (λ at. BeginsStates (by_watches at.watched.expressions) at.watched.tree at.script)
+    (λ at. StatesCost (by_watches at.watched.expressions) at.watched.tree at.script) true
 behaviour (Some (measure items)) =
     from [] (λ files. Making items) (λ at. Measures at.treed.plan at.treed.tree at.script) (λ at. MeasuresText at.treed.plan at.treed.tree at.script)
-    (λ at. StatesCost at.treed.plan at.treed.tree at.script) true
+    (λ at. StatesCost (by_plan at.treed.plan) at.treed.tree at.script) true
 
 -- what the words ask for
 abbrev pub asked_by : List (List ℕ) → Behaviour

@@ -13,6 +13,7 @@ pub use Rattle.sch_loading.specs.Documents
 pub use Rattle.sch_loading.specs.Loading
 pub use Rattle.sch_loading.specs.Reads
 pub mod Output
+pub mod Telling
 pub mod Following
 pub mod Steps
 pub mod Measuring

@@ -15,15 +15,16 @@ use Rattle.sch_words.specs.declared.status.Status.{Status}
 use Rattle.sch_words.specs.declared.status.Status.TheVariants.{Clean, Findings}
 use Rattle.sch_cli.specs.Following.{under}
 use Rattle.sch_cli.specs.Output.{Output, ended}
+use Rattle.sch_cli.specs.Telling.{Telling}
 
 -- the commands of a script make the document U of T
-pub data LeadsTo (plan : Plan) : Table → Script → Table → Type 0 where
-  to_the_end : (T : Table) → LeadsTo plan T nothing T
-  to_a_fault : (T : Table) (fault : ScriptFault) → LeadsTo plan T (stops fault) T
+pub data LeadsTo (telling : Telling) : Table → Script → Table → Type 0 where
+  to_the_end : (T : Table) → LeadsTo telling T nothing T
+  to_a_fault : (T : Table) (fault : ScriptFault) → LeadsTo telling T (stops fault) T
   past_refused : (T U : Table) (command : Edit) (reason : EditRefusal) (rest : Script) →
-      command_refusal (under plan T) command ≡ Some reason → LeadsTo plan T rest U → LeadsTo plan T (onto command rest) U
+      command_refusal (under telling T) command ≡ Some reason → LeadsTo telling T rest U → LeadsTo telling T (onto command rest) U
   past_edited : (T V U : Table) (command : Edit) (rest : Script) →
-      command_refusal (under plan T) command ≡ None → IsEdited T command V → LeadsTo plan V rest U → LeadsTo plan T (onto command rest) U
+      command_refusal (under telling T) command ≡ None → IsEdited T command V → LeadsTo telling V rest U → LeadsTo telling T (onto command rest) U
 
 -- four lines, each with a count of the first document and of the last one: live nodes, rules that fire, assertions that fail, reports
 -- that succeed

@@ -1,5 +1,5 @@
--- What a run counts: the visits of the evaluation of all units for its first state, and for each accepted edit those of the units that
--- are new, or whose reads the edit touched.
+-- What a run counts: the visits of all that is told of a document for its first state, and for each accepted edit those of what is
+-- new, or whose reads the edit touched.
 use Rattle.std.specs.Prelude.{◌≡◌, ◌⊎◌, ℕ, ◌+◌, ◌≤◌, None, Some}
 use Rattle.doc_tree.specs.Table.{Table}
 use Rattle.doc_tree.specs.declared.refusal.EditRefusal.{EditRefusal}
@@ -7,32 +7,20 @@ use Rattle.edit_script.specs.Script.{Script, nothing, onto, stops}
 use Rattle.edit_script.specs.declared.command.Command.{Command as Edit}
 use Rattle.edit_script.specs.declared.fault.ScriptFault.{ScriptFault}
 use Rattle.edit_commands.specs.Commands.{IsEdited, command_refusal}
-use Rattle.edit_commands.specs.Touched.{touched_by}
-use Rattle.sch_compiled.specs.declared.plan.Plan.{Plan}
-use Rattle.edit_costs.specs.Costs.{cost_of}
-use Rattle.edit_costs.specs.Dirty.{dirty_units}
-use Rattle.edit_costs.specs.Units.{units_of}
 use Rattle.sch_words.specs.declared.status.Status.{Status}
 use Rattle.sch_words.specs.declared.status.Status.TheVariants.{Clean, Findings, ScriptRefused, Faulted, WriteFault, Memory}
 use Rattle.sch_cli.specs.Following.{under}
-
--- the visits for the first state of a document: of all units
-abbrev pub first_cost : Plan → Table → ℕ
-first_cost plan T = cost_of plan T (units_of plan T)
-
--- the visits for the state of U, which a command made of T: of the units that are new, or whose reads it touched
-abbrev pub edit_cost : Plan → Table → Edit → Table → ℕ
-edit_cost plan T command U = cost_of plan U (dirty_units plan T U (touched_by T command))
+use Rattle.sch_cli.specs.Telling.{Telling}
 
 -- the visits for the states behind the commands of a script, by the document that they find
-pub data EditsCost (plan : Plan) : Table → Script → ℕ → Type 0 where
-  at_the_end : (T : Table) → EditsCost plan T nothing 0
-  at_a_fault : (T : Table) (fault : ScriptFault) → EditsCost plan T (stops fault) 0
+pub data EditsCost (telling : Telling) : Table → Script → ℕ → Type 0 where
+  at_the_end : (T : Table) → EditsCost telling T nothing 0
+  at_a_fault : (T : Table) (fault : ScriptFault) → EditsCost telling T (stops fault) 0
   of_refused : (T : Table) (command : Edit) (reason : EditRefusal) (rest : Script) (cost : ℕ) →
-      command_refusal (under plan T) command ≡ Some reason → EditsCost plan T rest cost → EditsCost plan T (onto command rest) cost
+      command_refusal (under telling T) command ≡ Some reason → EditsCost telling T rest cost → EditsCost telling T (onto command rest) cost
   of_edited : (T U : Table) (command : Edit) (rest : Script) (cost : ℕ) →
-      command_refusal (under plan T) command ≡ None → IsEdited T command U → EditsCost plan U rest cost →
-      EditsCost plan T (onto command rest) (edit_cost plan T command U + cost)
+      command_refusal (under telling T) command ≡ None → IsEdited T command U → EditsCost telling U rest cost →
+      EditsCost telling T (onto command rest) (telling.edit_cost T command U + cost)
 
 -- the count rose by exactly the visits
 abbrev pub CountsAll : (ℕ → Type 0) → ℕ → ℕ → Type 0

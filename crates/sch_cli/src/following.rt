@@ -1,27 +1,30 @@
 //! A script that is followed: the schema, the document and the script read, then the first state, and what comes of each command.
 
-ghost use Rattle.std.specs.Prelude.{◌≡◌, ◌≤◌, ◌+◌, ◌<◌, ◌^◌, ◌++◌, false, [], ◌∷◌, Some, IfErr, IfOk, OnOk, length};
+ghost use Rattle.std.specs.Prelude.{◌≡◌, ◌≤◌, ◌+◌, ◌++◌, ℕ, true, [], ◌∷◌, false, Some, IfErr, IfOk, OnOk, length};
 ghost use Rattle.sch_io.specs.Wrote.{Appends};
+ghost use Rattle.doc_tree.specs.Kinds.{is_document};
 ghost use Rattle.edit_script.specs.Script.{script_of};
 ghost use Rattle.edit_script.specs.WellFormed.{WellFormedCommand};
 ghost use Rattle.edit_script.specs.declared.limits.TheConstants.{MAX_SCRIPT_BYTES};
 ghost use Rattle.edit_session.specs.Pairs.{pair_cap_for};
-ghost use Rattle.edit_session.specs.State.{shows, state_text};
 ghost use Rattle.sch_words.specs.declared.status.Status.TheVariants as statuses;
 ghost use Rattle.sch_cli.specs.Behaviours.{BeginsStates, OpeningAll, States, StatesCost, behaviour};
 ghost use Rattle.sch_loading.specs.Reads.{Reads, file, schema_file};
 ghost use Rattle.sch_words.specs.Commands.{follow};
 ghost use Rattle.sch_stops.specs.EditLines.{edit_line, refused_line};
 ghost use Rattle.sch_cli.specs.Following.{then_shown};
+ghost use Rattle.sch_cli.specs.Steps.{EditsCost};
+ghost use Rattle.sch_cli.specs.Telling.{Telling};
 ghost use Rattle.sch_stops.specs.Stops.{counted_if, ends_with};
 ghost use Rattle.sch_cli.specs.inner.Carried.{Carried, Concludes};
 ghost use Rattle.sch_cli.specs.inner.Counts.{CountsAhead, CountsAlong, CountsOn, IsCosted, RoseFor};
 ghost use Rattle.sch_cli.specs.inner.Followers.{Beginning, Ending, Goes, IsReady, IsUndone, in_front_of, place_of, scripted_by};
-ghost use Rattle.sch_cli.specs.inner.Sessions.{HasCost, IsEvaluated, IsUnevaluated, next_cost};
+ghost use Rattle.sch_cli.specs.inner.Sessions.{HasCost, IsUnevaluated, document_of};
 ghost use Rattle.sch_cli.specs.inner.Writing.{IsOfWriting, WroteText};
 
-use crate::validation::{load_asked, write_state};
-use doc_tree::EditRefusal;
+use crate::followed::Followed;
+use crate::validation::load_asked;
+use doc_tree::{EditRefusal, Tree};
 use edit_command_laws::{edits_keep_trees, edits_make_trees, one_edit, scripts_are_well_formed};
 use edit_commands::ApplyError;
 use edit_script::{Command, ScriptReader};
@@ -49,7 +52,11 @@ pub(crate) fn follow<S: Shelf, O: Sink, L: Ledger>(
     ensures accepted { ends_with statuses.Usage result ≡ false }
 {
     let Scripted { session, script } = load_scripted(alloc, asked, shelf)?;
-    write_states(alloc, session, script.as_slice(), out, steps)
+    let bytes = script.as_slice();
+    session.laws();
+    script_has_cost(session.tree(), bytes);
+    let mut session = session;
+    write_states(alloc, &mut session, bytes, out, steps)
 }
 
 /// A document under a plan, and the bytes of a script for it.
@@ -70,7 +77,7 @@ pub(crate) fn load_scripted<S: Shelf>(
         (λ files. OpeningAll files asked.entry.validation.phase.now asked.entry.validation.schema.now asked.entry.validation.document.now asked.entry.script.now)
         scripted_by result }
     ensures cap { IfOk result (λ scripted. scripted.session.tree.pair_cap ≡ pair_cap_for scripted.session.plan) }
-    ensures unevaluated { IfOk result (λ scripted. IsUnevaluated scripted.session) }
+    ensures unevaluated { IfOk result (λ scripted. IsUnevaluated (document_of scripted.session)) }
     ensures short { IfOk result (λ scripted. length scripted.script ≤ MAX_SCRIPT_BYTES) }
 {
     let name = Text::copy(alloc, asked.script.as_str())?;
@@ -84,52 +91,51 @@ pub(crate) fn load_scripted<S: Shelf>(
     }
 }
 
-/// The commands of a script that is not too long have their visits: an accepted one makes a document. Costs nothing.
-pub(crate) fn script_has_cost(session: &Session, script: &[u8])
-    requires { length script.now ≤ MAX_SCRIPT_BYTES }
-    ensures { HasCost session.now (script_of script.now) }
+/// The commands of a script that is not too long have their visits, whatever is told of the document: an accepted one makes a document.
+/// Costs nothing.
+pub(crate) fn script_has_cost(tree: &Tree, script: &[u8])
+    requires document { is_document tree.now.nodes ≡ true }
+    requires short { length script.now ≤ MAX_SCRIPT_BYTES }
+    ensures { (telling : Telling) → (cost : ℕ) × EditsCost telling tree.now.nodes (script_of script.now) cost }
 {
-    session.laws();
+    tree.laws();
     edits_make_trees();
     edits_keep_trees();
     scripts_are_well_formed();
 }
 
 /// Writes the state of a document, and what comes of each command of a script; answers what the states show.
-fn write_states<O: Sink, L: Ledger>(
+pub(crate) fn write_states<F: Followed, O: Sink, L: Ledger>(
     alloc: Global,
-    session: Session,
+    followed: &mut F,
     script: &[u8],
     out: &mut O,
     steps: &mut Steps<L>,
 ) -> Result<Shown, Stop>
-    requires cap { session.tree.pair_cap ≡ pair_cap_for session.plan }
+    requires cap { (F.document followed.old).tree.pair_cap ≡ (F.document followed.old).telling.pair_cap }
     requires short { length script.now ≤ MAX_SCRIPT_BYTES }
-    requires unevaluated { IsUnevaluated session }
-    ensures told { Concludes (States session.plan session.tree.nodes script.now) (λ _. ⊥) (BeginsStates session.plan session.tree.nodes script.now)
-        (Appends (O.log out.old).written (O.log out.new).written) result }
+    requires costs { HasCost (F.document followed.old) (script_of script.now) }
+    requires unevaluated { IsUnevaluated (F.document followed.old) }
+    ensures told { Concludes (States (F.document followed.old).telling (F.document followed.old).tree.nodes script.now) (λ _. ⊥)
+        (BeginsStates (F.document followed.old).telling (F.document followed.old).tree.nodes script.now) (Appends (O.log out.old).written (O.log out.new).written) result }
     ensures writing { IfErr result IsOfWriting }
     ensures write_faults { (O.log out.new).faults ≡ counted_if (ends_with statuses.WriteFault result) (O.log out.old).faults }
-    ensures counted { CountsAlong (StatesCost session.plan session.tree.nodes script.now) steps.old steps.new result }
+    ensures counted { CountsAlong (StatesCost (F.document followed.old).telling (F.document followed.old).tree.nodes script.now) steps.old steps.new result }
     ensures steps { steps.old ≤ steps.new }
 {
-    script_has_cost(&session, script);
-    let mut session = session;
-    let seen = write_state(&mut session, out, steps)?;
+    let seen = followed.write_state(out, steps)?;
     let script = ScriptReader::new(alloc, script);
     let mut follower = Follower {
-        session,
         script,
         number: 1,
         seen,
     };
-    follower.follow_rest(out, steps)
+    follower.follow_rest(followed, out, steps)
 }
 
 /// Where the following of a script stands.
 #[derive(Drop)]
 struct Follower<'a> {
-    session: Session,
     /// The lines of the script that are left.
     script: ScriptReader<'a>,
     /// The number of the next command, counted from 1.
@@ -140,20 +146,23 @@ struct Follower<'a> {
 
 impl Follower<'_> {
     /// Does each command that is to come, and writes what comes of it; answers what the states show.
-    fn follow_rest<O: Sink, L: Ledger>(
+    fn follow_rest<F: Followed, O: Sink, L: Ledger>(
         &mut self,
+        followed: &mut F,
         out: &mut O,
         steps: &mut Steps<L>,
     ) -> Result<Shown, Stop>
-        requires { IsReady (place_of self.old) }
-        ensures told { Concludes (Ending (place_of self.old)) (λ _. ⊥) (Beginning (place_of self.old)) (Appends (O.log out.old).written (O.log out.new).written) result }
+        requires ready { IsReady (place_of (F.document followed.old) self.old) }
+        requires fresh { F.is_evaluated followed.old }
+        ensures told { Concludes (Ending (place_of (F.document followed.old) self.old)) (λ _. ⊥) (Beginning (place_of (F.document followed.old) self.old))
+            (Appends (O.log out.old).written (O.log out.new).written) result }
         ensures writing { IfErr result IsOfWriting }
         ensures write_faults { (O.log out.new).faults ≡ counted_if (ends_with statuses.WriteFault result) (O.log out.old).faults }
-        ensures counted { CountsOn (place_of self.old) steps.old steps.new result }
+        ensures counted { CountsOn (place_of (F.document followed.old) self.old) steps.old steps.new result }
         ensures steps { steps.old ≤ steps.new }
     {
         while let Some(command) = self.script.next()? {
-            let done = self.follow_command(&command, out, steps);
+            let done = self.follow_command(followed, &command, out, steps);
             drop(command);
             done?;
         }
@@ -161,51 +170,58 @@ impl Follower<'_> {
     }
 
     /// Does a command, and writes what comes of it.
-    fn follow_command<O: Sink, L: Ledger>(
+    fn follow_command<F: Followed, O: Sink, L: Ledger>(
         &mut self,
+        followed: &mut F,
         command: &Command,
         out: &mut O,
         steps: &mut Steps<L>,
     ) -> Result<(), Stop>
         requires formed { WellFormedCommand command.now }
-        requires ready { IsReady (in_front_of command.now (place_of self.old)) }
-        ensures goes { Goes (in_front_of command.now (place_of self.old)) (place_of self.new) (O.log out.old) (O.log out.new) result }
-        ensures ready { OnOk result (IsReady (place_of self.new)) }
+        requires ready { IsReady (in_front_of command.now (place_of (F.document followed.old) self.old)) }
+        requires fresh { F.is_evaluated followed.old }
+        ensures goes { Goes (in_front_of command.now (place_of (F.document followed.old) self.old)) (place_of (F.document followed.new) self.new)
+            (O.log out.old) (O.log out.new) result }
+        ensures ready { OnOk result (IsReady (place_of (F.document followed.new) self.new)) }
+        ensures fresh { OnOk result (F.is_evaluated followed.new) }
         ensures script { self.new.script ≡ self.old.script }
-        ensures costed { OnOk result (IsCosted (in_front_of command.now (place_of self.old)) (place_of self.new) steps.old steps.new) }
-        ensures at_most { CountsAhead (in_front_of command.now (place_of self.old)) steps.old steps.new }
+        ensures costed { OnOk result (IsCosted (in_front_of command.now (place_of (F.document followed.old) self.old)) (place_of (F.document followed.new) self.new)
+            steps.old steps.new) }
+        ensures at_most { CountsAhead (in_front_of command.now (place_of (F.document followed.old) self.old)) steps.old steps.new }
         ensures steps { steps.old ≤ steps.new }
     {
         one_edit();
         let number = self.number;
         self.number += 1;
-        match self.session.apply(command) {
-            Ok(()) => self.write_edited(number, out, steps),
+        match followed.edit(command) {
+            Ok(()) => self.write_edited(followed, number, out, steps),
             Err(error) => write_undone(number, error, out),
         }
     }
 
     /// Writes the line of an accepted command with the number, and the state behind it.
-    fn write_edited<O: Sink, L: Ledger>(
+    fn write_edited<F: Followed, O: Sink, L: Ledger>(
         &mut self,
+        followed: &mut F,
         number: u64,
         out: &mut O,
         steps: &mut Steps<L>,
     ) -> Result<(), Stop>
-        ensures wrote { WroteText (O.log out.old) (O.log out.new) (edit_line number ++ state_text self.old.session.plan self.old.session.tree.nodes) result }
-        ensures seen { OnOk result (self.new.seen ≡ then_shown self.old.seen (shows self.old.session.plan self.old.session.tree.nodes)) }
-        ensures tree { self.new.session.tree ≡ self.old.session.tree }
-        ensures plan { self.new.session.plan ≡ self.old.session.plan }
+        ensures wrote { WroteText (O.log out.old) (O.log out.new)
+            (edit_line number ++ (F.document followed.old).telling.text (F.document followed.old).tree.nodes) result }
+        ensures seen { OnOk result (self.new.seen ≡ then_shown self.old.seen ((F.document followed.old).telling.shows (F.document followed.old).tree.nodes)) }
+        ensures tree { (F.document followed.new).tree ≡ (F.document followed.old).tree }
+        ensures telling { (F.document followed.new).telling ≡ (F.document followed.old).telling }
         ensures script { self.new.script ≡ self.old.script }
         ensures number { self.new.number ≡ self.old.number }
-        ensures fresh { OnOk result (IsEvaluated self.new.session) }
-        ensures rose { OnOk result (RoseFor (next_cost self.old.session) steps.old steps.new
-            (shows self.old.session.plan self.old.session.tree.nodes)) }
-        ensures at_most { steps.new ≤ steps.old + next_cost self.old.session }
+        ensures fresh { OnOk result (F.is_evaluated followed.new) }
+        ensures rose { OnOk result (RoseFor (F.document followed.old).next steps.old steps.new
+            ((F.document followed.old).telling.shows (F.document followed.old).tree.nodes)) }
+        ensures at_most { steps.new ≤ steps.old + (F.document followed.old).next }
         ensures steps { steps.old ≤ steps.new }
     {
         write_edit_line(number, out)?;
-        let last = write_state(&mut self.session, out, steps)?;
+        let last = followed.write_state(out, steps)?;
         self.seen = then_shown(self.seen, last);
         Ok(())
     }

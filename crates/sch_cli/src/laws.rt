@@ -6,6 +6,7 @@ use edit_command_laws::one_edit;
 use name_scopes::one_tree;
 use sch_include::one_inclusion;
 use sch_plan::one_plan;
+use watch_lines_laws::one_reading;
 
 /// The words and the files have one output alone.
 pub fn one_output()
@@ -15,4 +16,5 @@ pub fn one_output()
     one_inclusion();
     one_plan();
     one_edit();
+    one_reading();
 }

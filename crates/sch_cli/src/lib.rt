@@ -2,6 +2,7 @@
 #![tactic(auto)]
 
 mod expansion;
+mod followed;
 mod following;
 mod laws;
 mod measuring;
@@ -9,6 +10,7 @@ mod notice;
 mod program;
 mod summing;
 mod validation;
+mod watching;
 
 pub use laws::one_output;
 pub use program::{end_without_words, run};

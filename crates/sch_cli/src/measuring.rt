@@ -20,10 +20,11 @@ ghost use Rattle.sch_loading.specs.Stages.{goes};
 ghost use Rattle.sch_cli.specs.Behaviours.{OpeningAll, Making, Measures, MeasuresText, StatesCost, behaviour};
 ghost use Rattle.sch_cli.specs.inner.Carried.{Carried, Concludes};
 ghost use Rattle.sch_cli.specs.Steps.{CountsAtMost};
+ghost use Rattle.sch_cli.specs.Telling.{by_plan};
 ghost use Rattle.sch_cli.specs.inner.Counts.{CountsAlong, RoseFor};
 ghost use Rattle.sch_cli.specs.inner.Followers.{in_front_of, scripted_by};
 ghost use Rattle.sch_cli.specs.inner.Measurers.{ConcludesMeasure, IsUnderWay, MovesTo, RestMeasured, is_fault, measured_of, place_at, text_of_both};
-ghost use Rattle.sch_cli.specs.inner.Sessions.{HasCost, IsEvaluated, IsUnevaluated, ScriptCost, next_cost};
+ghost use Rattle.sch_cli.specs.inner.Sessions.{HasCost, IsEvaluated, IsUnevaluated, ScriptCost, document_of, next_cost};
 ghost use Rattle.sch_cli.specs.inner.Writing.{IsOfWriting, WroteText};
 
 use crate::following::{Scripted, load_scripted, script_has_cost};
@@ -62,7 +63,7 @@ pub(crate) fn measure<O: Sink, L: Ledger>(
 fn load_made(alloc: Global, items: u32) -> Result<Scripted, Stop>
     ensures reads { (state : ShelfState) → Reads state state [] (λ files. Making items) scripted_by result }
     ensures cap { IfOk result (λ scripted. scripted.session.tree.pair_cap ≡ pair_cap_for scripted.session.plan) }
-    ensures unevaluated { IfOk result (λ scripted. IsUnevaluated scripted.session) }
+    ensures unevaluated { IfOk result (λ scripted. IsUnevaluated (document_of scripted.session)) }
     ensures short { IfOk result (λ scripted. length scripted.script ≤ MAX_SCRIPT_BYTES) }
 {
     let shelf = measure_shelf(alloc, items)?;
@@ -87,7 +88,7 @@ fn load_from(
     ensures loaded { IfOk result (λ scripted. (opened : List (List ℕ)) × OpeningAll shelf.files asked.entry.validation.phase.now
         asked.entry.validation.schema.now asked.entry.validation.document.now asked.entry.script.now opened (goes (scripted_by scripted))) }
     ensures cap { IfOk result (λ scripted. scripted.session.tree.pair_cap ≡ pair_cap_for scripted.session.plan) }
-    ensures unevaluated { IfOk result (λ scripted. IsUnevaluated scripted.session) }
+    ensures unevaluated { IfOk result (λ scripted. IsUnevaluated (document_of scripted.session)) }
     ensures short { IfOk result (λ scripted. length scripted.script ≤ MAX_SCRIPT_BYTES) }
     ensures memory { IfErr result (λ stop. stop ≡ stops.Memory) }
 {
@@ -112,15 +113,16 @@ fn measure_states<O: Sink, L: Ledger>(
 ) -> Result<Shown, Stop>
     requires cap { session.tree.pair_cap ≡ pair_cap_for session.plan }
     requires short { length script.now ≤ MAX_SCRIPT_BYTES }
-    requires unevaluated { IsUnevaluated session }
+    requires unevaluated { IsUnevaluated (document_of session) }
     ensures told { Concludes (Measures session.plan session.tree.nodes script.now) (λ _. ⊥) (MeasuresText session.plan session.tree.nodes script.now)
         (Appends (O.log out.old).written (O.log out.new).written) result }
     ensures writing { IfErr result IsOfWriting }
     ensures write_faults { (O.log out.new).faults ≡ counted_if (ends_with statuses.WriteFault result) (O.log out.old).faults }
-    ensures counted { CountsAlong (StatesCost session.plan session.tree.nodes script.now) steps.old steps.new result }
+    ensures counted { CountsAlong (StatesCost (by_plan session.plan) session.tree.nodes script.now) steps.old steps.new result }
     ensures steps { steps.old ≤ steps.new }
 {
-    script_has_cost(&session, script);
+    session.laws();
+    script_has_cost(session.tree(), script);
     let mut session = session;
     let first = measure_state(&mut session, steps)?;
     let script = ScriptReader::new(alloc, script);
@@ -174,7 +176,7 @@ impl Measurer<'_> {
     /// Does each command that is to come, and measures the document behind it.
     fn measure_rest<L: Ledger>(&mut self, steps: &mut Steps<L>) -> Result<(), Stop>
         requires ready { IsUnderWay self.old }
-        requires costs { HasCost self.old.session (script_left self.old.script) }
+        requires costs { HasCost (document_of self.old.session) (script_left self.old.script) }
         ensures ends { (number : ℕ) (seen : Shown) → self.old.faulted ≡ is_fault seen →
             RestMeasured (place_at self.old number seen) self.new steps.old steps.new result }
         ensures ready { OnOk result (IsUnderWay self.new) }
@@ -197,12 +199,12 @@ impl Measurer<'_> {
     ) -> Result<(), Stop>
         requires formed { WellFormedCommand command.now }
         requires ready { IsUnderWay self.old }
-        requires costs { HasCost self.old.session (onto command.now (script_left self.old.script)) }
+        requires costs { HasCost (document_of self.old.session) (onto command.now (script_left self.old.script)) }
         ensures moves { OnOk result ((number : ℕ) (seen : Shown) → self.old.faulted ≡ is_fault seen →
             MovesTo (in_front_of command.now (place_at self.old number seen)) self.new steps.old steps.new) }
         ensures ready { OnOk result (IsUnderWay self.new) }
-        ensures costs { OnOk result (HasCost self.new.session (script_left self.new.script)) }
-        ensures at_most { CountsAtMost (ScriptCost self.old.session (onto command.now (script_left self.old.script))) steps.old steps.new }
+        ensures costs { OnOk result (HasCost (document_of self.new.session) (script_left self.new.script)) }
+        ensures at_most { CountsAtMost (ScriptCost (document_of self.old.session) (onto command.now (script_left self.old.script))) steps.old steps.new }
         ensures plan { self.new.session.plan ≡ self.old.session.plan }
         ensures script { self.new.script ≡ self.old.script }
         ensures memory { IfErr result (λ stop. stop ≡ stops.Memory) }

@@ -19,6 +19,7 @@ use crate::measuring::measure;
 use crate::notice::write_notice;
 use crate::summing::sum_up;
 use crate::validation::validate;
+use crate::watching::watch;
 use edit_session::Shown;
 use sch_io::{Shelf, Sink, write_all};
 use sch_stops::Stop;
@@ -27,8 +28,8 @@ use std::alloc::Global;
 use std::sync::ledger::Ledger;
 use xp_outcome::Steps;
 
-/// Carries out what the words ask for, over the files of the shelf: the reports, the expanded schema, a summary or a notice go to `out`, and
-/// where the run was stopped or a state of it is a fault its one line goes to `err`, whose failure changes no status.
+/// Carries out what the words ask for, over the files of the shelf: the reports, what watched expressions give, the expanded schema, a summary
+/// or a notice go to `out`, and where the run was stopped or a state of it is a fault its one line goes to `err`, whose failure changes no status.
 #[tactic(auto, using(crate::proofs::RunLemmas::run_ends, crate::proofs::RunLemmas::line_named))]
 pub fn run<S: Shelf, O: Sink, E: Sink, L: Ledger>(
     alloc: Global,
@@ -87,6 +88,7 @@ fn carry_out<S: Shelf, O: Sink, L: Ledger>(
         Some(Command::Expand { schema }) => expand_schema(alloc, schema, shelf, out),
         Some(Command::Validate(asked)) => validate(alloc, asked, shelf, out, steps),
         Some(Command::Follow(asked)) => follow(alloc, asked, shelf, out, steps),
+        Some(Command::Watch(asked)) => watch(alloc, asked, shelf, out, steps),
         Some(Command::Measure { items }) => measure(alloc, items, out, steps),
         Some(Command::Summarize { report }) => sum_up(alloc, report, shelf, out),
     }

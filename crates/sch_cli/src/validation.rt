@@ -6,14 +6,14 @@ ghost use Rattle.edit_session.specs.Pairs.{pair_cap_for};
 ghost use Rattle.edit_session.specs.State.{shows, state_text};
 ghost use Rattle.sch_words.specs.declared.status.Status.TheVariants as statuses;
 ghost use Rattle.sch_cli.specs.Behaviours.{Opening, Treeing, behaviour};
-ghost use Rattle.sch_cli.specs.Steps.{first_cost};
+ghost use Rattle.sch_cli.specs.Telling.{by_plan};
 ghost use Rattle.sch_loading.specs.Reads.{Reads, file, schema_file};
 ghost use Rattle.sch_words.specs.Commands.{validate};
 ghost use Rattle.sch_loading.specs.Loading.{Planning};
 ghost use Rattle.sch_cli.specs.inner.Carried.{Carried};
 ghost use Rattle.sch_cli.specs.inner.Counts.{RoseFor};
 ghost use Rattle.sch_cli.specs.inner.Followers.{treed_by};
-ghost use Rattle.sch_cli.specs.inner.Sessions.{IsEvaluated, IsUnevaluated, next_cost};
+ghost use Rattle.sch_cli.specs.inner.Sessions.{IsEvaluated, IsUnevaluated, document_of, next_cost};
 ghost use Rattle.sch_cli.specs.inner.Writing.{WroteText, of_report};
 ghost use Rattle.sch_stops.specs.Stops.{ends_with};
 
@@ -38,7 +38,7 @@ fn load_under<S: Shelf>(
     requires { IsSound plan }
     ensures reads { Reads (S.state shelf.old) (S.state shelf.new) (file name ∷ []) (λ files. Treeing files plan name) treed_by result }
     ensures cap { IfOk result (λ session. session.tree.pair_cap ≡ pair_cap_for session.plan) }
-    ensures unevaluated { IfOk result (λ session. IsUnevaluated session) }
+    ensures unevaluated { IfOk result (λ session. IsUnevaluated (document_of session)) }
 {
     let tree = load_document(alloc, name, shelf)?;
     match Session::open(alloc, plan, tree) {
@@ -59,7 +59,7 @@ pub(crate) fn load_asked<S: Shelf>(
     ensures reads { Reads (S.state shelf.old) (S.state shelf.new) (schema_file asked.entry.schema.now ∷ file asked.entry.document.now ∷ [])
         (λ files. Opening files asked.entry.phase.now asked.entry.schema.now asked.entry.document.now) treed_by result }
     ensures cap { IfOk result (λ session. session.tree.pair_cap ≡ pair_cap_for session.plan) }
-    ensures unevaluated { IfOk result (λ session. IsUnevaluated session) }
+    ensures unevaluated { IfOk result (λ session. IsUnevaluated (document_of session)) }
 {
     let document = Text::copy(alloc, asked.document.as_str())?;
     let plan = load_plan(alloc, asked.schema, asked.phase, shelf)?;
@@ -67,7 +67,7 @@ pub(crate) fn load_asked<S: Shelf>(
 }
 
 /// Writes the state of a document as it stands, and keeps what its units gave; answers what it shows.
-pub(crate) fn write_state<O: Sink, L: Ledger>(
+pub(crate) fn write_session<O: Sink, L: Ledger>(
     session: &mut Session,
     out: &mut O,
     steps: &mut Steps<L>,
@@ -95,8 +95,8 @@ fn write_once<O: Sink, L: Ledger>(
 ) -> Result<Shown, Stop>
     ensures wrote { WroteText (O.log out.old) (O.log out.new) (state_text session.now.plan session.now.tree.nodes) result }
     ensures shown { IfOk result (λ last. last ≡ shows session.now.plan session.now.tree.nodes) }
-    ensures rose { IfOk result (RoseFor (first_cost session.now.plan session.now.tree.nodes) steps.old steps.new) }
-    ensures at_most { steps.new ≤ steps.old + first_cost session.now.plan session.now.tree.nodes }
+    ensures rose { IfOk result (RoseFor ((by_plan session.now.plan).first_cost session.now.tree.nodes) steps.old steps.new) }
+    ensures at_most { steps.new ≤ steps.old + (by_plan session.now.plan).first_cost session.now.tree.nodes }
     ensures steps { steps.old ≤ steps.new }
 {
     match session.report_once(out, steps) {

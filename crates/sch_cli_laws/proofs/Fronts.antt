@@ -4,23 +4,24 @@ use Rattle.sch_io.specs.Files.{Files}
 use Rattle.doc_tree.specs.Table.{Table}
 use Rattle.edit_command_laws.specs.OneEdit.{OneEdit}
 use Rattle.edit_script.specs.Script.{Script, script_of}
-use Rattle.edit_session.specs.State.{shows, state_text}
+use Rattle.edit_session.specs.State.{state_text}
 use Rattle.edit_session.specs.declared.state.Shown.{Shown}
 use Rattle.name_scopes.specs.ScopedTree.{OneTree}
-use Rattle.sch_compiled.specs.declared.plan.Plan.{Plan}
 use Rattle.sch_include.specs.Included.{OneInclusion}
 use Rattle.sch_plan.specs.OnePlan.{OnePlan}
-use Rattle.sch_words.specs.Commands.{Command, tell, expand, validate, follow, measure, summarize, command_of}
+use Rattle.sch_words.specs.Commands.{Command, tell, expand, validate, follow, measure, summarize, watch, command_of}
 use Rattle.sch_words.specs.declared.status.Status.TheVariants.{Usage}
 use Rattle.sch_stops.specs.EditLines.{edit_line, refused_line}
 use Rattle.sch_stops.specs.Output.{Output, stopped, usage_line}
 use Rattle.sch_loading.specs.Loading.{Expanding, Reporting}
 use Rattle.sch_loading.specs.Stages.{Came, Is, Onward, Stage, Then, goes, halts, unread}
 use Rattle.sch_loading.proofs.StageLemmas.{Single, one-is, one-then, through}
-use Rattle.sch_cli.specs.Behaviours.{Any, BeginsStates, IsEnd, Making, Measures, MeasuresText, Opening, OpeningAll, States, behaviour}
+use Rattle.sch_cli.specs.Telling.{Telling, by_plan, by_watches}
+use Rattle.watch_lines_laws.specs.Reading.{OneReading}
+use Rattle.sch_cli.specs.Behaviours.{Any, BeginsStates, IsEnd, Making, Measures, MeasuresText, Opening, OpeningAll, States, WatchingAll, behaviour}
 use Rattle.sch_cli.specs.Following.{Begins, Follows, edited, nothing_yet, refused, then_shown}
 use Rattle.sch_cli.specs.Output.{expanded, in_front, notice_output, state, summed_up}
-use Rattle.sch_cli.proofs.OneOutput.{one-expanding, one-making, one-measures, one-opening, one-opening-all, one-reporting}
+use Rattle.sch_cli.proofs.OneOutput.{one-expanding, one-making, one-measures, one-opening, one-opening-all, one-reporting, one-watching-all}
 use Rattle.sch_cli_laws.specs.Decided.{BegunIsFront}
 use Rattle.sch_cli.proofs.ScriptCases.{WritesEdited, WritesRefused, follows-onto, refused-or-none, refused-same}
 
@@ -34,14 +35,14 @@ front-behind line text output later is front =
     (front.0, ap (λ (o : Output). o.out) is ∙ ap (λ (out : List ℕ). line ++ out) front.1 ∙ sym (append_assoc line text front.0))
 
 -- the first commands of a script write a front of what all of them write
-module _ (one_edit : OneEdit) (plan : Plan) where
-  begins-front : (T : Table) (number : ℕ) (script : Script) (text : List ℕ) → Begins plan T number script text →
-      (seen : Shown) (output : Output) → Follows plan T number seen script output → IsFront text output
+module _ (one_edit : OneEdit) (telling : Telling) where
+  begins-front : (T : Table) (number : ℕ) (script : Script) (text : List ℕ) → Begins telling T number script text →
+      (seen : Shown) (output : Output) → Follows telling T number seen script output → IsFront text output
   begins-front T number _ _ (nothing_yet _ _ script) seen output follows = (output.out, refl)
   begins-front T number _ _ (refused _ _ command reason rest text some begins) seen output follows =
-      by (begins-front T (number + 1) rest text begins) (follows-onto plan T number seen command rest output follows)
+      by (begins-front T (number + 1) rest text begins) (follows-onto telling T number seen command rest output follows)
     where
-      by : ((s : Shown) (o : Output) → Follows plan T (number + 1) s rest o → IsFront text o) → WritesRefused plan T number seen command rest output ⊎ WritesEdited plan T number seen command rest output →
+      by : ((s : Shown) (o : Output) → Follows telling T (number + 1) s rest o → IsFront text o) → WritesRefused telling T number seen command rest output ⊎ WritesEdited telling T number seen command rest output →
           IsFront (refused_line number reason ++ text) output
       by later (inl found) =
           let line : refused_line number found.reason ≡ refused_line number reason = ap (refused_line number) (refused-same found.refused some) in
@@ -49,22 +50,22 @@ module _ (one_edit : OneEdit) (plan : Plan) where
           (later seen found.later found.follows)
       by later (inr found) = absurd (refused-or-none some found.free)
   begins-front T number _ _ (edited _ U _ command rest text none makes begins) seen output follows =
-      by (begins-front U (number + 1) rest text begins) (follows-onto plan T number seen command rest output follows)
+      by (begins-front U (number + 1) rest text begins) (follows-onto telling T number seen command rest output follows)
     where
-      by : ((s : Shown) (o : Output) → Follows plan U (number + 1) s rest o → IsFront text o) → WritesRefused plan T number seen command rest output ⊎ WritesEdited plan T number seen command rest output →
-          IsFront ((edit_line number ++ state_text plan U) ++ text) output
+      by : ((s : Shown) (o : Output) → Follows telling U (number + 1) s rest o → IsFront text o) → WritesRefused telling T number seen command rest output ⊎ WritesEdited telling T number seen command rest output →
+          IsFront ((edit_line number ++ telling.text U) ++ text) output
       by later (inl found) = absurd (refused-or-none found.refused none)
       by later (inr found) =
           let trees : found.made ≡ U = one_edit T found.made U command found.makes makes in
-          let line : edit_line number ++ state_text plan found.made ≡ edit_line number ++ state_text plan U = ap (λ (X : Table). edit_line number ++ state_text plan X) trees in
-          front-behind (edit_line number ++ state_text plan U) text output found.later (found.is ∙ ap (λ (l : List ℕ). in_front l found.later) line)
-          (later (then_shown seen (shows plan U)) found.later
-          (subst (λ (X : Table). Follows plan X (number + 1) (then_shown seen (shows plan X)) rest found.later) trees found.follows))
+          let line : edit_line number ++ telling.text found.made ≡ edit_line number ++ telling.text U = ap (λ (X : Table). edit_line number ++ telling.text X) trees in
+          front-behind (edit_line number ++ telling.text U) text output found.later (found.is ∙ ap (λ (l : List ℕ). in_front l found.later) line)
+          (later (then_shown seen (telling.shows U)) found.later
+          (subst (λ (X : Table). Follows telling X (number + 1) (then_shown seen (telling.shows X)) rest found.later) trees found.follows))
 
-  states-front : (T : Table) (bytes text : List ℕ) (output : Output) → BeginsStates plan T bytes text → States plan T bytes output → IsFront text output
+  states-front : (T : Table) (bytes text : List ℕ) (output : Output) → BeginsStates telling T bytes text → States telling T bytes output → IsFront text output
   states-front T bytes text output begun all =
       subst (λ (t : List ℕ). IsFront t output) (sym begun.2)
-      (front-behind (state_text plan T) begun.0 output all.0 all.2 (begins-front T 1 (script_of bytes) begun.0 begun.1 (shows plan T) all.0 all.1))
+      (front-behind (telling.text T) begun.0 output all.0 all.2 (begins-front T 1 (script_of bytes) begun.0 begun.1 (telling.shows T) all.0 all.1))
 
 goes-same : {A : Type 0} (a b : A) → goes a ≡ goes b → a ≡ b
 goes-same a b h = cc
@@ -107,7 +108,7 @@ written-front ready one =
     begun-front ready one (λ written output. output ≡ written) (λ written text. text ≡ written.out)
     (λ written text output is whole. ([], ap (λ (o : Output). o.out) whole ∙ sym is ∙ sym (append-nil text)))
 
-module _ (one_tree : OneTree) (one_inclusion : OneInclusion) (one_plan : OnePlan) (one_edit : OneEdit) (files : Files) where
+module _ (one_tree : OneTree) (one_inclusion : OneInclusion) (one_plan : OnePlan) (one_edit : OneEdit) (one_reading : OneReading) (files : Files) where
   asked-front : (asked : Option Command) (opened others : List (List ℕ)) (text : List ℕ) (output : Output) → (behaviour asked).begins files opened (goes text) → IsEnd ((behaviour asked).ends files) others output → IsFront text output
   asked-front None = written-front (Is (halts (stopped Usage usage_line))) (one-is (halts (stopped Usage usage_line)))
   asked-front (Some (tell notice)) = written-front (Is (goes (notice_output notice))) (one-is (goes (notice_output notice)))
@@ -123,8 +124,12 @@ module _ (one_tree : OneTree) (one_inclusion : OneInclusion) (one_plan : OnePlan
       (λ at text output is whole. ([], ap (λ (o : Output). o.out) whole ∙ sym is ∙ sym (append-nil text)))
   asked-front (Some (follow phase schema document script)) =
       begun-front (OpeningAll files phase schema document script) (one-opening-all one_tree one_inclusion one_plan one_edit files phase schema document script)
-      (λ at. States at.treed.plan at.treed.tree at.script) (λ at. BeginsStates at.treed.plan at.treed.tree at.script)
-      (λ at. states-front one_edit at.treed.plan at.treed.tree at.script)
+      (λ at. States (by_plan at.treed.plan) at.treed.tree at.script) (λ at. BeginsStates (by_plan at.treed.plan) at.treed.tree at.script)
+      (λ at. states-front one_edit (by_plan at.treed.plan) at.treed.tree at.script)
+  asked-front (Some (watch named document script)) =
+      begun-front (WatchingAll files named document script) (one-watching-all one_tree one_inclusion one_plan one_edit files one_reading named document script)
+      (λ at. States (by_watches at.watched.expressions) at.watched.tree at.script) (λ at. BeginsStates (by_watches at.watched.expressions) at.watched.tree at.script)
+      (λ at. states-front one_edit (by_watches at.watched.expressions) at.watched.tree at.script)
   asked-front (Some (measure items)) =
       begun-front (Making items) (one-making one_tree one_inclusion one_plan one_edit items)
       (λ at. Measures at.treed.plan at.treed.tree at.script) (λ at. MeasuresText at.treed.plan at.treed.tree at.script)
@@ -133,6 +138,6 @@ module _ (one_tree : OneTree) (one_inclusion : OneInclusion) (one_plan : OnePlan
         ap (λ (o : Output). o.out) (one-measures one_edit at.treed.plan at.treed.tree at.script output begun.0 whole begun.1) ∙ sym begun.2 ∙ sym (append-nil text),
       ))
 
-pub begun-is-front : OneTree → OneInclusion → OnePlan → OneEdit → BegunIsFront
-begun-is-front one_tree one_inclusion one_plan one_edit words files opened text output begun found =
-    asked-front one_tree one_inclusion one_plan one_edit files (command_of words) opened found.0 text output begun found.1
+pub begun-is-front : OneTree → OneInclusion → OnePlan → OneEdit → OneReading → BegunIsFront
+begun-is-front one_tree one_inclusion one_plan one_edit one_reading words files opened text output begun found =
+    asked-front one_tree one_inclusion one_plan one_edit one_reading files (command_of words) opened found.0 text output begun found.1

@@ -3,35 +3,34 @@ use Rattle.std.proofs.Common.{◌≡◌, ℕ, ◌+◌, List, Option, None, Some,
 use Rattle.sch_io.specs.Files.{Files}
 use Rattle.doc_tree.specs.Table.{Table}
 use Rattle.edit_script.specs.Script.{Script, script_of}
-use Rattle.edit_session.specs.State.{shows}
 use Rattle.edit_session.specs.declared.state.Shown.{Shown}
-use Rattle.sch_compiled.specs.declared.plan.Plan.{Plan}
-use Rattle.sch_words.specs.Commands.{Command, tell, expand, validate, follow, measure, summarize, command_of}
+use Rattle.sch_words.specs.Commands.{Command, tell, expand, validate, follow, measure, summarize, watch, command_of}
 use Rattle.sch_words.specs.declared.status.Status.TheVariants.{Usage}
 use Rattle.sch_stops.specs.Output.{Output, stopped, usage_line}
 use Rattle.sch_loading.specs.Loading.{Expanding, Reporting}
 use Rattle.sch_loading.specs.Stages.{Is, Stage, Then, goes, halts}
 use Rattle.sch_loading.proofs.StageLemmas.{through}
-use Rattle.sch_cli.specs.Behaviours.{Any, Making, Measures, Opening, OpeningAll, States, StatesCost, behaviour}
+use Rattle.sch_cli.specs.Telling.{Telling, by_plan, by_watches}
+use Rattle.sch_cli.specs.Behaviours.{Any, Making, Measures, Opening, OpeningAll, States, StatesCost, WatchingAll, behaviour}
 use Rattle.sch_cli.specs.Following.{Follows, comes_to_end, edits, refuses, stops_at, then_shown}
 use Rattle.sch_cli.specs.Output.{expanded, notice_output, state, summed_up}
-use Rattle.sch_cli.specs.Steps.{EditsCost, at_a_fault, at_the_end, edit_cost, first_cost, of_edited, of_refused}
+use Rattle.sch_cli.specs.Steps.{EditsCost, at_a_fault, at_the_end, of_edited, of_refused}
 use Rattle.sch_cli_laws.specs.Ended.{SomeCost}
 
 -- what is written for the commands of a script has visits
-module _ (plan : Plan) where
-  follows-cost : (T : Table) (number : ℕ) (seen : Shown) (script : Script) (output : Output) → Follows plan T number seen script output → (cost : ℕ) × EditsCost plan T script cost
+module _ (telling : Telling) where
+  follows-cost : (T : Table) (number : ℕ) (seen : Shown) (script : Script) (output : Output) → Follows telling T number seen script output → (cost : ℕ) × EditsCost telling T script cost
   follows-cost T number seen _ _ (comes_to_end _ _ _) = (0, at_the_end T)
   follows-cost T number seen _ _ (stops_at _ _ _ fault) = (0, at_a_fault T fault)
   follows-cost T number seen _ _ (refuses _ _ _ command reason rest output some follows) =
       let later = follows-cost T (number + 1) seen rest output follows in (later.0, of_refused T command reason rest later.0 some later.1)
   follows-cost T number seen _ _ (edits _ U _ _ command rest output none makes follows) =
-      let later = follows-cost U (number + 1) (then_shown seen (shows plan U)) rest output follows in
-      (edit_cost plan T command U + later.0, of_edited T U command rest later.0 none makes later.1)
+      let later = follows-cost U (number + 1) (then_shown seen (telling.shows U)) rest output follows in
+      (telling.edit_cost T command U + later.0, of_edited T U command rest later.0 none makes later.1)
 
-  states-cost : (T : Table) (bytes : List ℕ) (output : Output) → States plan T bytes output → (cost : ℕ) × StatesCost plan T bytes cost
+  states-cost : (T : Table) (bytes : List ℕ) (output : Output) → States telling T bytes output → (cost : ℕ) × StatesCost telling T bytes cost
   states-cost T bytes output states =
-      let later = follows-cost T 1 (shows plan T) (script_of bytes) states.0 states.1 in (first_cost plan T + later.0, (later.0, later.1, refl))
+      let later = follows-cost T 1 (telling.shows T) (script_of bytes) states.0 states.1 in (telling.first_cost T + later.0, (later.0, later.1, refl))
 
 -- behind stages that make a value ready
 visited : {A : Type 0} (ready : Stage A) (outputs : A → Output → Type 0) (visits : A → ℕ → Type 0) → ((value : A) (output : Output) → outputs value output → (cost : ℕ) × visits value cost) →
@@ -61,14 +60,17 @@ asked-cost files (Some (tell notice)) = written (Is (goes (notice_output notice)
 asked-cost files (Some (expand schema)) = written (Then (Expanding files schema) (λ flat. Is (goes (expanded flat))))
 asked-cost files (Some (summarize report)) = written (Then (Reporting files report) (λ said. Is (goes (summed_up said))))
 asked-cost files (Some (validate phase schema document)) =
-    visited (Opening files phase schema document) (λ at output. output ≡ state at.plan at.tree) (λ at cost. cost ≡ first_cost at.plan at.tree)
-    (λ at output is. (first_cost at.plan at.tree, refl))
+    visited (Opening files phase schema document) (λ at output. output ≡ state at.plan at.tree) (λ at cost. cost ≡ (by_plan at.plan).first_cost at.tree)
+    (λ at output is. ((by_plan at.plan).first_cost at.tree, refl))
 asked-cost files (Some (follow phase schema document script)) =
-    visited (OpeningAll files phase schema document script) (λ at. States at.treed.plan at.treed.tree at.script) (λ at. StatesCost at.treed.plan at.treed.tree at.script)
-    (λ at. states-cost at.treed.plan at.treed.tree at.script)
+    visited (OpeningAll files phase schema document script) (λ at. States (by_plan at.treed.plan) at.treed.tree at.script) (λ at. StatesCost (by_plan at.treed.plan) at.treed.tree at.script)
+    (λ at. states-cost (by_plan at.treed.plan) at.treed.tree at.script)
+asked-cost files (Some (watch named document script)) =
+    visited (WatchingAll files named document script) (λ at. States (by_watches at.watched.expressions) at.watched.tree at.script)
+    (λ at. StatesCost (by_watches at.watched.expressions) at.watched.tree at.script) (λ at. states-cost (by_watches at.watched.expressions) at.watched.tree at.script)
 asked-cost files (Some (measure items)) =
-    visited (Making items) (λ at. Measures at.treed.plan at.treed.tree at.script) (λ at. StatesCost at.treed.plan at.treed.tree at.script)
-    (λ at output measures. states-cost at.treed.plan at.treed.tree at.script measures.followed measures.states)
+    visited (Making items) (λ at. Measures at.treed.plan at.treed.tree at.script) (λ at. StatesCost (by_plan at.treed.plan) at.treed.tree at.script)
+    (λ at output measures. states-cost (by_plan at.treed.plan) at.treed.tree at.script measures.followed measures.states)
 
 pub some-cost : SomeCost
 some-cost words files = asked-cost files (command_of words)

@@ -38,9 +38,8 @@ use Rattle.sch_compiled.specs.declared.plan.Plan.{Plan}
 use Rattle.sch_plan.specs.Compiled.{compiled}
 use Rattle.sch_plan_laws.specs.Planned.{EachPhaseIsCompiled}
 use Rattle.edit_session.specs.Pairs.{has_too_many_pairs}
-use Rattle.edit_session.specs.State.{shows, state_text}
 use Rattle.edit_session.specs.declared.state.Shown.{Shown}
-use Rattle.sch_words.specs.Commands.{Command, tell, expand, validate, follow, measure, summarize, command_of, default_phase}
+use Rattle.sch_words.specs.Commands.{Command, tell, expand, validate, follow, measure, summarize, watch, command_of, default_phase}
 use Rattle.sch_measure.specs.Shelf.{measure_files}
 use Rattle.sch_measure.specs.declared.shelf.TheConstants.{SCHEMA_NAME, DOCUMENT_NAME, SCRIPT_NAME}
 use Rattle.sch_words.specs.declared.status.Status.TheVariants.{SchemaRefused, ScriptRefused, Usage}
@@ -49,9 +48,15 @@ use Rattle.sch_stops.specs.declared.refusal.ScriptRefusal.TheVariants as script
 use Rattle.sch_stops.specs.EditLines.{edit_line, refused_line}
 use Rattle.sch_stops.specs.Output.{Output, stopped, usage_line}
 use Rattle.sch_stops.specs.Refusals.{include_line, script_refused_line}
-use Rattle.sch_loading.specs.Loading.{Compiling, Expanding, Fetching, Flattening, Inclusion, Loading, Parsing, Planning, Reading, Reporting, Saying, Scripting, as_script, at_include, held_under, missing, refused_document, refused_file, refused_report, refused_rule, script_too_large}
+use Rattle.sch_loading.specs.Loading.{Compiling, Expanding, Expressing, Fetching, Flattening, Inclusion, Loading, Parsing, Planning, Reading, Reporting, Saying, Scripting, Watching, as_script, at_include, held_under, missing, refused_document, refused_file, refused_report, refused_rule, refused_watches, script_too_large}
 use Rattle.sch_loading.specs.Stages.{Is, Stage, Then, goes, halt_at, halt_if, halts}
-use Rattle.sch_cli.specs.Behaviours.{Any, IsEnd, Making, Measures, Opening, OpeningAll, Scripted, States, Treed, Treeing, behaviour, too_many_pairs, tree_under}
+use Rattle.sch_cli.specs.Telling.{Telling, by_plan, by_watches}
+use Rattle.xp_typed_tree.specs.TypedTree.{TypedTree}
+use Rattle.watch_lines.specs.Watches.{WatchesAre}
+use Rattle.watch_lines.specs.declared.fault.WatchFault.{WatchFault}
+use Rattle.watch_lines_laws.specs.Reading.{EachFileIsRead}
+use Rattle.sch_stops.specs.declared.watches.WatchesRefusal.TheVariants as watches
+use Rattle.sch_cli.specs.Behaviours.{Any, IsEnd, Making, Measures, Opening, OpeningAll, OpeningWatch, Scripted, States, Treed, Treeing, Watched, WatchedScript, WatchingAll, WatchingOn, behaviour, too_many_pairs, tree_under, watched_on}
 use Rattle.sch_cli.specs.Following.{Follows, comes_to_end, edits, refuses, stops_at, then_shown, under}
 use Rattle.sch_cli.specs.Measuring.{LeadsTo, measure_text, measured_as, past_edited, past_refused, to_a_fault, to_the_end}
 use Rattle.sch_cli.specs.Output.{ended, expanded, in_front, notice_output, state, summed_up}
@@ -73,48 +78,55 @@ IsTreed treed = IsTree treed.tree
 abbrev IsScripted : Scripted → Type 0
 IsScripted at = IsTree at.treed.tree × (length at.script ≤ MAX_SCRIPT_BYTES)
 
+abbrev IsWatched : Watched → Type 0
+IsWatched at = IsTree at.tree
+
+abbrev IsWatchedScript : WatchedScript → Type 0
+IsWatchedScript at = IsTree at.watched.tree × (length at.script ≤ MAX_SCRIPT_BYTES)
+
 -- what is to come of a script, by its parts
 abbrev script_with : List Edit → Option ScriptFault → Script
 script_with commands fault = record { commands = commands; fault = fault }
 
 -- what is written for the commands of a script
-module _ (makes_trees : EditsMakeTrees) (keeps_trees : EditsKeepTrees) (plan : Plan) where
+module _ (makes_trees : EditsMakeTrees) (keeps_trees : EditsKeepTrees) (telling : Telling) where
   some-follows : (commands : List Edit) (fault : Option ScriptFault) (T : Table) (number : ℕ) (seen : Shown) → IsTree T → All WellFormedCommand commands →
-      (output : Output) × Follows plan T number seen (script_with commands fault) output
+      (output : Output) × Follows telling T number seen (script_with commands fault) output
   some-follows [] None T number seen tree formed = (ended [] seen, comes_to_end T number seen)
   some-follows [] (Some fault) T number seen tree formed = (stopped ScriptRefused (script_refused_line (script.Faulted fault)), stops_at T number seen fault)
   some-follows (command ∷ commands) fault T number seen tree formed =
-      by (command_refusal (under plan T) command) refl (λ U shown kept. some-follows commands fault U (number + 1) shown kept (All-tail WellFormedCommand command commands formed))
+      by (command_refusal (under telling T) command) refl (λ U shown kept. some-follows commands fault U (number + 1) shown kept (All-tail WellFormedCommand command commands formed))
     where
-      by : (o : Option EditRefusal) → command_refusal (under plan T) command ≡ o →
-          ((U : Table) (shown : Shown) → IsTree U → (output : Output) × Follows plan U (number + 1) shown (script_with commands fault) output) →
-          (output : Output) × Follows plan T number seen (script_with (command ∷ commands) fault) output
+      by : (o : Option EditRefusal) → command_refusal (under telling T) command ≡ o →
+          ((U : Table) (shown : Shown) → IsTree U → (output : Output) × Follows telling U (number + 1) shown (script_with commands fault) output) →
+          (output : Output) × Follows telling T number seen (script_with (command ∷ commands) fault) output
       by (Some reason) some behind =
           let later = behind T seen tree in
           (in_front (refused_line number reason) later.0, refuses T number seen command reason (script_with commands fault) later.0 some later.1)
       by None none behind =
-          let made = makes_trees (under plan T) command tree.0 (All-head WellFormedCommand command commands formed) none in
-          let later = behind made.0 (then_shown seen (shows plan made.0)) (keeps_trees (under plan T) command made.0 tree.0 tree.1 none made.1) in
-          (in_front (edit_line number ++ state_text plan made.0) later.0, edits T made.0 number seen command (script_with commands fault) later.0 none made.1 later.1)
+          let made = makes_trees (under telling T) command tree.0 (All-head WellFormedCommand command commands formed) none in
+          let later = behind made.0 (then_shown seen (telling.shows made.0)) (keeps_trees (under telling T) command made.0 tree.0 tree.1 none made.1) in
+          (in_front (edit_line number ++ telling.text made.0) later.0, edits T made.0 number seen command (script_with commands fault) later.0 none made.1 later.1)
 
-  some-states : ScriptsAreWellFormed → (T : Table) (bytes : List ℕ) → IsTree T → length bytes ≤ MAX_SCRIPT_BYTES → (output : Output) × States plan T bytes output
+  some-states : ScriptsAreWellFormed → (T : Table) (bytes : List ℕ) → IsTree T → length bytes ≤ MAX_SCRIPT_BYTES → (output : Output) × States telling T bytes output
   some-states formed T bytes tree short =
-      let rest = some-follows (script_of bytes).commands (script_of bytes).fault T 1 (shows plan T) tree (formed bytes short) in
-      (in_front (state_text plan T) rest.0, (rest.0, rest.1, refl))
+      let rest = some-follows (script_of bytes).commands (script_of bytes).fault T 1 (telling.shows T) tree (formed bytes short) in
+      (in_front (telling.text T) rest.0, (rest.0, rest.1, refl))
 
   -- what is written for the commands of a script is written for those that make some document
-  follows-leads : (T : Table) (number : ℕ) (seen : Shown) (script : Script) (output : Output) → Follows plan T number seen script output → (U : Table) × LeadsTo plan T script U
+  follows-leads : (T : Table) (number : ℕ) (seen : Shown) (script : Script) (output : Output) → Follows telling T number seen script output → (U : Table) × LeadsTo telling T script U
   follows-leads T number seen _ _ (comes_to_end _ _ _) = (T, to_the_end T)
   follows-leads T number seen _ _ (stops_at _ _ _ fault) = (T, to_a_fault T fault)
   follows-leads T number seen _ _ (refuses _ _ _ command reason rest output some follows) =
       let later = follows-leads T (number + 1) seen rest output follows in (later.0, past_refused T later.0 command reason rest some later.1)
   follows-leads T number seen _ _ (edits _ V _ _ command rest output none makes follows) =
-      let later = follows-leads V (number + 1) (then_shown seen (shows plan V)) rest output follows in (later.0, past_edited T V later.0 command rest none makes later.1)
+      let later = follows-leads V (number + 1) (then_shown seen (telling.shows V)) rest output follows in (later.0, past_edited T V later.0 command rest none makes later.1)
 
+module _ (makes_trees : EditsMakeTrees) (keeps_trees : EditsKeepTrees) (plan : Plan) where
   some-measures : ScriptsAreWellFormed → (T : Table) (bytes : List ℕ) → IsTree T → length bytes ≤ MAX_SCRIPT_BYTES → (output : Output) × Measures plan T bytes output
   some-measures formed T bytes tree short =
-      let states = some-states formed T bytes tree short in
-      let last = follows-leads T 1 (shows plan T) (script_of bytes) states.1.0 states.1.1 in (
+      let states = some-states makes_trees keeps_trees (by_plan plan) formed T bytes tree short in
+      let last = follows-leads makes_trees keeps_trees (by_plan plan) T 1 ((by_plan plan).shows T) (script_of bytes) states.1.0 states.1.1 in (
         measured_as states.0.ends (measure_text plan T last.0) states.0,
         record { followed = states.0; states = states.1; last = last.0; leads = last.1; is = refl },
       )
@@ -221,6 +233,30 @@ module _ (trees : DocumentsHaveTrees) (some_inclusion : SomeInclusion) (each_com
       (λ treed tree. then-ends (Scripting files script) (λ bytes. Is (goes (record { treed = treed; script = bytes }))) (λ bytes. length bytes ≤ MAX_SCRIPT_BYTES) IsScripted
       (scripting-ends script) (λ bytes short. goes-ends (record { treed = treed; script = bytes }) IsScripted (tree, short)))
 
+  -- watched expressions
+  expressing-ends : EachFileIsRead → (found : Option (List ℕ)) → Ends (Expressing found) Anything
+  expressing-ends read None = halted [] (refused_watches watches.TooLarge) (refl, refl)
+  expressing-ends read (Some bytes) = let found = read bytes in by found.0 found.1
+    where
+      by : (r : Result (List TypedTree) WatchFault) → WatchesAre bytes r → Ends (Expressing (Some bytes)) Anything
+      by (Ok exprs) are = on_with [] exprs (refl, Ok exprs, are, refl) tt
+      by (Err fault) are = halted [] (refused_watches (watches.Faulted fault)) (refl, Err fault, are, refl)
+
+  watching-ends : EachFileIsRead → (named : List ℕ) → Ends (Watching files named) Anything
+  watching-ends read named =
+      then-ends (Fetching files named MAX_FILE_BYTES) Expressing (IsShort MAX_FILE_BYTES) Anything (fetching-ends named MAX_FILE_BYTES) (λ found short. expressing-ends read found)
+
+  watching-on-ends : (exprs : List TypedTree) (document : List ℕ) → Ends (WatchingOn files exprs document) IsWatched
+  watching-on-ends exprs document =
+      then-ends (Loading files document) (λ T. Is (goes (watched_on exprs T))) IsTree IsWatched (loading-ends document) (λ T tree. goes-ends (watched_on exprs T) IsWatched tree)
+
+  watching-all-ends : EachFileIsRead → (named document script : List ℕ) → Ends (WatchingAll files named document script) IsWatchedScript
+  watching-all-ends read named document script =
+      then-ends (OpeningWatch files named document) (λ watched. Then (Scripting files script) (λ bytes. Is (goes (record { watched = watched; script = bytes })))) IsWatched IsWatchedScript
+      (then-ends (Watching files named) (λ exprs. WatchingOn files exprs document) Anything IsWatched (watching-ends read named) (λ exprs any. watching-on-ends exprs document))
+      (λ watched tree. then-ends (Scripting files script) (λ bytes. Is (goes (record { watched = watched; script = bytes }))) (λ bytes. length bytes ≤ MAX_SCRIPT_BYTES) IsWatchedScript
+      (scripting-ends script) (λ bytes short. goes-ends (record { watched = watched; script = bytes }) IsWatchedScript (tree, short)))
+
 -- what is made for a measure
 making-ends : DocumentsHaveTrees → SomeInclusion → EachPhaseIsCompiled → (items : ℕ) → Ends (Making items) IsScripted
 making-ends trees some_inclusion each_compiled items =
@@ -237,7 +273,7 @@ module _ (trees : DocumentsHaveTrees) (some_inclusion : SomeInclusion) (each_com
   written-ends : (ready : Stage Output) → Ends ready Anything → Ends (Then ready (λ written. Any (λ output. output ≡ written))) Anything
   written-ends ready ends = from-ends ready (λ written output. output ≡ written) Anything ends (λ written any. (written, refl))
 
-  module _ (makes_trees : EditsMakeTrees) (keeps_trees : EditsKeepTrees) (formed : ScriptsAreWellFormed) where
+  module _ (makes_trees : EditsMakeTrees) (keeps_trees : EditsKeepTrees) (formed : ScriptsAreWellFormed) (read : EachFileIsRead) where
     asked-ends : (asked : Option Command) → Ends ((behaviour asked).ends files) Anything
     asked-ends None = written-ends (Is (halts (stopped Usage usage_line))) (halted [] (stopped Usage usage_line) (refl, refl))
     asked-ends (Some (tell notice)) = written-ends (Is (goes (notice_output notice))) (goes-ends (notice_output notice) Anything tt)
@@ -251,8 +287,12 @@ module _ (trees : DocumentsHaveTrees) (some_inclusion : SomeInclusion) (each_com
         from-ends (Opening files phase schema document) (λ at output. output ≡ state at.plan at.tree) IsTreed (opening-ends trees some_inclusion each_compiled files phase schema document)
         (λ at tree. (state at.plan at.tree, refl))
     asked-ends (Some (follow phase schema document script)) =
-        from-ends (OpeningAll files phase schema document script) (λ at. States at.treed.plan at.treed.tree at.script) IsScripted (opening-all-ends trees some_inclusion each_compiled files phase schema document script)
-        (λ at is. some-states makes_trees keeps_trees at.treed.plan formed at.treed.tree at.script is.0 is.1)
+        from-ends (OpeningAll files phase schema document script) (λ at. States (by_plan at.treed.plan) at.treed.tree at.script) IsScripted (opening-all-ends trees some_inclusion each_compiled files phase schema document script)
+        (λ at is. some-states makes_trees keeps_trees (by_plan at.treed.plan) formed at.treed.tree at.script is.0 is.1)
+    asked-ends (Some (watch named document script)) =
+        from-ends (WatchingAll files named document script) (λ at. States (by_watches at.watched.expressions) at.watched.tree at.script) IsWatchedScript
+        (watching-all-ends trees some_inclusion each_compiled files read named document script)
+        (λ at is. some-states makes_trees keeps_trees (by_watches at.watched.expressions) formed at.watched.tree at.script is.0 is.1)
     asked-ends (Some (measure items)) =
         from-ends (Making items) (λ at. Measures at.treed.plan at.treed.tree at.script) IsScripted (making-ends trees some_inclusion each_compiled items)
         (λ at is. some-measures makes_trees keeps_trees at.treed.plan formed at.treed.tree at.script is.0 is.1)
@@ -265,6 +305,6 @@ some-end : (stages : Stage Output) → Ends stages Anything → (output : Output
 some-end stages (on_with opened output ends any) = (output, (opened, inl ends))
 some-end stages (halted opened output ends) = (output, (opened, inr ends))
 
-pub some-output : DocumentsHaveTrees → SomeInclusion → EachPhaseIsCompiled → EditsMakeTrees → EditsKeepTrees → ScriptsAreWellFormed → SomeOutput
-some-output trees some_inclusion each_compiled makes_trees keeps_trees formed words files =
-    some-end ((behaviour (command_of words)).ends files) (asked-ends trees some_inclusion each_compiled files makes_trees keeps_trees formed (command_of words))
+pub some-output : DocumentsHaveTrees → SomeInclusion → EachPhaseIsCompiled → EditsMakeTrees → EditsKeepTrees → ScriptsAreWellFormed → EachFileIsRead → SomeOutput
+some-output trees some_inclusion each_compiled makes_trees keeps_trees formed read words files =
+    some-end ((behaviour (command_of words)).ends files) (asked-ends trees some_inclusion each_compiled files makes_trees keeps_trees formed read (command_of words))

@@ -15,6 +15,7 @@ use sch_include::one_inclusion;
 use sch_include_laws::each_inclusion_ends;
 use sch_plan::one_plan;
 use sch_plan_laws::{each_phase_is_compiled, plans_need_no_places};
+use watch_lines_laws::{each_file_is_read, one_reading};
 
 /// What an expansion writes needs no other file and stands for the schema that was expanded: its own expansion writes the same
 /// bytes, and documents have the same reports by it.
@@ -38,6 +39,7 @@ pub fn begun_is_front()
     one_inclusion();
     one_plan();
     one_edit();
+    one_reading();
 }
 
 /// The words and the files have one count of visits at most.
@@ -48,6 +50,7 @@ pub fn one_cost()
     one_inclusion();
     one_plan();
     one_edit();
+    one_reading();
 }
 
 /// Words and files have an output: each stage of a run goes on, or halts it.
@@ -60,6 +63,7 @@ pub fn some_output()
     edits_make_trees();
     edits_keep_trees();
     scripts_are_well_formed();
+    each_file_is_read();
 }
 
 /// A run that comes to its end has visits.

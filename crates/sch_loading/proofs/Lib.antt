@@ -3,3 +3,4 @@ pub mod PartLemmas
 pub mod FileLemmas
 pub mod ReportLemmas
 pub mod SchemaLemmas
+pub mod WatchLemmas

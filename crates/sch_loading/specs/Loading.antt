@@ -1,4 +1,4 @@
--- The stages in which files are read: a schema up to the plan of a phase, a document, a report, a script.
+-- The stages in which files are read: a schema up to the plan of a phase, watched expressions, a document, a report, a script.
 use Rattle.std.specs.Prelude.{◌≡◌, ◌⊎◌, ℕ, nat_lt, List, [], ◌∷◌, Option, None, Some, Result, Ok, Err, if◌then◌else◌, length}
 use Rattle.std.specs.FinMap.{get}
 use Rattle.sch_io.specs.Files.{Files}
@@ -29,9 +29,15 @@ use Rattle.svrl_read.specs.declared.fault.SvrlFault.{SvrlFault}
 use Rattle.svrl_read.specs.declared.value.SvrlReport.{SvrlReport}
 use Rattle.sch_stops.specs.declared.refusal.DocumentRefusal.TheVariants.{File, Report}
 use Rattle.sch_stops.specs.declared.refusal.ScriptRefusal.TheVariants as script
+use Rattle.sch_stops.specs.declared.refusal.SchemaRefusal.TheVariants.{Watches}
+use Rattle.sch_stops.specs.declared.watches.WatchesRefusal.{WatchesRefusal}
+use Rattle.sch_stops.specs.declared.watches.WatchesRefusal.TheVariants as watches
+use Rattle.watch_lines.specs.Watches.{WatchesAre}
+use Rattle.watch_lines.specs.declared.fault.WatchFault.{WatchFault}
+use Rattle.xp_typed_tree.specs.TypedTree.{TypedTree}
 use Rattle.sch_loading.specs.Documents.{IsParsed}
 use Rattle.sch_stops.specs.Output.{Output, missing_line, stopped}
-use Rattle.sch_stops.specs.Refusals.{document_refused_line, include_line, schema_file_line, schema_rule_line, script_refused_line}
+use Rattle.sch_stops.specs.Refusals.{document_refused_line, include_line, schema_file_line, schema_refused_line, schema_rule_line, script_refused_line}
 use Rattle.sch_loading.specs.Stages.{By, Came, Is, Stage, Then, goes, halt_at, halts, unread}
 
 -- the outputs of runs that are stopped
@@ -49,6 +55,9 @@ refused_document refusal = stopped DocumentRefused (document_refused_line (File 
 
 abbrev pub refused_report : Table → SvrlFault → Output
 refused_report T fault = stopped DocumentRefused (document_refused_line (Report fault (location_of T fault.node)))
+
+abbrev pub refused_watches : WatchesRefusal → Output
+refused_watches refusal = stopped SchemaRefused (schema_refused_line (Watches refusal))
 
 -- a script that has too many bytes
 abbrev pub script_too_large : Output
@@ -136,3 +145,18 @@ as_script (Some bytes) = goes bytes
 -- the bytes of the named script
 abbrev pub Scripting : Files → List ℕ → Stage (List ℕ)
 Scripting files script = Then (Fetching files script MAX_SCRIPT_BYTES) (λ found. Is (as_script found))
+
+-- Watched expressions
+
+-- the bytes as watched expressions
+abbrev pub expressions : Result (List TypedTree) WatchFault → Came (List TypedTree)
+expressions (Ok exprs) = goes exprs
+expressions (Err fault) = halts (refused_watches (watches.Faulted fault))
+
+abbrev pub Expressing : Option (List ℕ) → Stage (List TypedTree)
+Expressing None = Is (halts (refused_watches watches.TooLarge))
+Expressing (Some bytes) = By (WatchesAre bytes) expressions
+
+-- the watched expressions of the named file
+abbrev pub Watching : Files → List ℕ → Stage (List TypedTree)
+Watching files named = Then (Fetching files named MAX_FILE_BYTES) Expressing

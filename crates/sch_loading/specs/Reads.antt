@@ -12,6 +12,8 @@ use Rattle.sch_stops.specs.declared.refusal.SchemaRefusal.{SchemaRefusal}
 use Rattle.sch_stops.specs.declared.refusal.SchemaRefusal.TheVariants as schema
 use Rattle.sch_stops.specs.declared.refusal.ScriptRefusal.{ScriptRefusal}
 use Rattle.sch_stops.specs.declared.refusal.ScriptRefusal.TheVariants as script
+use Rattle.sch_stops.specs.declared.watches.WatchesRefusal.{WatchesRefusal}
+use Rattle.sch_stops.specs.declared.watches.WatchesRefusal.TheVariants as watches
 use Rattle.sch_stops.specs.declared.stop.Stop.{Stop}
 use Rattle.sch_stops.specs.declared.stop.Stop.TheVariants as stop
 use Rattle.sch_stops.specs.Stops.{ByCause, Names, counted_if, ends_with}
@@ -47,10 +49,15 @@ abbrev pub extent_of_file : FileRefusal → Extent
 extent_of_file refusal.TooLarge = all_but_last
 extent_of_file (refusal.Faulted fault) = all_files
 
+abbrev pub extent_of_watches : WatchesRefusal → Extent
+extent_of_watches watches.TooLarge = all_but_last
+extent_of_watches (watches.Faulted fault) = all_files
+
 abbrev pub extent_of_schema : SchemaRefusal → Extent
 extent_of_schema (schema.File name refused) = extent_of_file refused
 extent_of_schema (schema.Include kind name) = all_files
 extent_of_schema (schema.Rule fault location) = all_files
+extent_of_schema (schema.Watches refused) = extent_of_watches refused
 
 abbrev pub extent_of_document : DocumentRefusal → Extent
 extent_of_document (document.File refused) = extent_of_file refused

@@ -110,7 +110,11 @@ pub fn read_script<S: Shelf>(alloc: Global, name: Text, shelf: &mut S) -> Result
 }
 
 /// The bytes of the named file, None where it has more than a file may have.
-fn read_file<S: Shelf>(alloc: Global, name: Text, shelf: &mut S) -> Result<Option<Bytes>, Stop>
+pub(crate) fn read_file<S: Shelf>(
+    alloc: Global,
+    name: Text,
+    shelf: &mut S,
+) -> Result<Option<Bytes>, Stop>
     ensures reads { ReadsUpTo (extent_of_fetching result) (S.state shelf.old) (S.state shelf.new) (file name ∷ []) (λ files. Fetching files name MAX_FILE_BYTES) (λ found. found) result }
     ensures short { IfOk result (λ found. IfSome found (λ bytes. length bytes ≤ MAX_FILE_BYTES)) }
 {

@@ -24,6 +24,7 @@ use Rattle.sch_stops.specs.declared.refusal.ScriptRefusal.{ScriptRefusal}
 use Rattle.sch_stops.specs.declared.refusal.ScriptRefusal.TheVariants as refused
 use Rattle.sch_stops.specs.declared.refusal.SchemaRefusal.{SchemaRefusal}
 use Rattle.sch_stops.specs.declared.refusal.SchemaRefusal.TheVariants as schema
+use Rattle.sch_stops.specs.Watches.{watches_refused_line}
 
 -- the names of the kinds of faults of a line
 abbrev pub pyx_words : PyxKind → List ℕ
@@ -153,9 +154,11 @@ abbrev pub schema_refused_line : SchemaRefusal → List ℕ
 schema_refused_line (schema.File name refusal) = schema_file_line name refusal
 schema_refused_line (schema.Include kind name) = include_line kind name
 schema_refused_line (schema.Rule fault location) = schema_rule_line location fault
+schema_refused_line (schema.Watches refusal) = watches_refused_line refusal
 
 -- the file that the line of a refused schema names
 abbrev pub file_in : SchemaRefusal → Option (List ℕ)
 file_in (schema.File name refusal) = Some name
 file_in (schema.Include kind name) = None
 file_in (schema.Rule fault location) = None
+file_in (schema.Watches refusal) = None

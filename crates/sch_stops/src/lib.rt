@@ -4,7 +4,9 @@
 mod edit_lines;
 mod refusal;
 mod stop;
+mod watches;
 
 pub use edit_lines::{write_edit_line, write_refused_line};
 pub use refusal::{DocumentRefusal, FileRefusal, SchemaRefusal, ScriptRefusal};
 pub use stop::Stop;
+pub use watches::WatchesRefusal;

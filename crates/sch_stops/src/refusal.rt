@@ -5,6 +5,7 @@ ghost use Rattle.pyx_core.specs.Escapes.{escaped};
 ghost use Rattle.sch_io.specs.Wrote.{Wrote};
 ghost use Rattle.sch_stops.specs.Refusals.{kind_words, pyx_words, reason_text, fault_text, rule_text, document_refused_line, include_line, include_text, include_words, schema_refused_line, schema_rule_line, place_text, report_line, script_fault_line, script_refused_line, script_words, svrl_name, svrl_text, svrl_word};
 
+use crate::watches::WatchesRefusal;
 use edit_script::{ScriptFault, ScriptKind};
 use itoa::Buffer;
 use name_scopes::{DocFault, DocKind};
@@ -54,6 +55,8 @@ pub enum SchemaRefusal {
     Include { kind: IncludeKind, name: Text },
     /// It breaks a rule at the node of that location.
     Rule { fault: SchemaFault, location: Text },
+    /// The file of watched expressions that stands in its place is refused.
+    Watches(WatchesRefusal),
 }
 
 impl FileRefusal {
@@ -141,6 +144,7 @@ impl SchemaRefusal {
             }
             SchemaRefusal::Include { kind, name } => tell_include(kind, name, err),
             SchemaRefusal::Rule { fault, location } => tell_rule(fault, location, err),
+            SchemaRefusal::Watches(refusal) => refusal.tell(err),
         }
     }
 }

@@ -8,7 +8,8 @@ use Rattle.sch_words.specs.declared.notice.Notice.TheVariants.{Help, Version}
 use Rattle.sch_words.specs.Counts.{count_of}
 
 -- what accepted words ask for: to say something of the program, to expand a schema, to validate by a phase and a schema a document, to
--- do the same after each command of an edit script, to measure that for a number of items, or to sum up a report
+-- do the same after each command of an edit script, to measure that for a number of items, to sum up a report, or to evaluate the watched
+-- expressions of a file over a document, and again after each command of an edit script
 pub data Command : Type 0 where
   tell : Notice → Command
   expand : List ℕ → Command
@@ -16,6 +17,7 @@ pub data Command : Type 0 where
   follow : List ℕ → List ℕ → List ℕ → List ℕ → Command
   measure : ℕ → Command
   summarize : List ℕ → Command
+  watch : List ℕ → List ℕ → List ℕ → Command
 
 -- a file's name is not empty and does not begin with `-`
 abbrev pub is_file_name : List ℕ → Bool
@@ -70,13 +72,23 @@ following_of verb phase schema document script =
     if bytes_eq verb (codes "follow") && is_file_name schema && is_file_name document && is_file_name script
     then Some (follow phase schema document script) else None
 
+-- `watch W D E`
+abbrev pub watching_of : List ℕ → List ℕ → List ℕ → Option Command
+watching_of watches document script =
+    if is_file_name watches && is_file_name document && is_file_name script then Some (watch watches document script) else None
+
+-- `watch W D E` or `follow S D E`
+abbrev pub of_three_names : List ℕ → List ℕ → List ℕ → List ℕ → Option Command
+of_three_names verb first document script =
+    if bytes_eq verb (codes "watch") then watching_of first document script else following_of verb default_phase first document script
+
 -- `--help`, `--version`, `expand S`, `measure N`, `summary R`, `validate S D`, `validate --phase P S D`, `follow S D E`,
--- `follow --phase P S D E`, where P is not empty; no other words are accepted
+-- `follow --phase P S D E`, where P is not empty, `watch W D E`; no other words are accepted
 abbrev pub command_of : List (List ℕ) → Option Command
 command_of (word ∷ []) = notice_of word
 command_of (verb ∷ word ∷ []) = of_one_name verb word
 command_of (verb ∷ schema ∷ document ∷ []) = validation_of verb default_phase schema document
-command_of (verb ∷ schema ∷ document ∷ script ∷ []) = following_of verb default_phase schema document script
+command_of (verb ∷ first ∷ document ∷ script ∷ []) = of_three_names verb first document script
 command_of (verb ∷ option ∷ phase ∷ schema ∷ document ∷ []) =
     if is_of_phase option phase then validation_of verb phase schema document else None
 command_of (verb ∷ option ∷ phase ∷ schema ∷ document ∷ script ∷ []) =
@@ -91,3 +103,4 @@ shown (borrowed.Validate asked) = validate asked.phase.now asked.schema.now aske
 shown (borrowed.Follow asked) = follow asked.validation.phase.now asked.validation.schema.now asked.validation.document.now asked.script.now
 shown (borrowed.Measure items) = measure items
 shown (borrowed.Summarize report) = summarize report.now
+shown (borrowed.Watch asked) = watch asked.watches.now asked.document.now asked.script.now

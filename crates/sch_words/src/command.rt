@@ -1,7 +1,7 @@
 //! Which words are accepted, and what they ask for.
 
 ghost use Rattle.std.specs.Prelude.{◌≡◌, MatchOption, Some, None};
-ghost use Rattle.sch_words.specs.Commands.{command_of, expansion_of, following_of, is_file_name, is_of_phase, measuring_of, notice_of, of_one_name, shown, summary_of, validation_of};
+ghost use Rattle.sch_words.specs.Commands.{command_of, expansion_of, following_of, is_file_name, is_of_phase, measuring_of, notice_of, of_one_name, of_three_names, shown, summary_of, validation_of, watching_of};
 
 use crate::count::count_of;
 use crate::notice::Notice;
@@ -25,6 +25,14 @@ pub struct ScriptedValidation<'a> {
     pub script: &'a Text,
 }
 
+/// What is watched: the expressions of a file over a document, and again after each command of the script.
+#[derive(Clone, Copy)]
+pub struct Watching<'a> {
+    pub watches: &'a Text,
+    pub document: &'a Text,
+    pub script: &'a Text,
+}
+
 /// What accepted words ask for.
 #[derive(Drop)]
 pub enum Command<'a> {
@@ -40,6 +48,8 @@ pub enum Command<'a> {
     Measure { items: u32 },
     /// Sum up a report.
     Summarize { report: &'a Text },
+    /// Evaluate watched expressions over a document, and again after each command of an edit script; write what they give.
+    Watch(Watching<'a>),
 }
 
 /// Whether a word may name a file: it is not empty and does not begin with `-`.
@@ -145,6 +155,44 @@ fn following_of<'a>(
     }
 }
 
+/// What the words ask to watch.
+fn watching_of(asked: Watching<'_>) -> Option<Command<'_>>
+    ensures { MatchOption result (watching_of asked.entry.watches.now asked.entry.document.now asked.entry.script.now ≡ None)
+        (λ command. watching_of asked.entry.watches.now asked.entry.document.now asked.entry.script.now ≡ Some (shown command)) }
+{
+    if is_file_name(asked.watches) && is_file_name(asked.document) && is_file_name(asked.script) {
+        Some(Command::Watch(asked))
+    } else {
+        None
+    }
+}
+
+/// What a verb and three words behind it ask for.
+fn of_three_names<'a>(
+    verb: &Text,
+    first: &'a Text,
+    document: &'a Text,
+    script: &'a Text,
+) -> Option<Command<'a>>
+    ensures { MatchOption result (of_three_names verb.now first.now document.now script.now ≡ None)
+        (λ command. of_three_names verb.now first.now document.now script.now ≡ Some (shown command)) }
+{
+    if verb.as_str() == "watch" {
+        let watches = first;
+        return watching_of(Watching {
+            watches,
+            document,
+            script,
+        });
+    }
+    let asked = Validation {
+        phase: DEFAULT_PHASE,
+        schema: first,
+        document,
+    };
+    following_of(verb, asked, script)
+}
+
 /// What the words ask for, or None where they are not accepted.
 pub fn command_of(words: &[Text]) -> Option<Command<'_>>
     ensures { MatchOption result (command_of words.now ≡ None) (λ command. command_of words.now ≡ Some (shown command)) }
@@ -161,15 +209,7 @@ pub fn command_of(words: &[Text]) -> Option<Command<'_>>
             };
             validation_of(verb, asked)
         }
-        [verb, schema, document, script] => {
-            let phase = DEFAULT_PHASE;
-            let asked = Validation {
-                phase,
-                schema,
-                document,
-            };
-            following_of(verb, asked, script)
-        }
+        [verb, first, document, script] => of_three_names(verb, first, document, script),
         [verb, option, phase, schema, document] if is_of_phase(option, phase) => {
             let phase = phase.as_str();
             let asked = Validation {

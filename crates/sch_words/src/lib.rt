@@ -7,7 +7,7 @@ mod notice;
 mod status;
 mod words;
 
-pub use command::{Command, DEFAULT_PHASE, ScriptedValidation, Validation, command_of};
+pub use command::{Command, DEFAULT_PHASE, ScriptedValidation, Validation, Watching, command_of};
 pub use count::MAX_MEASURED_ITEMS;
 pub use notice::Notice;
 pub use status::Status;

@@ -4,7 +4,6 @@ use Rattle.edit_script.specs.Script.{Script, onto, script_left}
 use Rattle.edit_script.specs.declared.command.Command.{Command}
 use Rattle.edit_commands.specs.declared.refusal.ApplyError.{ApplyError}
 use Rattle.edit_commands.specs.declared.refusal.ApplyError.TheVariants as apply
-use Rattle.edit_session.specs.Pairs.{pair_cap_for}
 use Rattle.sch_io.specs.SinkLog.{SinkLog}
 use Rattle.std.specs.Prelude.{Result, Err, MatchResult, IfErr}
 use Rattle.sch_io.specs.Wrote.{Appends}
@@ -21,8 +20,10 @@ use Rattle.sch_stops.specs.Stops.{ByCause, counted_if, ends_with}
 use Rattle.edit_session.specs.Standing.{Standing}
 use Rattle.edit_session.specs.declared.state.Shown.{Shown}
 use Rattle.sch_cli.specs.declared.following.Scripted.{Scripted as Borrowed}
-use Rattle.sch_cli.specs.Behaviours.{Scripted, Treed, tree_under}
-use Rattle.sch_cli.specs.inner.Sessions.{HasCost, IsEvaluated}
+use Rattle.sch_cli.specs.declared.watching.Watched.{Watched as BorrowedWatched}
+use Rattle.xp_watch.specs.Watching.{Watching}
+use Rattle.sch_cli.specs.Behaviours.{Scripted, Treed, Watched, WatchedScript, tree_under, watched_on}
+use Rattle.sch_cli.specs.inner.Sessions.{Document, HasCost}
 use Rattle.sch_cli.specs.inner.Writing.{IsOfWriting, WroteText}
 
 -- what a session is of a document, and with a script
@@ -32,24 +33,31 @@ treed_by session = tree_under session.plan session.tree.nodes
 abbrev pub scripted_by : Borrowed → Scripted
 scripted_by opened = record { treed = treed_by opened.session; script = opened.script }
 
+-- what watched expressions over a document are, and with a script
+abbrev pub watched_by : Watching → Watched
+watched_by watch = watched_on watch.expressions watch.tree.nodes
+
+abbrev pub watched_script : BorrowedWatched → WatchedScript
+watched_script opened = record { watched = watched_by opened.watch; script = opened.script }
+
 -- a place in a script that is followed: the document, what is to come of the script, the number of the next command, and what the states
 -- so far show
 pub record Place : Type 0 where
-  pub session : Standing
+  pub session : Document
   pub script : Script
   pub number : ℕ
   pub seen : Shown
 
--- where a follower stands
-abbrev pub place_of : Follower → Place
-place_of at = record { session = at.session; script = script_left at.script; number = at.number; seen = at.seen }
+-- where a follower stands with a document
+abbrev pub place_of : Document → Follower → Place
+place_of document at = record { session = document; script = script_left at.script; number = at.number; seen = at.seen }
 
 -- the outputs of what is to come, and the texts that it comes to write
 abbrev pub Ending : Place → Output → Type 0
-Ending at output = Follows at.session.plan at.session.tree.nodes at.number at.seen at.script output
+Ending at output = Follows at.session.telling at.session.tree.nodes at.number at.seen at.script output
 
 abbrev pub Beginning : Place → List ℕ → Type 0
-Beginning at text = Begins at.session.plan at.session.tree.nodes at.number at.script text
+Beginning at text = Begins at.session.telling at.session.tree.nodes at.number at.script text
 
 -- the same place in front of a command
 abbrev pub in_front_of : Command → Place → Place
@@ -60,12 +68,11 @@ pub record IsLed (earlier later : Place) (text : List ℕ) : Type 0 where
   pub ends : (output : Output) → Ending later output → Ending earlier (in_front text output)
   pub begins : (more : List ℕ) → Beginning later more → Beginning earlier (text ++ more)
 
--- the document has its plan's pair cap, the commands can be numbered and have their visits, and all units were evaluated
+-- the document has the pair cap that it is to have, and the commands can be numbered and have their visits
 pub record IsReady (at : Place) : Type 0 where
-  pub cap : at.session.tree.pair_cap ≡ pair_cap_for at.session.plan
+  pub cap : at.session.tree.pair_cap ≡ at.session.telling.pair_cap
   pub few : at.number + length at.script.commands < 2 ^ 64
   pub costs : HasCost at.session at.script
-  pub fresh : IsEvaluated at.session
 
 -- what is written leads to the later place, or a front was written of a text of the earlier one
 pub record Goes {A : Type 0} (earlier later : Place) (old new : SinkLog) (result : Result A Stop) : Type 0 where

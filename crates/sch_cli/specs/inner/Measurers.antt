@@ -19,7 +19,7 @@ use Rattle.sch_cli.specs.declared.measuring.Measured.{Measured}
 use Rattle.sch_cli.specs.declared.measuring.Measurer.{Measurer}
 use Rattle.sch_cli.specs.inner.Counts.{CountsAhead, IsCosted}
 use Rattle.sch_cli.specs.inner.Followers.{IsLed, Place}
-use Rattle.sch_cli.specs.inner.Sessions.{IsEvaluated}
+use Rattle.sch_cli.specs.inner.Sessions.{IsEvaluated, document_of}
 use Rattle.sch_cli.specs.inner.Writing.{WroteText}
 
 -- whether a fault is shown
@@ -40,14 +40,14 @@ text_of_both first last =
 
 -- where a measurer stands, by the number of the next command and what the states so far show
 abbrev pub place_at : Measurer → ℕ → Shown → Place
-place_at at number seen = record { session = at.session; script = script_left at.script; number = number; seen = seen }
+place_at at number seen = record { session = document_of at.session; script = script_left at.script; number = number; seen = seen }
 
 -- the later place is behind the earlier one: in what is written, in the document that is made, and in what it costs
 pub record Moved (earlier later : Place) (before after : ℕ) : Type 0 where
   pub text : List ℕ
   pub led : IsLed earlier later text
-  pub leads : (U : Table) → LeadsTo later.session.plan later.session.tree.nodes later.script U →
-      LeadsTo earlier.session.plan earlier.session.tree.nodes earlier.script U
+  pub leads : (U : Table) → LeadsTo later.session.telling later.session.tree.nodes later.script U →
+      LeadsTo earlier.session.telling earlier.session.tree.nodes earlier.script U
   pub costed : IsCosted earlier later before after
 
 -- a measurer stands behind a place, and knows whether a state so far is a fault

@@ -1,32 +1,59 @@
--- What the next report of a session is to evaluate, and what the commands of a script are to.
+-- Documents that are followed: what is told of each, and what its next state is to evaluate.
 use Rattle.std.specs.Prelude.{◌≡◌, ℕ, List}
-use Rattle.edit_costs.specs.Costs.{cost_of}
-use Rattle.edit_costs.specs.Units.{ValidationUnit, units_of}
+use Rattle.doc_tree.specs.Table.{Contents}
+use Rattle.edit_costs.specs.Costs as units
 use Rattle.kept_state.specs.Running.{IsFresh, to_run}
 use Rattle.edit_script.specs.Script.{Script}
+use Rattle.edit_script.specs.declared.command.Command.{Command as Edit}
 use Rattle.edit_session.specs.Standing.{Standing, seen_by}
+use Rattle.xp_watch.specs.Costs as watches
+use Rattle.xp_watch.specs.Kept as kept
+use Rattle.xp_watch.specs.Watching.{Watching}
 use Rattle.sch_cli.specs.Steps.{EditsCost}
+use Rattle.sch_cli.specs.Telling.{Telling, by_plan, by_watches}
 
--- the units of a session that its next report runs
-abbrev pub next_units : Standing → List ValidationUnit
-next_units session = to_run session.plan session.tree.nodes (seen_by session)
+-- what is told of a document, its tree as it stands, and the visits of what its next state evaluates
+pub record Document : Type 0 where
+  pub telling : Telling
+  pub tree : Contents
+  pub next : ℕ
 
--- the visits of these
+-- nothing was evaluated of what is told of it
+abbrev pub IsUnevaluated : Document → Type 0
+IsUnevaluated at = at.next ≡ at.telling.first_cost at.tree.nodes
+
+-- a command made the later document of it, of which the rest is as it was
+abbrev pub LeavesDirty : Document → Edit → Document → Type 0
+LeavesDirty at command later = later.next ≡ at.telling.edit_cost at.tree.nodes command later.tree.nodes
+
+-- the visits for the states behind the commands of a script
+abbrev pub ScriptCost : Document → Script → ℕ → Type 0
+ScriptCost at script cost = EditsCost at.telling at.tree.nodes script cost
+
+-- there are such
+abbrev pub HasCost : Document → Script → Type 0
+HasCost at script = (cost : ℕ) × ScriptCost at script cost
+
+-- the visits of the units that the next report of a session runs
 abbrev pub next_cost : Standing → ℕ
-next_cost session = cost_of session.plan session.tree.nodes (next_units session)
+next_cost session = units.cost_of session.plan session.tree.nodes (to_run session.plan session.tree.nodes (seen_by session))
 
--- none of its units was evaluated
-abbrev pub IsUnevaluated : Standing → Type 0
-IsUnevaluated session = next_units session ≡ units_of session.plan session.tree.nodes
+-- the document of a session
+abbrev pub document_of : Standing → Document
+document_of session = record { telling = by_plan session.plan; tree = session.tree; next = next_cost session }
 
--- all of them are as the document has them
+-- all of its units are as the document has them
 abbrev pub IsEvaluated : Standing → Type 0
 IsEvaluated session = IsFresh session.plan session.tree.nodes (seen_by session)
 
--- the visits for the states behind the commands of a script
-abbrev pub ScriptCost : Standing → Script → ℕ → Type 0
-ScriptCost session script cost = EditsCost session.plan session.tree.nodes script cost
+-- the visits of the stale ones of watched expressions
+abbrev pub stale_cost : Watching → ℕ
+stale_cost watch = watches.cost_of watch.tree.nodes watch.expressions (kept.stale_watches watch.kept watch.expressions)
 
--- there are such
-abbrev pub HasCost : Standing → Script → Type 0
-HasCost session script = (cost : ℕ) × ScriptCost session script cost
+-- the document of watched expressions
+abbrev pub document_watched : Watching → Document
+document_watched watch = record { telling = by_watches watch.expressions; tree = watch.tree; next = stale_cost watch }
+
+-- all of them are as the document has them
+abbrev pub IsWatched : Watching → Type 0
+IsWatched watch = kept.IsFresh watch.tree.nodes watch.expressions watch.kept

@@ -6,6 +6,8 @@ use Rattle.sch_io.specs.SinkLog.{SinkLog}
 use Rattle.sch_io.specs.Wrote.{Appends}
 use Rattle.edit_session.specs.declared.state.ReportError.{ReportError}
 use Rattle.edit_session.specs.declared.state.ReportError.TheVariants as report
+use Rattle.svrl_out.specs.declared.report.OutError.{OutError}
+use Rattle.svrl_out.specs.declared.report.OutError.TheVariants as out
 use Rattle.sch_words.specs.declared.status.Status.TheVariants as status
 use Rattle.sch_stops.specs.Stops.{ByCause, counted_if, ends_with, is_status, name_in, status_of}
 use Rattle.sch_stops.specs.declared.stop.Stop.{Stop}
@@ -31,6 +33,11 @@ pub record IsOfWriting (stop : Stop) : Type 0 where
 abbrev pub of_report : ReportError → Stop
 of_report report.Failed = WriteFault
 of_report report.Memory = Memory
+
+-- and of one whose watched expressions are not told whole
+abbrev pub of_out : OutError → Stop
+of_out out.Failed = WriteFault
+of_out out.Memory = Memory
 
 -- a text was appended whole, or a front of it where a write failed or memory ran out
 abbrev pub Writes : {A : Type 0} → Option (List ℕ) → Option (List ℕ) → List ℕ → Result A Stop → Type 0

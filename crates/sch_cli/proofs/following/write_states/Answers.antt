@@ -3,8 +3,7 @@ use Rattle.std.proofs.Common.{◌≡◌, ◌∙◌, length, Err, ap, arith, refl
 use Rattle.std.proofs.lemmas.Result.{err_from_is_err_and}
 use Rattle.doc_tree.specs.Table.{Contents}
 use Rattle.edit_script.specs.Script.{LinesLeft, script_left, script_of}
-use Rattle.edit_session.specs.Pairs.{pair_cap_for}
-use Rattle.edit_session.specs.State.{state_text}
+use Rattle.sch_cli.specs.Telling.{Telling}
 use Rattle.sch_cli.specs.inner.Followers.{Place}
 use Rattle.sch_cli.proofs.CostLemmas.{costs_as}
 use Rattle.sch_cli.proofs.EndLemmas.{text_err}
@@ -15,43 +14,48 @@ use Rattle.sch_cli.proofs.following.write_states.Goals as goal
 pub returns-in_err-seen-clause-told : goal.returns-in_err-seen-clause-told
 returns-in_err-seen-clause-told g c =
     let error = err_from_is_err_and c.from_residual.result c.from_residual.ensures.1 in
-    first_stops c.args.session.plan c.args.session.tree.nodes c.args.script.now _ _ c.in_err-seen.field-0.0 c.from_residual.result (error.1 ∙ ap Err error.2) c.in_err-seen.ensures.wrote
+    let at = g.F.Followed.document c.args.followed.now in
+    first_stops at.telling at.tree.nodes c.args.script.now _ _ c.in_err-seen.field-0.0 c.from_residual.result (error.1 ∙ ap Err error.2) c.in_err-seen.ensures.wrote
 
 pub returns-in_err-seen-clause-writing : goal.returns-in_err-seen-clause-writing
 returns-in_err-seen-clause-writing g c =
     let error = err_from_is_err_and c.from_residual.result c.from_residual.ensures.1 in
-    (text_err _ _ (state_text c.args.session.plan c.args.session.tree.nodes) c.in_err-seen.field-0.0 c.from_residual.result (error.1 ∙ ap Err error.2) c.in_err-seen.ensures.wrote).writing
+    let at = g.F.Followed.document c.args.followed.now in
+    (text_err _ _ (at.telling.text at.tree.nodes) c.in_err-seen.field-0.0 c.from_residual.result (error.1 ∙ ap Err error.2) c.in_err-seen.ensures.wrote).writing
 
 pub returns-in_err-seen-clause-write_faults : goal.returns-in_err-seen-clause-write_faults
 returns-in_err-seen-clause-write_faults g c =
     let error = err_from_is_err_and c.from_residual.result c.from_residual.ensures.1 in
-    (text_err _ _ (state_text c.args.session.plan c.args.session.tree.nodes) c.in_err-seen.field-0.0 c.from_residual.result (error.1 ∙ ap Err error.2) c.in_err-seen.ensures.wrote).faults
+    let at = g.F.Followed.document c.args.followed.now in
+    (text_err _ _ (at.telling.text at.tree.nodes) c.in_err-seen.field-0.0 c.from_residual.result (error.1 ∙ ap Err error.2) c.in_err-seen.ensures.wrote).faults
 
-pub follow_rest-requires : goal.follow_rest-requires
-follow_rest-requires g c = record {
-  cap = ap (λ (tree : Contents). tree.pair_cap) c.in_ok-seen.ensures.tree ∙ c.requires.cap ∙ ap pair_cap_for (sym c.in_ok-seen.ensures.plan);
+pub follow_rest-requires-clause-ready : goal.follow_rest-requires-clause-ready
+follow_rest-requires-clause-ready g c = record {
+  cap = ap (λ (tree : Contents). tree.pair_cap) c.in_ok-seen.ensures.tree ∙ c.requires.cap ∙ ap (λ (t : Telling). t.pair_cap) (sym c.in_ok-seen.ensures.telling);
   few =
       let same : length (script_left c.new-script.result).commands ≡ length (script_of c.args.script.now).commands = ap (λ (left : LinesLeft). length (script_left left).commands) c.new-script.ensures in
       omega (arith, few_commands c.args.script.now c.requires.short, same);
-  costs = costs_as c.args.session c.write_state.new.session (script_of c.args.script.now) (script_left c.new-script.result) c.in_ok-seen.ensures.plan c.in_ok-seen.ensures.tree
-      (ap script_left c.new-script.ensures) c.script_has_cost.ensures;
-  fresh = c.in_ok-seen.ensures.fresh;
+  costs = costs_as (g.F.Followed.document c.args.followed.now) (g.F.Followed.document c.write_state.new.self) (script_of c.args.script.now) (script_left c.new-script.result)
+      c.in_ok-seen.ensures.telling c.in_ok-seen.ensures.tree (ap script_left c.new-script.ensures) c.requires.costs;
 }
 
 pub returns-in_err-seen-clause-counted : goal.returns-in_err-seen-clause-counted
 returns-in_err-seen-clause-counted g c =
     let error = err_from_is_err_and c.from_residual.result c.from_residual.ensures.1 in
-    first_counts c.args.session c.args.script.now _ _ error.0 c.from_residual.result error.1 c.requires.unevaluated c.script_has_cost.ensures c.in_err-seen.ensures.at_most
+    first_counts (g.F.Followed.document c.args.followed.now) c.args.script.now _ _ error.0 c.from_residual.result error.1 c.requires.unevaluated c.requires.costs c.in_err-seen.ensures.at_most
 
 pub returns-clause-counted : goal.returns-clause-counted
 returns-clause-counted g c =
-    let first : Place = record { session = c.write_state.new.session; script = script_left c.new-script.result; number = 1; seen = c.in_ok-seen.seen } in
-    states_count c.args.session c.args.script.now first c.args.steps.now c.write_state.new.steps c.follow_rest.new.steps c.follow_rest.result c.requires.unevaluated
-    c.in_ok-seen.ensures.plan c.in_ok-seen.ensures.tree (ap script_left c.new-script.ensures) c.in_ok-seen.ensures.rose c.follow_rest.ensures.counted
+    let document = g.F.Followed.document in
+    let first : Place = record { session = document c.write_state.new.self; script = script_left c.new-script.result; number = 1; seen = c.in_ok-seen.seen } in
+    states_count (document c.args.followed.now) c.args.script.now first c.args.steps.now c.write_state.new.steps c.follow_rest.new.steps c.follow_rest.result c.requires.unevaluated
+    c.in_ok-seen.ensures.telling c.in_ok-seen.ensures.tree (ap script_left c.new-script.ensures) c.in_ok-seen.ensures.rose c.follow_rest.ensures.counted
 
 pub returns-clause-told : goal.returns-clause-told
 returns-clause-told g c =
-    let first : Place = record { session = c.write_state.new.session; script = script_left c.new-script.result; number = 1; seen = c.in_ok-seen.seen } in
-    first_then c.args.session.plan c.args.session.tree.nodes c.args.script.now (g.O.Sink.log c.args.out.now) (g.O.Sink.log c.write_state.new.out) (g.O.Sink.log c.follow_rest.new.out) first
-    (record { plan_is = c.in_ok-seen.ensures.plan; tree_is = ap (λ (tree : Contents). tree.nodes) c.in_ok-seen.ensures.tree; number_is = refl; rest_is = ap script_left c.new-script.ensures })
+    let document = g.F.Followed.document in
+    let at = document c.args.followed.now in
+    let first : Place = record { session = document c.write_state.new.self; script = script_left c.new-script.result; number = 1; seen = c.in_ok-seen.seen } in
+    first_then at.telling at.tree.nodes c.args.script.now (g.O.Sink.log c.args.out.now) (g.O.Sink.log c.write_state.new.out) (g.O.Sink.log c.follow_rest.new.out) first
+    (record { telling_is = c.in_ok-seen.ensures.telling; tree_is = ap (λ (tree : Contents). tree.nodes) c.in_ok-seen.ensures.tree; number_is = refl; rest_is = ap script_left c.new-script.ensures })
     c.in_ok-seen.ensures.shown c.in_ok-seen.ensures.wrote.told c.follow_rest.result c.follow_rest.ensures.told

@@ -1,7 +1,7 @@
 -- What the words ask for ends the run.
 use Rattle.std.proofs.Common.{◌∙◌, Some, ap}
 use Rattle.sch_words.specs.declared.command.Command.TheVariants as borrowed
-use Rattle.sch_words.specs.Commands.{command_of, expand, follow, measure, summarize, tell, validate}
+use Rattle.sch_words.specs.Commands.{command_of, expand, follow, measure, summarize, tell, validate, watch}
 use Rattle.sch_cli.proofs.CarryLemmas.{accepted as writing_accepted}
 use Rattle.sch_cli.proofs.RunLemmas.{accepted, asks, asks_nothing, carries, carries_nothing, carries_notice}
 use Rattle.sch_cli.proofs.program.carry_out.Goals as goal
@@ -65,6 +65,20 @@ returns-in-Some-Follow-clause-usage g c =
     accepted (command_of c.args.words.now) (follow at.asked.validation.phase.now at.asked.validation.schema.now at.asked.validation.document.now at.asked.script.now) c.follow.result
     (rw (← c.as_slice.ensures) (asks c.as_slice.result.now c.command_of.result (borrowed.Follow at.asked) c.command_of.ensures (at.is ∙ ap Some at.field-0-is)))
     c.follow.ensures.accepted
+
+pub returns-in-Some-Watch-clause-carried : goal.returns-in-Some-Watch-clause-carried
+returns-in-Some-Watch-clause-carried g c =
+    let at = c.in-Some-Watch in
+    carries c.args.words.now (watch at.asked.watches.now at.asked.document.now at.asked.script.now) _ _ _ _ _ _ c.watch.result
+    (rw (← c.as_slice.ensures) (asks c.as_slice.result.now c.command_of.result (borrowed.Watch at.asked) c.command_of.ensures (at.is ∙ ap Some at.field-0-is)))
+    c.watch.ensures.carried
+
+pub returns-in-Some-Watch-clause-usage : goal.returns-in-Some-Watch-clause-usage
+returns-in-Some-Watch-clause-usage g c =
+    let at = c.in-Some-Watch in
+    accepted (command_of c.args.words.now) (watch at.asked.watches.now at.asked.document.now at.asked.script.now) c.watch.result
+    (rw (← c.as_slice.ensures) (asks c.as_slice.result.now c.command_of.result (borrowed.Watch at.asked) c.command_of.ensures (at.is ∙ ap Some at.field-0-is)))
+    c.watch.ensures.accepted
 
 pub returns-in-Some-Measure-clause-carried : goal.returns-in-Some-Measure-clause-carried
 returns-in-Some-Measure-clause-carried g c =

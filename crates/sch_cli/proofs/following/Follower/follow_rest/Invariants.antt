@@ -8,10 +8,11 @@ use Rattle.sch_cli.proofs.following.Follower.follow_rest.Given as goal
 
 abbrev pub invariant-loop-command : goal.invariant-loop-command
 invariant-loop-command g l = record {
-  ready : IsReady (place_of l.self);
-  come : HasCome (place_of l.initial.self) (place_of l.self) (g.O.Sink.log l.initial.out) (g.O.Sink.log l.out);
+  ready : IsReady (place_of (g.F.Followed.document l.followed) l.self);
+  fresh : g.F.Followed.is_evaluated l.followed;
+  come : HasCome (place_of (g.F.Followed.document l.initial.followed) l.initial.self) (place_of (g.F.Followed.document l.followed) l.self) (g.O.Sink.log l.initial.out) (g.O.Sink.log l.out);
   faults : (g.O.Sink.log l.out).faults ≡ (g.O.Sink.log l.initial.out).faults;
-  costed : IsCosted (place_of l.initial.self) (place_of l.self) l.initial.steps l.steps;
+  costed : IsCosted (place_of (g.F.Followed.document l.initial.followed) l.initial.self) (place_of (g.F.Followed.document l.followed) l.self) l.initial.steps l.steps;
   steps : l.initial.steps ≤ l.steps;
 }
 

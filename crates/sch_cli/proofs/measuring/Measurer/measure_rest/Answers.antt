@@ -3,6 +3,7 @@ use Rattle.std.proofs.Common.{◌∙◌, arith, refl}
 use Rattle.std.proofs.lemmas.Result.{err_from_is_err_and}
 use Rattle.edit_script.specs.Script.{script_left}
 use Rattle.sch_cli.specs.inner.Measurers.{place_at}
+use Rattle.sch_cli.specs.inner.Sessions.{document_of}
 use Rattle.sch_cli.proofs.MeasureLemmas.{begins-there, costs-next, ends-there, moves-next, stops-for-memory, stops-there}
 use Rattle.sch_cli.proofs.measuring.Measurer.measure_rest.Goals as goal
 
@@ -30,7 +31,7 @@ returns-in_err-done-clause-ends g c = λ number seen is.
 
 pub measure_command-done-requires-clause-costs : goal.measure_command-done-requires-clause-costs
 measure_command-done-requires-clause-costs g c =
-    costs-next c.loop-command.self.session (script_left c.loop-command.self.script) (script_left c.next.new.self) c.in_ok-command.field-0 c.in-Some.command c.in-Some.is c.in_ok-command.ensures.command
+    costs-next (document_of c.loop-command.self.session) (script_left c.loop-command.self.script) (script_left c.next.new.self) c.in_ok-command.field-0 c.in-Some.command c.in-Some.is c.in_ok-command.ensures.command
     c.loop-command.invariant.costs
 
 pub loop-command-preserved : goal.loop-command-preserved

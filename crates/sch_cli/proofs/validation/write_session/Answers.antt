@@ -2,7 +2,7 @@
 use Rattle.std.proofs.Common.{refl}
 use Rattle.sch_cli.proofs.EndLemmas.{report_stopped, report_written}
 use Rattle.sch_cli.proofs.SessionLemmas.{evaluated-as}
-use Rattle.sch_cli.proofs.validation.write_state.Goals as goal
+use Rattle.sch_cli.proofs.validation.write_session.Goals as goal
 
 pub returns-in-Err-clause-wrote : goal.returns-in-Err-clause-wrote
 returns-in-Err-clause-wrote g c =
