@@ -1,12 +1,13 @@
 -- The pair cap is a quotient: what is within it makes a product within the whole, and the other way round.
-use Rattle.std.proofs.Common.{◌≡◌, ◌∙◌, ℕ, ◌*◌, ◌/◌, ◌<◌, ◌≤◌, ◌⊎◌, inl, inr, suc, zero, min, nat_eq, nat_lt, Bool, false, ◌||◌, if◌then◌else◌, sym, ap, arith}
+use Rattle.std.proofs.Common.{◌≡◌, ◌∙◌, ℕ, ◌*◌, ◌/◌, ◌<◌, ◌≤◌, ◌⊎◌, inl, inr, suc, zero, min, nat_eq, nat_lt, Bool, false, ◌||◌, if◌then◌else◌, length, sym, ap, ap₂, ltb-false, arith}
 use Rattle.std.proofs.Math.Nat.{le-div_iff_mul-le, mul_comm}
 use Rattle.std.proofs.Math.Bool.{or-false}
-use Rattle.std.proofs.lemmas.Bool.{cases_lt, ne_eqb}
+use Rattle.std.proofs.lemmas.Bool.{cases_lt, le-ltb, ne_eqb}
 use Rattle.std.proofs.lemmas.Bool.Decides.{same_from_decides, Decides-like, Decides-ltb, Decides-or}
 use Rattle.sch_base.specs.declared.limits.TheConstants.{MAX_PAIRS}
 use Rattle.doc_tree.specs.limits.TheConstants.{MAX_LIVE_NODES}
-use Rattle.edit_session.specs.Pairs.{cap_under}
+use Rattle.sch_compiled.specs.declared.plan.Plan.{Plan}
+use Rattle.edit_session.specs.Pairs.{CapIsForPairs, cap_under, pair_cap_for}
 
 -- a count within a quotient makes a product within the whole
 product_within : (whole parts count : ℕ) → 0 < parts → count ≤ whole / parts → parts * count ≤ whole
@@ -53,3 +54,8 @@ cap_for_pairs (suc more) count =
     let some : nat_eq (suc more) 0 ≡ false = ne_eqb (suc more) 0 (λ none. absurd (omega (arith, none))) in
     ap (λ (b : Bool). nat_lt (if b then MAX_LIVE_NODES else min (MAX_PAIRS / suc more) MAX_LIVE_NODES) count) some
     ∙ cap_tells MAX_PAIRS MAX_LIVE_NODES (suc more) count (omega arith)
+
+-- so many nodes are within the cap, where they may live and make no more pairs than may be
+pub under-cap : CapIsForPairs → (plan : Plan) (count : ℕ) → count ≤ MAX_LIVE_NODES → nat_lt MAX_PAIRS (length plan.patterns * count) ≡ false → count ≤ pair_cap_for plan
+under-cap cap plan count few pairs =
+    ltb-false (pair_cap_for plan) count (cap plan count ∙ ap₂ (λ (a b : Bool). a || b) (le-ltb MAX_LIVE_NODES count few) pairs)

@@ -3,6 +3,7 @@
 ghost use Rattle.std.specs.Prelude.{◌≡◌, ℕ, ◌+◌, ◌<◌, ◌≤◌, true, false, filter, length, IfErr, IfOk, OnErr, OnOk};
 ghost use Rattle.doc_tree.specs.Kinds.{is_document};
 ghost use Rattle.doc_tree.specs.Laws.{WellFormed};
+ghost use Rattle.doc_tree.specs.Walks.{order};
 ghost use Rattle.doc_edit_laws.specs.Along.{Edit};
 ghost use Rattle.name_scopes.specs.Scoping.{InScope};
 ghost use Rattle.edit_script.specs.WellFormed.{WellFormedCommand};
@@ -22,10 +23,12 @@ ghost use Rattle.edit_session.specs.Standing.{RefusesOpening, seen_by};
 ghost use Rattle.edit_session.specs.Wrote.{RoseBy, UnlessMemory, WroteState};
 
 use crate::counting::{Counts, count_outcomes};
+use crate::laws::pair_cap_is_for_pairs;
 use crate::pairs::{has_too_many_pairs, pair_cap_for};
 use crate::refusal::OpenRefusal;
 use crate::state::{ReportError, Shown, write_outcomes};
 use doc_tree::Tree;
+use edit_cap_laws::edits_stay_within;
 use edit_commands::{ApplyError, apply_to};
 use edit_script::Command;
 use kept_state::{dirty_are_run, edits_keep};
@@ -85,6 +88,8 @@ impl Session {
         if has_too_many_pairs(&plan, &tree) {
             return Err(OpenRefusal::TooManyPairs);
         }
+        pair_cap_is_for_pairs();
+        tree.laws();
         patterns_are_typed(&plan);
         let kept = match KeptUnits::new(alloc, &plan) {
             Ok(kept) => kept,
@@ -107,13 +112,15 @@ impl Session {
         &self.tree
     }
 
-    /// What holds of each session: its tree is a document, its plan is sound, the tree's pair cap is the plan's, and what is kept of
-    /// its units is the state.
+    /// What holds of each session: its tree is a document, its plan is sound with well typed rules, the tree's pair cap is the plan's,
+    /// no more nodes live, and what is kept of its units is the state.
     pub fn laws(&self)
         ensures document { is_document self.now.tree.nodes ≡ true }
         ensures well_formed { WellFormed self.now.tree.nodes }
         ensures sound { IsSound self.now.plan }
+        ensures typed { (p : ℕ) → p < length self.now.plan.patterns → RulesTyped self.now.plan p }
         ensures cap { self.now.tree.pair_cap ≡ pair_cap_for self.now.plan }
+        ensures within { length (order self.now.tree.nodes) ≤ self.now.tree.pair_cap }
         ensures keeps { Keeps self.now.plan self.now.tree.nodes (seen_by self.now) }
     {
         self.tree.laws();
@@ -149,6 +156,7 @@ impl Session {
         ensures cap { self.new.tree.pair_cap ≡ self.old.tree.pair_cap }
     {
         edits_keep();
+        edits_stay_within();
         dirty_are_run();
         self.tree.laws();
         match apply_to(self.alloc, &mut self.tree, command) {

@@ -1,7 +1,8 @@
--- What a session keeps: its plan is sound with well typed rules, its tree is a document with the pair cap of the plan, and what is kept
--- of its units is the state.
-use Rattle.std.specs.Prelude.{◌≡◌, ℕ, ◌<◌, true, length}
+-- What a session keeps: its plan is sound with well typed rules, its tree is a document with the pair cap of the plan and no more live
+-- nodes, and what is kept of its units is the state.
+use Rattle.std.specs.Prelude.{◌≡◌, ℕ, ◌<◌, ◌≤◌, true, length}
 use Rattle.doc_tree.specs.Kinds.{is_document}
+use Rattle.doc_tree.specs.Walks.{order}
 use Rattle.sch_compiled.specs.Soundness.{IsSound}
 use Rattle.sch_locality_laws.specs.Locality.{RulesTyped}
 use Rattle.kept_state.specs.Kept.{Keeps}
@@ -18,5 +19,6 @@ pub record Stands (session : Inside) : Type 0 where
   pub typed : (p : ℕ) → p < length session.plan.patterns → RulesTyped session.plan p
   pub document : is_document session.tree.nodes ≡ true
   pub cap : session.tree.pair_cap ≡ pair_cap_for session.plan
+  pub within : length (order session.tree.nodes) ≤ session.tree.pair_cap
   pub held : IsHeld session.plan session.tree.nodes session.kept
   pub keeps : Keeps session.plan session.tree.nodes (seen_in session.kept)

@@ -1,7 +1,8 @@
 -- The tree under way is that of the session, and the units that read what the command touched are stale.
-use Rattle.std.proofs.Common.{◌≡◌, ◌∙◌, true, ap, subst, sym}
+use Rattle.std.proofs.Common.{◌≡◌, ◌∙◌, ℕ, ◌≤◌, true, length, ap, subst, sym}
 use Rattle.doc_tree.specs.Kinds.{is_document}
 use Rattle.doc_tree.specs.Table.{Contents}
+use Rattle.doc_tree.specs.Walks.{order}
 use Rattle.doc_edit_laws.specs.Along.{Edit}
 use Rattle.edit_commands.specs.Touched.{holds_cell, touched_by}
 use Rattle.name_scopes.specs.Scoping.{InScope}
@@ -25,6 +26,10 @@ invariant_of-self c =
       typed = c.self.invariant.typed;
       document = c.in-Ok.ensures.document;
       cap = c.in-Ok.ensures.cap ∙ c.self.invariant.cap;
+      within =
+          subst (λ (cap : ℕ). length (order c.apply_to.new.tree.nodes) ≤ cap) (sym c.in-Ok.ensures.cap)
+          (c.edits_stay_within.ensures before.tree c.args.command.now c.apply_to.new.tree.nodes c.laws.ensures.well_formed
+          c.self.invariant.document c.in-Ok.ensures.within c.in-Ok.ensures.edited c.self.invariant.within);
       held = c.mark.ensures.held before.plan before.tree.nodes touched c.laws.ensures.well_formed c.in-Ok.ensures.edit c.self.invariant.held;
       keeps = kept-edited c.edits_keep.ensures before.plan before.tree.nodes c.apply_to.new.tree.nodes touched
           (seen_in before.kept) (seen_in c.mark.new.self) c.laws.ensures.well_formed c.in-Ok.ensures.edit c.self.invariant.keeps marks;
@@ -69,6 +74,7 @@ invariant_of-self-in-Err c =
       typed = c.self.invariant.typed;
       document = subst (λ (tree : Contents). is_document tree.nodes ≡ true) same c.self.invariant.document;
       cap = subst (λ (tree : Contents). tree.pair_cap ≡ pair_cap_for before.plan) same c.self.invariant.cap;
+      within = subst (λ (tree : Contents). length (order tree.nodes) ≤ tree.pair_cap) same c.self.invariant.within;
       held = subst (λ (tree : Contents). IsHeld before.plan tree.nodes before.kept) same c.self.invariant.held;
       keeps = subst (λ (tree : Contents). Keeps before.plan tree.nodes (seen_in before.kept)) same c.self.invariant.keeps;
     }

@@ -12,6 +12,7 @@ invariant_of-self g c = record {
   typed = c.self.invariant.typed;
   document = c.self.invariant.document;
   cap = c.self.invariant.cap;
+  within = c.self.invariant.within;
   held = c.refresh.ensures.held;
   keeps = c.refresh.ensures.goes_on.keeps;
 }
