@@ -1,5 +1,5 @@
 -- From the root down each step leads to the next node of the way.
-use Rattle.std.proofs.Common.{◌≡◌, ◌≢◌, ℕ, ◌-◌, ◌≤◌, zero, suc, Bool, true, false, cond, List, [], ◌∷◌, ◌++◌, ◌⊎◌, length, Option, None, Some, refl, sym, ap, ap₂, ◌∙◌, subst, inl, inr, ⊎_elim, true≢false, arith, length-append}
+use Rattle.std.proofs.Common.{◌≡◌, ◌≢◌, ℕ, ◌+◌, ◌-◌, ◌≤◌, zero, suc, Bool, true, false, cond, List, [], ◌∷◌, ◌++◌, ◌⊎◌, length, Option, None, Some, refl, sym, ap, ap₂, ◌∙◌, subst, inl, inr, ⊎_elim, is_some, true≢false, arith, length-append}
 use Rattle.std.specs.Prelude.{filter, slice_get}
 use Rattle.std.specs.List.{flat_map}
 use Rattle.std.proofs.lemmas.List.Elements.{All-append}
@@ -9,7 +9,7 @@ use Rattle.doc_table.specs.declared.limits.TheConstants.{MAX_LIVE_NODES}
 use Rattle.doc_table.specs.Kinds.{can_be_kid, holds_kids, is_kind}
 use Rattle.doc_table.specs.Laws.{HasWaysUp, Ordered, WellFormed}
 use Rattle.doc_table.specs.Lists.{mem, place_in}
-use Rattle.doc_table.specs.Table.{Table, attrs_of, is_live, kids_of, kind_of, parent_of}
+use Rattle.doc_table.specs.Table.{Facts, Table, attrs_at, attrs_of, entry_at, is_live, kids_at, kids_of, kind_of, parent_of}
 use Rattle.doc_table.specs.Walks.{ancestors, below}
 use Rattle.doc_table.specs.inner.Sound.{Formed}
 use Rattle.doc_table.proofs.Forests.{formed-of}
@@ -21,6 +21,7 @@ use Rattle.edit_script.specs.declared.command.PathStep.{PathStep}
 use Rattle.edit_script.specs.declared.limits.TheConstants.{MAX_PLACE}
 use Rattle.edit_commands.specs.Paths.{kids_of_kind, led_from, node_named}
 use Rattle.edit_paths.specs.PathTo.{LeadsTo, PathsLead, path_to, step_to, steps_down}
+use Rattle.edit_paths.proofs.PathsKept.{led-on}
 
 -- lists: what passes a test is among what passes it, and stands at its place
 module _ (test : ℕ → Bool) where
@@ -34,7 +35,7 @@ module _ (test : ℕ → Bool) where
       by false e (inl same) rest = absurd (true≢false (sym pass ∙ (ap test same ∙ e)))
       by false e (inr more) rest = rest more
 
-  filter-short : (xs : List ℕ) → length (filter test xs) ≤ length xs
+  pub filter-short : (xs : List ℕ) → length (filter test xs) ≤ length xs
   filter-short [] = omega arith
   filter-short (x ∷ xs) = by (test x) (filter-short xs)
     where
@@ -65,13 +66,6 @@ kid-kind (Some Text) h = record { kind = Text; is = refl; kid = refl; same = ref
 kid-kind (Some Comment) h = record { kind = Comment; is = refl; kid = refl; same = refl }
 kid-kind (Some Pi) h = record { kind = Pi; is = refl; kid = refl; same = refl }
 
-module _ (T : Table) where
-  led-on : (o : Option ℕ) (front back : List PathStep) → led_from T o (front ++ back) ≡ led_from T (led_from T o front) back
-  led-on None [] back = refl
-  led-on None (step ∷ front) back = refl
-  led-on (Some n) [] back = refl
-  led-on (Some n) (step ∷ front) back = led-on (slice_get (kids_of_kind T n step.kind) (step.index - 1)) front back
-
 one-step : (step : PathStep) → IsStep step → IsPath (step ∷ [])
 one-step step is zero d h = is
 one-step step is (suc k) d h = absurd (omega (arith, h))
@@ -86,25 +80,29 @@ module _ (T : Table) (form : WellFormed T) where
   ord : Ordered T
   ord = ordered T tree
 
-  -- no node has more kids than there may be nodes
   more-below : (ks : List ℕ) → length ks ≤ length (flat_map (below T) ks)
   more-below [] = omega arith
   more-below (k ∷ ks) =
       omega (arith, more-below ks, length-append (below T k) (flat_map (below T) ks), ap length (ord.below_at k))
 
-  few-kids : (p : ℕ) → is_live T p ≡ true → length (kids_of T p) ≤ MAX_LIVE_NODES
-  few-kids p live =
-      let place = ord.below_in_order p live in
-      omega (
-        arith,
-        form.few_nodes,
-        more-below (kids_of T p),
-        ap length place.2,
-        length-append place.0 (below T p ++ place.1),
-        length-append (below T p) place.1,
-        ap length (ord.below_at p),
-        length-append (attrs_of T p) (flat_map (below T) (kids_of T p)),
-      )
+  -- a node has fewer attributes and kids than there may be nodes
+  pub few-listed : (p : ℕ) → suc (length (attrs_of T p) + length (kids_of T p)) ≤ MAX_LIVE_NODES
+  few-listed p = by (entry_at T p) refl
+    where
+      by : (o : Option Facts) → entry_at T p ≡ o → suc (length (attrs_of T p) + length (kids_of T p)) ≤ MAX_LIVE_NODES
+      by None e = omega (arith, ap (λ x. length (attrs_at x)) e, ap (λ x. length (kids_at x)) e)
+      by (Some node) e =
+          let place = ord.below_in_order p (ap is_some e) in
+          omega (
+            arith,
+            form.few_nodes,
+            more-below (kids_of T p),
+            ap length place.2,
+            length-append place.0 (below T p ++ place.1),
+            length-append (below T p) place.1,
+            ap length (ord.below_at p),
+            length-append (attrs_of T p) (flat_map (below T) (kids_of T p)),
+          )
 
   leads : (n p : ℕ) → parent_of T n ≡ Some p → kind_of T n ≢ Some Attribute → LeadsTo T p (path_to T p) → LeadsTo T n (path_to T n)
   leads n p up other rest =
@@ -119,7 +117,7 @@ module _ (T : Table) (form : WellFormed T) where
       let path : path_to T n ≡ path_to T p ++ step ∷ [] =
       ap₂ (λ (a b : List PathStep). a ++ b) (ap (steps_down T) (ways.ancestors_at n p up)) last in
       let short : suc (place_in n ks) ≤ MAX_PLACE =
-      omega (arith, place-short n ks among, filter-short (λ k. is_kind kind.kind (kind_of T k)) (kids_of T p), few-kids p (ways.parent_live n p up)) in
+      omega (arith, place-short n ks among, filter-short (λ k. is_kind kind.kind (kind_of T k)) (kids_of T p), few-listed p) in
       let less : suc (place_in n ks) - 1 ≡ place_in n ks = omega arith in
       let taken : slice_get ks (suc (place_in n ks) - 1) ≡ Some n = ap (slice_get ks) less ∙ get-placed n ks among in
       record {

@@ -1,1 +1,2 @@
+pub mod PathsKept
 pub mod LeadingLemmas

@@ -1,1 +1,2 @@
 pub mod PathTo
+pub mod Entries

@@ -19,7 +19,7 @@ use Rattle.doc_tree.specs.Table.{Facts, Name, Table, attribute, attrs_of, conten
 use Rattle.doc_undo_laws.proofs.AttributesBack.{Beside, IsNode, gain-beside, loss-beside}
 use Rattle.edit_script.specs.declared.command.PathStep.{PathStep}
 use Rattle.edit_commands.specs.Paths.{node_named}
-use Rattle.edit_undo_laws.proofs.PathsKept.{path-kept}
+use Rattle.edit_paths.proofs.PathsKept.{path-kept}
 use Rattle.edit_undo_laws.proofs.ScopesKept.{scope-kept}
 
 -- nodes that are no attributes

@@ -1,6 +1,6 @@
 -- A node that was deleted between no two texts comes again at its place.
 use Rattle.std.proofs.Common.{◌≡◌, ◌≢◌, ℕ, ◌+◌, ◌-◌, ◌≤◌, suc, Bool, true, false, cond, not, ◌&&◌, ◌||◌, ◌==◌, ◌⊎◌, eqb-true, inl, inr, ⊎_elim, List, [], ◌∷◌, ◌++◌, length, take, Option, None, Some, is_some, refl, sym, ap, ◌∙◌, subst, true≢false, arith, eq-eqb, unwrap_or}
-use Rattle.std.specs.Prelude.{count_by, slice_get, sum_by}
+use Rattle.std.specs.Prelude.{count_by, slice_get}
 use Rattle.std.proofs.lemmas.Bool.{and_parts}
 use Rattle.std.specs.List.{list_any}
 use Rattle.std.proofs.lemmas.List.Sums.{sum_by-cons}
@@ -12,6 +12,7 @@ use Rattle.doc_table.specs.Lists.{last_or, mem}
 use Rattle.doc_table.specs.inner.Sound.{Formed, count_live, text_held}
 use Rattle.doc_edits.specs.Changes.{deleted, deleted_by, inserted, meeting, removed, removed_from, without}
 use Rattle.doc_edits.specs.Fitting.{MayTake}
+use Rattle.doc_edits.proofs.InsertionLemmas.{length-inserted}
 use Rattle.doc_edits.proofs.NumberingLemmas.{place-head, place-tail}
 use Rattle.doc_edits.proofs.DeletionLemmas.{lone-apart}
 use Rattle.doc_edits.proofs.RemovalLemmas.{formed-left, kids-owner, out, remaining, same-content, same-parent, way-left}
@@ -25,12 +26,14 @@ use Rattle.doc_tree.specs.Refusals.{deletion_refusal}
 use Rattle.doc_tree.specs.SameTree.{SameTree}
 use Rattle.doc_tree.specs.Table.{Contents, Facts, Table, attrs_of, content_at, content_of, decls_at, entry_at, is_live, is_root, kids_above, kids_of, kind_at, kind_of, parent_of}
 use Rattle.doc_tree.specs.Walks.{below, order}
+use Rattle.doc_tree.proofs.InsertLemmas.{nodes-brought}
 use Rattle.doc_tree.proofs.RefusalLemmas.{and-false, none-of-two, not-true}
 use Rattle.doc_undo_laws.specs.Undoing.{DeletionsAreUndone}
 use Rattle.doc_undo_laws.proofs.DeletionUndone.{not-before, not-behind, without-it}
 use Rattle.doc_undo_laws.proofs.Settling.{kid-other, kid-stays, owner-stays, removed-stays, root-stays}
 use Rattle.name_scopes.specs.Scoping.{InScope}
 use Rattle.name_scopes_laws.specs.Pieces.{FragmentsHavePieces}
+use Rattle.name_scopes_laws.proofs.PieceSizes.{piece-nodes}
 use Rattle.subtree_events.specs.Events.{events_below}
 use Rattle.subtree_events.specs.Subtrees.{IsSubtree, SubtreesAreFragments}
 use Rattle.edit_script.specs.declared.command.Command.{Command}
@@ -38,13 +41,12 @@ use Rattle.edit_script.specs.declared.command.Command.TheVariants.{Delete}
 use Rattle.edit_script.specs.declared.command.PathStep.{PathStep}
 use Rattle.edit_commands.specs.Commands.{IsEdited, insertion_refusal, refusal_where}
 use Rattle.edit_commands.specs.Paths.{kids_of_kind, led_from, node_named}
-use Rattle.edit_iso_laws.specs.CommandsMove.{numbers_asked}
-use Rattle.edit_undo_laws.specs.Entries.{behind, comes_again, deletion_undone, path_above, place_of, undoing, undoing_where}
+use Rattle.edit_paths.specs.Entries.{behind, comes_again, deletion_undone, numbers_met, numbers_where, path_above, place_of, undoing, undoing_numbers, undoing_where}
 use Rattle.edit_undo_laws.specs.Undoing.{LoneDeletionsAreUndone, TakesBack}
 use Rattle.edit_undo_laws.proofs.LosingAttributes.{with_nodes}
 use Rattle.edit_undo_laws.proofs.SettingUndone.{one-done}
 use Rattle.edit_undo_laws.proofs.OwnAttributes.{split-placed}
-use Rattle.edit_undo_laws.proofs.PathsKept.{kid-up, path-kept, stepped-In}
+use Rattle.edit_paths.proofs.PathsKept.{kid-up, path-kept, stepped-In}
 use Rattle.edit_undo_laws.proofs.RemovalCounts.{nodes-left, text-left}
 use Rattle.edit_undo_laws.proofs.ScopesKept.{scope-kept}
 use Rattle.edit_undo_laws.proofs.SubtreeComes.{Comes, HasPlace, comes-again, comes-free}
@@ -94,6 +96,18 @@ front-length n (x ∷ xs) h =
     ∙ (ap suc (front-length n xs (omega (arith, h, occurs-other n x xs ne))) ∙ sym (place-tail n x xs ne)))
     (eq_or n x)
 
+-- a node that can be a kid is a kid of its parent
+pub is-kid : (T : Table) (n p : ℕ) → WellFormed T → parent_of T n ≡ Some p → can_be_kid (kind_of T n) ≡ true → In n (kids_of T p)
+is-kid T n p form up can =
+    ⊎_elim (λ (a : mem n (attrs_of T p) ≡ true). absurd (true≢false (sym can ∙ ap can_be_kid (form.attribute_kind p n a)))) (λ (k : mem n (kids_of T p) ≡ true). mem-In n (kids_of T p) k)
+    (mem-append n (attrs_of T p) (kids_of T p) (form.is_listed n p up))
+
+-- no text is a kid of a document's root
+pub no-texts : (T : Table) → is_document T ≡ true → (k : ℕ) → In k (kids_of T 0) → is_text (kind_of T k) ≡ false
+no-texts T document k h =
+    let parts = and_parts (count_by (λ k. is_element (kind_of T k)) (kids_of T 0) == 1) (count_by (λ k. is_text (kind_of T k)) (kids_of T 0) == 0) document in
+    none-counted (λ k. is_text (kind_of T k)) (kids_of T 0) k (eqb-true _ _ parts.1) h
+
 -- a path to a node with a parent has a last step, and the steps before it lead to the parent
 module _ (T : Table) (form : WellFormed T) where
   last-step : (step : PathStep) (steps : List PathStep) (m n p : ℕ) → parent_of T n ≡ Some p → led_from T (Some m) (step ∷ steps) ≡ Some n →
@@ -122,8 +136,21 @@ module _ (T : Table) (form : WellFormed T) where
       let less : suc (length steps) - 1 ≡ length steps = omega arith in
       ap (λ k. node_named T (take k (step ∷ steps))) less ∙ last-step step steps 0 n p up e
 
-module _ (T : Table) (n p : ℕ) (form : WellFormed T) (up : parent_of T n ≡ Some p) (can : can_be_kid (kind_of T n) ≡ true) (document : is_document T ≡ true)
-    (free : deletion_refusal T n ≡ None) (lone : meeting T n (kids_of T p) ≡ None) where
+-- under the root stands neither the element that may not go nor a text
+not-inside : (T : Table) (n p : ℕ) → parent_of T n ≡ Some p → In n (kids_of T p) → is_document T ≡ true → deletion_refusal T n ≡ None → p ≡ 0 →
+    (is_element (kind_of T n) ≡ false) × (is_text (kind_of T n) ≡ false)
+not-inside T n p up kid document free root =
+    let parts = none-of-two (not (can_be_kid (kind_of T n))) (is_element (kind_of T n) && is_root (parent_of T n)) WrongKind RootElement free in
+    let rooted : is_root (parent_of T n) ≡ true = ap is_root up ∙ eq-eqb p 0 root in
+    (by (is_element (kind_of T n)) refl (sym (ap (λ b. is_element (kind_of T n) && b) rooted) ∙ parts.1), no-texts T document n (subst (λ q. In n (kids_of T q)) root kid))
+  where
+    by : (b : Bool) → is_element (kind_of T n) ≡ b → (is_element (kind_of T n) && true) ≡ false → is_element (kind_of T n) ≡ false
+    by false e h = e
+    by true e h = absurd (true≢false (sym (ap (λ b. b && true) e) ∙ h))
+
+-- a kid that can stand there goes, and no two texts meet
+module _ (T : Table) (n p : ℕ) (form : WellFormed T) (up : parent_of T n ≡ Some p) (can : can_be_kid (kind_of T n) ≡ true)
+    (inside : p ≡ 0 → (is_element (kind_of T n) ≡ false) × (is_text (kind_of T n) ≡ false)) (rest-apart : TextsApart T (without n (kids_of T p))) where
   pub t : Formed T
   t = formed-of T form
 
@@ -140,18 +167,13 @@ module _ (T : Table) (n p : ℕ) (form : WellFormed T) (up : parent_of T n ≡ S
   back = behind n (kids_of T p)
 
   kid : In n (kids_of T p)
-  kid =
-      ⊎_elim (λ (a : mem n (attrs_of T p) ≡ true). absurd (true≢false (sym can ∙ ap can_be_kid (form.attribute_kind p n a)))) (λ (k : mem n (kids_of T p) ≡ true). mem-In n (kids_of T p) k)
-      (mem-append n (attrs_of T p) (kids_of T p) (form.is_listed n p up))
+  kid = is-kid T n p form up can
 
   list : kids_of T p ≡ front ++ n ∷ back
   list = split-placed n (kids_of T p) kid
 
   without-n : without n (kids_of T p) ≡ front ++ back
   without-n = without-it n (kids_of T p) front back (form.kids_once p) list
-
-  rest-apart : TextsApart T (without n (kids_of T p))
-  rest-apart = lone-apart T n p t lone
 
   r : Formed R
   r = formed-left T n p t up rest-apart
@@ -187,56 +209,37 @@ module _ (T : Table) (n p : ℕ) (form : WellFormed T) (up : parent_of T n ≡ S
       ends-same T R front (λ k h. ap kind_at (same-at k (rest-live k (inl h)))) ∙ texts-front T n front back text (subst (TextsApart T) list (form.texts_apart p)),
       begins-same T R back (λ k h. ap kind_at (same-at k (rest-live k (inr h)))) ∙ texts-back T n front back text (subst (TextsApart T) list (form.texts_apart p)),
     );
-    inside = λ root. (no-element root, no-text root);
+    inside = inside;
     nodes = omega (arith, live-count R r.forest r.whole, live-count T t.forest t.whole, nodes-left T n p t up live-n, ap count_live is-rest);
     bytes = omega (arith, text-count R r.forest r.whole, text-count T t.forest t.whole, text-left T n p t up live-n, ap text_held is-rest);
     numbers = numbers;
     bound = bound;
   }
-    where
-      no-element : p ≡ 0 → is_element (kind_of T n) ≡ false
-      no-element root =
-          let parts = none-of-two (not (can_be_kid (kind_of T n))) (is_element (kind_of T n) && is_root (parent_of T n)) WrongKind RootElement free in
-          let rooted : is_root (parent_of T n) ≡ true = ap is_root up ∙ eq-eqb p 0 root in
-          by (is_element (kind_of T n)) refl (sym (ap (λ b. is_element (kind_of T n) && b) rooted) ∙ parts.1)
-        where
-          by : (b : Bool) → is_element (kind_of T n) ≡ b → (is_element (kind_of T n) && true) ≡ false → is_element (kind_of T n) ≡ false
-          by false e h = e
-          by true e h = absurd (true≢false (sym (ap (λ b. b && true) e) ∙ h))
 
-      no-text : p ≡ 0 → is_text (kind_of T n) ≡ false
-      no-text root =
-          let parts = and_parts (count_by (λ k. is_element (kind_of T k)) (kids_of T 0) == 1) (count_by (λ k. is_text (kind_of T k)) (kids_of T 0) == 0) document in
-          none-counted (λ k. is_text (kind_of T k)) (kids_of T 0) n (eqb-true _ _ parts.1) (subst (λ q. In n (kids_of T q)) root kid)
-
-  path-rest : (path : List PathStep) → node_named T path ≡ Some n → node_named R (path_above path) ≡ Some p
-  path-rest path named =
+  pub path-rest : (parent : List PathStep) → node_named T parent ≡ Some p → node_named R parent ≡ Some p
+  path-rest parent named =
       path-kept T R form p (λ m. is_live R m ≡ true) (λ m alive ne. (removed-stays T n p t up kid m alive).kids ne)
       (λ m k alive ne h. ap kind_at (same-at k (kid-stays T n p t up kid m k alive (kid-other T n p t up kid m k ne h) h)))
       (λ m k alive ne h. kid-stays T n p t up kid m k alive (kid-other T n p t up kid m k ne h) h)
-      (root-stays T n p t up kid) (path_above path) (path-above T form path n p up named)
+      (root-stays T n p t up kid) parent named
 
-  pub lone-undone : DeletionsAreUndone → FragmentsHavePieces → SubtreesAreFragments → (scoped : InScope T) → (before after : Contents) (path : List PathStep) → before.nodes ≡ T → after.nodes ≡ removed T n →
-      node_named T path ≡ Some n → length (order T) ≤ after.pair_cap → length after.nodes + sum_by numbers_asked (comes_again (path_above path) T n ∷ []) ≤ MAX_NODE_NUMBERS →
-      TakesBack before after (comes_again (path_above path) T n ∷ [])
-  lone-undone undone pieces fragments scoped before after path was is named bound few =
+  pub comes-back : DeletionsAreUndone → FragmentsHavePieces → SubtreesAreFragments → InScope T → (before base : Contents) (parent : List PathStep) → before.nodes ≡ T →
+      node_named R parent ≡ Some p → length (order T) ≤ base.pair_cap → length R + length (below T n) ≤ MAX_NODE_NUMBERS →
+      TakesBack before (with_nodes base R) (comes_again parent T n ∷ []) (length (below T n))
+  comes-back undone pieces fragments scoped before base parent was named bound few =
       let sub : IsSubtree T n p (events_below T n) = fragments T n p form scoped up can in
-      let same-length : length after.nodes ≡ length R = ap length (is ∙ is-rest) in
-      let asked : sum_by numbers_asked (comes_again (path_above path) T n ∷ []) ≡ length (below T n) =
-      sum_by-cons numbers_asked (comes_again (path_above path) T n) [] ∙ omega (arith, sub.nodes) in
-      let place : HasPlace T n p front back R after = has-place after (omega (arith, few, asked, same-length)) bound in
+      let place : HasPlace T n p front back R base = has-place base few bound in
       let at : ℕ = place_of T n in
       let at-is : at ≡ suc (place_in n (kids_of T p)) = ap (λ o. suc (place_in n (kids_above T o))) up in
       let less : at - 1 ≡ length front = omega (arith, at-is, front-length n (kids_of T p) kid) in
       let some : 1 ≤ length T = omega (arith, (ordered T t).made n (sym ((ordered T t).live_in_order n) ∙ live-n)) in
-      let free-at : insertion_refusal (with_nodes after R) p at (events_below T n) ≡ None = comes-free T n p front back R after form some can sub place at less in
-      let come : Comes T n p at R = comes-again T n p front back R after form some can sub place at less pieces in
+      let free-at : insertion_refusal (with_nodes base R) p at (events_below T n) ≡ None = comes-free T n p front back R base form some can sub place at less in
+      let come : Comes T n p at R = comes-again T n p front back R base form some can sub place at less pieces in
       let V : Table = inserted R p (at - 1) come.piece in
-      let command : Command = comes_again (path_above path) T n in
-      let named-rest : node_named R (path_above path) ≡ Some p = path-rest path named in
+      let command : Command = comes_again parent T n in
       let done : IsEdited R command V = record {
         node = p;
-        named = named-rest;
+        named = named;
         edited = record { piece = come.piece; well_formed = come.formed; scoped = come.scoped; is = refl };
       } in
       let may : MayTake (removed T n) p (length front) come.piece =
@@ -244,8 +247,22 @@ module _ (T : Table) (n p : ℕ) (form : WellFormed T) (up : parent_of T n ≡ S
       let again : SameTree T (inserted (removed T n) p (length front) come.piece) =
       undone T come.piece n p front back form come.formed list (subst (TextsApart T) without-n rest-apart) come.same may in
       let same : SameTree T V = subst (λ U. SameTree T (inserted U p (at - 1) come.piece)) is-rest (subst (λ k. SameTree T (inserted (removed T n) p k come.piece)) (sym less) again) in
-      subst (λ W. TakesBack before (record after { nodes = W }) (command ∷ [])) (sym (is ∙ is-rest))
-      (one-done before (with_nodes after R) V command (ap (refusal_where (with_nodes after R) command) named-rest ∙ free-at) done (subst (λ W. SameTree W V) (sym was) same))
+      let numbers : length V ≡ length R + length (below T n) =
+      omega (
+        arith,
+        length-inserted R come.piece p (at - 1) live-p,
+        nodes-brought come.piece come.formed (ordered come.piece (formed-of come.piece come.formed)),
+        piece-nodes come.piece come.formed (events_below T n) come.scoped.lines_are,
+        sub.nodes,
+      ) in
+      one-done before (with_nodes base R) V command (length (below T n)) (ap (refusal_where (with_nodes base R) command) named ∙ free-at) done (subst (λ W. SameTree W V) (sym was) same) numbers
+
+-- commands that take back, and their number, told in other words
+pub told-so : (before after : Contents) (U : Table) (commands entry : List Command) (more count : ℕ) → after.nodes ≡ U → entry ≡ commands → count ≡ more →
+    TakesBack before (with_nodes after U) commands more → TakesBack before after entry count
+told-so before after U commands entry more count is same all back =
+    subst (λ k. TakesBack before after entry k) (sym all)
+    (subst (λ l. TakesBack before after l more) (sym same) (subst (λ W. TakesBack before (with_nodes after W) commands more) (sym is) back))
 
 pub kid-live : (T : Table) (n : ℕ) → can_be_kid (kind_of T n) ≡ true → is_live T n ≡ true
 kid-live T n can = by (entry_at T n) can
@@ -267,6 +284,17 @@ lone-deletions-are-undone undone pieces fragments before after path n form scope
     let parent : (p : ℕ) × (parent_of T n ≡ Some p) = (ways-up T (formed-of T form)).has_parent n (kid-live T n can) below-root in
     let alone : meeting T n (kids_of T parent.0) ≡ None = ap (λ o. meeting T n (kids_above T o)) (sym parent.1) ∙ lone in
     let entry : undoing T command ≡ comes_again (path_above path) T n ∷ [] = ap (undoing_where T command) named ∙ ap (deletion_undone (path_above path) T n) lone in
-    subst (TakesBack before after) (sym entry)
-    (lone-undone T n parent.0 form parent.1 can document free-at alone undone pieces fragments scoped before after path refl (is ∙ ap (deleted_by T n) lone) named
-    (subst (λ c. length (order T) ≤ c) (sym same-cap) bound) (subst (λ l. length after.nodes + sum_by numbers_asked l ≤ MAX_NODE_NUMBERS) entry few))
+    let all : undoing_numbers T command ≡ length (below T n) =
+    ap (numbers_where T command) named ∙ (ap (λ o. length (below T n) + numbers_met o) lone ∙ omega arith) in
+    let p : ℕ = parent.0 in
+    let up : parent_of T n ≡ Some p = parent.1 in
+    let t : Formed T = formed-of T form in
+    let inside : p ≡ 0 → (is_element (kind_of T n) ≡ false) × (is_text (kind_of T n) ≡ false) = not-inside T n p up (is-kid T n p form up can) document free-at in
+    let apart : TextsApart T (without n (kids_of T p)) = lone-apart T n p t alone in
+    let R : Table = remaining T n p t up in
+    let is-rest : after.nodes ≡ R = is ∙ (ap (deleted_by T n) lone ∙ ap (removed_from T n) up) in
+    let back : TakesBack before (with_nodes after R) (comes_again (path_above path) T n ∷ []) (length (below T n)) =
+    comes-back T n p form up can inside apart undone pieces fragments scoped before after (path_above path) refl
+    (path-rest T n p form up can inside apart (path_above path) (path-above T form path n p up named))
+    (subst (λ c. length (order T) ≤ c) (sym same-cap) bound) (omega (arith, few, all, ap length is-rest)) in
+    told-so before after R (comes_again (path_above path) T n ∷ []) (undoing T command) (length (below T n)) (undoing_numbers T command) is-rest entry all back

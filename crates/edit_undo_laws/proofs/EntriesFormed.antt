@@ -1,6 +1,6 @@
 -- A script can hold the commands that take a command back.
-use Rattle.std.proofs.Common.{◌≡◌, ◌≢◌, ℕ, ◌+◌, ◌-◌, ◌<◌, ◌≤◌, zero, suc, Bool, true, false, cond, not, ◌&&◌, List, [], ◌∷◌, ◌++◌, length, map, take, Option, None, Some, is_some, refl, sym, ap, ◌∙◌, subst, ⊎_elim, true≢false, arith}
-use Rattle.std.specs.Prelude.{All, count_by, filter, sum_by}
+use Rattle.std.proofs.Common.{◌≡◌, ◌≢◌, ℕ, ◌+◌, ◌-◌, ◌≤◌, zero, suc, Bool, true, false, cond, not, ◌&&◌, List, [], ◌∷◌, ◌++◌, length, map, take, Option, None, Some, refl, sym, ap, ◌∙◌, subst, true≢false, arith}
+use Rattle.std.specs.Prelude.{All, count_by, sum_by}
 use Rattle.std.proofs.lemmas.List.Elements.{All-append, All-take}
 use Rattle.std.proofs.lemmas.List.Sums.{sum_by-append, sum_by-cons}
 use Rattle.std.proofs.lemmas.Str.{IsUtf8-nil, chars-nil}
@@ -9,25 +9,22 @@ use Rattle.pyx_core.specs.declared.event.Event.{Event}
 use Rattle.pyx_core.specs.declared.event.Event.TheVariants as event
 use Rattle.pyx_core.specs.Nesting.{of_chars}
 use Rattle.pyx_core.proofs.TextLemmas.{made_of}
-use Rattle.doc_table.proofs.Appending.{holder-live}
-use Rattle.doc_table.proofs.Counts.{few-below}
 use Rattle.doc_table.proofs.Forests.{formed-of}
-use Rattle.doc_table.proofs.ListLemmas.{In, In-cons, In-mem, eq_or, mem-In, occurs-append, occurs-head, occurs-other, occurs-same}
+use Rattle.doc_table.proofs.ListLemmas.{In, In-mem, mem-In, occurs-append, occurs-head}
 use Rattle.doc_table.proofs.TreeLaws.{ordered, ways-up}
-use Rattle.doc_table.specs.Lists.{mem, occurs}
 use Rattle.doc_edits.specs.Changes.{Meeting, meeting}
 use Rattle.doc_edits.proofs.DeletionLemmas.{Met, met}
-use Rattle.doc_edits.proofs.NumberingLemmas.{place-head, place-tail}
+use Rattle.doc_edits.proofs.NumberingLemmas.{place-most}
 use Rattle.doc_tree.specs.kind.Kind.{Kind}
 use Rattle.doc_tree.specs.kind.Kind.TheVariants.{Root, Element, Attribute, Text, Comment, Pi}
 use Rattle.doc_tree.specs.declared.refusal.EditRefusal.TheVariants.{WrongKind, RootElement}
-use Rattle.doc_tree.specs.Kinds.{can_be_kid, holds_kids, is_element, is_kind, is_text}
+use Rattle.doc_tree.specs.Kinds.{can_be_kid, is_element, is_kind, is_text}
 use Rattle.doc_tree.specs.Laws.{WellFormed}
 use Rattle.doc_tree.specs.Lists.{place_in}
 use Rattle.doc_tree.specs.NameTests.{attribute_meant}
 use Rattle.doc_tree.specs.QNames.{written_in}
 use Rattle.doc_tree.specs.Scope.{Decl, scope_at}
-use Rattle.doc_tree.specs.Table.{Content, Contents, Table, root, element, attribute, text, comment, instruction, attrs_of, content_of, is_live, is_root, kids_above, kids_of, kind_of, name_of, parent_of, value_at, value_of}
+use Rattle.doc_tree.specs.Table.{Content, Contents, Table, root, element, attribute, text, comment, instruction, attrs_of, content_of, is_root, kids_above, kids_of, kind_of, name_of, parent_of, value_at, value_of}
 use Rattle.doc_tree.specs.Walks.{below, text_bytes}
 use Rattle.doc_tree.proofs.AttributeLemmas.{found-member}
 use Rattle.doc_tree.proofs.RefusalLemmas.{none-of-two, not-true}
@@ -44,7 +41,8 @@ use Rattle.edit_script.specs.WellFormed.{IsName, IsPath, IsPlace, IsStep, WellFo
 use Rattle.edit_commands.specs.Commands.{path_of, refusal_at, refusal_where, top_kind}
 use Rattle.edit_commands.specs.Paths.{kids_of_kind, node_named}
 use Rattle.edit_paths.specs.PathTo.{step_to}
-use Rattle.edit_undo_laws.specs.Entries.{attribute_comes, attribute_goes, behind, comes_again, deletion_undone, path_above, place_of, setting_undone, step_under, undoing_at, undoing_where, unsetting_undone}
+use Rattle.edit_paths.specs.Entries.{attribute_comes, attribute_goes, behind, comes_again, deletion_undone, path_above, place_of, setting_undone, step_under, undoing_at, undoing_where, unsetting_undone}
+use Rattle.edit_paths.proofs.LeadingLemmas.{few-listed, filter-short}
 use Rattle.edit_undo_laws.specs.Undoing.{UndoingsAreFormed}
 use Rattle.edit_undo_laws.proofs.DeletingUndone.{kid-live}
 use Rattle.edit_undo_laws.proofs.OwnAttributes.{IsOwn, own, pair_of, split-placed}
@@ -53,7 +51,7 @@ use Rattle.edit_undo_laws.proofs.OwnAttributes.{IsOwn, own, pair_of, split-place
 all-none : {X : Type 0} (P : X → Type 0) → All P []
 all-none P i d h = absurd (omega (arith, h))
 
-all-one : {X : Type 0} (P : X → Type 0) (x : X) → P x → All P (x ∷ [])
+pub all-one : {X : Type 0} (P : X → Type 0) (x : X) → P x → All P (x ∷ [])
 all-one P x is zero d h = is
 all-one P x is (suc k) d h = absurd (omega (arith, h))
 
@@ -73,44 +71,14 @@ counted-few f (x ∷ xs) = by (f x) (sum_by-cons (λ k. cond (f k) 1 0) x xs) (c
     by true e h = omega (arith, e, h)
     by false e h = omega (arith, e, h)
 
-place-few : (n : ℕ) (xs : List ℕ) → place_in n xs ≤ length xs
-place-few n [] = omega arith
-place-few n (x ∷ xs) =
-    ⊎_elim (λ (e : n ≡ x). omega (arith, place-head n x xs e)) (λ (ne : n ≢ x). omega (arith, place-tail n x xs ne, place-few n xs)) (eq_or n x)
-
-filter-few : (f : ℕ → Bool) (xs : List ℕ) → length (filter f xs) ≤ length xs
-filter-few f [] = omega arith
-filter-few f (x ∷ xs) = by (f x) (filter-few f xs)
-  where
-    by : (b : Bool) → length (filter f xs) ≤ length xs → length (cond b (x ∷ filter f xs) (filter f xs)) ≤ suc (length xs)
-    by true h = omega (arith, h)
-    by false h = omega (arith, h)
-
 take-few : (k : ℕ) (xs : List ℕ) → length (take k xs) ≤ length xs
 take-few zero xs = omega arith
 take-few (suc k) [] = omega arith
 take-few (suc k) (x ∷ xs) = omega (arith, take-few k xs)
 
 module _ (T : Table) (form : WellFormed T) where
-  -- the root is no kid
-  rooted : (p : ℕ) → mem 0 (kids_of T p) ≡ true → ⊥
-  rooted p h = true≢false (ap is_some (sym (form.kid_parent p 0 h) ∙ form.root_parent))
-
   few-kids : (p : ℕ) → suc (length (kids_of T p)) ≤ MAX_PLACE
-  few-kids p =
-      let once : (m : ℕ) → occurs m (0 ∷ kids_of T p) ≤ 1 = λ m.
-      ⊎_elim (λ (e : m ≡ 0). zero-once m e (occurs 0 (kids_of T p)) refl) (λ (ne : m ≢ 0). omega (arith, occurs-other m 0 (kids_of T p) ne, form.kids_once p m)) (eq_or m 0) in
-      let made : (m : ℕ) → In m (0 ∷ kids_of T p) → m < length T = λ m h.
-      ⊎_elim (λ (e : m ≡ 0). live-made m (subst (λ k. is_live T k ≡ true) (sym e) (holder-live T 0 (ap holds_kids form.root_kind))))
-      (λ (k : In m (kids_of T p)). live-made m ((ways-up T (formed-of T form)).kid_live p m (In-mem m (kids_of T p) k))) (In-cons m 0 (kids_of T p) h) in
-      omega (arith, few-below (length T) (0 ∷ kids_of T p) once made, form.few_numbers)
-    where
-      live-made : (m : ℕ) → is_live T m ≡ true → m < length T
-      live-made m live = (ordered T (formed-of T form)).made m (sym ((ordered T (formed-of T form)).live_in_order m) ∙ live)
-
-      zero-once : (m : ℕ) → m ≡ 0 → (k : ℕ) → occurs 0 (kids_of T p) ≡ k → occurs m (0 ∷ kids_of T p) ≤ 1
-      zero-once m e zero none = subst (λ j. occurs j (0 ∷ kids_of T p) ≤ 1) (sym e) (omega (arith, none, occurs-same 0 (kids_of T p)))
-      zero-once m e (suc k) more = absurd (rooted p (In-mem 0 (kids_of T p) (omega (arith, more))))
+  few-kids p = omega (arith, few-listed T form p)
 
   few-at : (o : Option ℕ) → suc (length (kids_above T o)) ≤ MAX_PLACE
   few-at None = omega arith
@@ -140,12 +108,12 @@ module _ (T : Table) (form : WellFormed T) where
   text-formed n (Some p) (Some Attribute) is = absurd (true≢false (sym is))
   text-formed n (Some p) (Some Text) is =
       placed-step Text _ refl (omega arith)
-      (omega (arith, place-few n (kids_of_kind T p Text), filter-few (λ k. is_kind Text (kind_of T k)) (kids_of T p), few-kids p))
+      (omega (arith, place-most n (kids_of_kind T p Text), filter-short (λ k. is_kind Text (kind_of T k)) (kids_of T p), few-kids p))
   text-formed n (Some p) (Some Comment) is = absurd (true≢false (sym is))
   text-formed n (Some p) (Some Pi) is = absurd (true≢false (sym is))
 
   place-formed : (n : ℕ) → IsPlace (place_of T n)
-  place-formed n = record { low = omega arith; high = omega (arith, place-few n (kids_above T (parent_of T n)), few-at (parent_of T n)) }
+  place-formed n = record { low = omega arith; high = omega (arith, place-most n (kids_above T (parent_of T n)), few-at (parent_of T n)) }
 
 -- texts of a tree in scope are made of Chars
 empty-made : of_chars [] ≡ true
@@ -168,7 +136,7 @@ module _ (splits : QNamesSplit) (fragments : SubtreesAreFragments) (before : Con
   T = before.nodes
 
   -- a node that comes again
-  again-formed : (parent : List PathStep) (n p : ℕ) → IsPath parent → parent_of T n ≡ Some p → can_be_kid (kind_of T n) ≡ true → WellFormedCommand (comes_again parent T n)
+  pub again-formed : (parent : List PathStep) (n p : ℕ) → IsPath parent → parent_of T n ≡ Some p → can_be_kid (kind_of T n) ≡ true → WellFormedCommand (comes_again parent T n)
   again-formed parent n p path up can =
       let sub : IsSubtree T n p (events_below T n) = fragments T n p form scoped up can in
       let place = (ordered T (formed-of T form)).below_in_order n (kid-live T n can) in

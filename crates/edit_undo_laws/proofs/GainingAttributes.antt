@@ -25,7 +25,7 @@ use Rattle.name_scopes.specs.QNames.{local_part, prefix_part}
 use Rattle.edit_script.specs.declared.command.PathStep.{PathStep}
 use Rattle.edit_commands.specs.Commands.{IsEdited, command_refusal, refusal_where}
 use Rattle.edit_iso_laws.specs.CommandsMove.{DoneInTurn, none, then}
-use Rattle.edit_undo_laws.specs.Entries.{attribute_comes}
+use Rattle.edit_paths.specs.Entries.{attribute_comes}
 use Rattle.edit_undo_laws.proofs.AttributeSteps.{Holds, holds-more, list-more, nodes-more, numbers-more, text-more}
 use Rattle.edit_undo_laws.proofs.AttributesFound.{meant-none}
 use Rattle.edit_undo_laws.proofs.LosingAttributes.{texts_of, with_nodes}
@@ -172,9 +172,10 @@ module _ (T : Table) (n : ℕ) (path : List PathStep) (t : Formed T) (front : Li
   pub record Regained (V : Table) (rest : List ℕ) : Type 0 where
     pub done : DoneInTurn (with_nodes base V) (map (attribute_comes path T) rest) (with_nodes base (regained n (map (pair_of T) rest) V))
     pub may : MayRegain n (map (pair_of T) rest) V
+    pub numbers : length (regained n (map (pair_of T) rest) V) ≡ length V + length rest
 
   pub gaining-done : (rest back : List ℕ) (V : Table) → Gaining T n path front back rest V → attrs_of T n ≡ front ++ (back ++ rest) → ((b : ℕ) → In b rest → IsOwn T n b) → Regained V rest
-  gaining-done [] back V g list owns = record { done = none (with_nodes base V); may = tt }
+  gaining-done [] back V g list owns = record { done = none (with_nodes base V); may = tt; numbers = omega arith }
   gaining-done (a ∷ rest) back V g list owns =
       let is : IsOwn T n a = owns a (occurs-head a rest) in
       let G : Table = gained V n (pair_of T a).0 (value_of T a) in
@@ -184,4 +185,5 @@ module _ (T : Table) (n : ℕ) (path : List PathStep) (t : Formed T) (front : Li
         done = then (with_nodes base V) (with_nodes base G) (with_nodes base (regained n (map (pair_of T) rest) G)) (attribute_comes path T a) (map (attribute_comes path T) rest)
             (comes-free V back a rest g list is) (comes V back a rest g list is) refl more.done;
         may = (may V back a rest g list is, more.may);
+        numbers = omega (arith, more.numbers, numbers-more T n path V g.holds (pair_of T a).0 (value_of T a));
       }

@@ -37,9 +37,10 @@ use Rattle.edit_command_laws.specs.TreesKept.{EditsKeepTrees}
 use Rattle.edit_command_laws.proofs.TreesKept.{fits}
 use Rattle.edit_iso_laws.specs.CommandsMove.{none, then}
 use Rattle.edit_iso_laws.proofs.CommandLemmas.{piece-may}
-use Rattle.edit_undo_laws.specs.Entries.{step_under, undoing_where}
+use Rattle.edit_paths.specs.Entries.{numbers_where, step_under, undoing_where}
 use Rattle.edit_undo_laws.specs.Undoing.{InsertsAreUndone, TakesBack}
-use Rattle.edit_undo_laws.proofs.PathsKept.{led-on, path-kept, step-leads}
+use Rattle.edit_paths.proofs.PathsKept.{led-on, path-kept, step-leads}
+use Rattle.edit_undo_laws.proofs.RemovalCounts.{removed-length}
 
 same-kind : (kind : Kind) → is_kind kind (Some kind) ≡ true
 same-kind Root = refl
@@ -204,8 +205,9 @@ inserts-are-undone keeps undone before after path at events form document free e
     let command : Command = Delete way in
     let free2 : command_refusal after command ≡ None = ap (refusal_where after command) named ∙ free-after before p at events V edited.edited form kept.0 free-at in
     let done : IsEdited V command (deleted V n) = record { node = n; named = named; edited = refl } in
-    subst (λ o. TakesBack before after (undoing_where before.nodes (Insert path at events) o)) (sym edited.named) (record {
+    subst (λ o. TakesBack before after (undoing_where before.nodes (Insert path at events) o) (numbers_where before.nodes (Insert path at events) o)) (sym edited.named) (record {
       end = end;
       done = then after end end command [] free2 done refl (none end);
       same = subst (SameTree before.nodes) (sym (is-removed before p at events V edited.edited form kept.0 free-at)) gone;
+      numbers = omega (arith, ap length (is-removed before p at events V edited.edited form kept.0 free-at), removed-length V n);
     })

@@ -1,4 +1,4 @@
-pub mod PathsKept
+pub mod RemovalCounts
 pub mod ScopesKept
 pub mod AttributesFound
 pub mod InsertUndone
@@ -9,8 +9,9 @@ pub mod OwnAttributes
 pub mod LosingAttributes
 pub mod GainingAttributes
 pub mod UnsettingUndone
-pub mod RemovalCounts
 pub mod SubtreeComes
 pub mod DeletingUndone
 pub mod EntriesFormed
-pub mod EntriesAsk
+pub mod SubtreeStays
+pub mod MergingUndone
+pub mod CommandsUndone

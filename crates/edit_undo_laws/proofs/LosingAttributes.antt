@@ -17,7 +17,7 @@ use Rattle.edit_script.specs.declared.command.Command.{Command}
 use Rattle.edit_script.specs.declared.command.PathStep.{PathStep}
 use Rattle.edit_commands.specs.Commands.{IsEdited, command_refusal, refusal_where}
 use Rattle.edit_iso_laws.specs.CommandsMove.{DoneInTurn, then}
-use Rattle.edit_undo_laws.specs.Entries.{attribute_goes}
+use Rattle.edit_paths.specs.Entries.{attribute_goes}
 use Rattle.edit_undo_laws.proofs.AttributeSteps.{Holds, holds-less, length-less, nodes-less, text-less}
 use Rattle.edit_undo_laws.proofs.AttributesFound.{meant-is}
 use Rattle.edit_undo_laws.proofs.OwnAttributes.{IsOwn, own-free, own-known, pair_of}

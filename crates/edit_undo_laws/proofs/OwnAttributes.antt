@@ -16,7 +16,7 @@ use Rattle.doc_undo_laws.specs.Undoing.{Pair}
 use Rattle.name_scopes.specs.QNames.{local_part, prefix_part}
 use Rattle.name_scopes.specs.Scoping.{AttributeInScope, ContentInScope, InScope}
 use Rattle.name_scopes.proofs.ItemNames.{Spelled, spelled}
-use Rattle.edit_undo_laws.specs.Entries.{behind}
+use Rattle.edit_paths.specs.Entries.{behind}
 use Rattle.edit_undo_laws.proofs.AttributesFound.{name-free}
 
 -- a list around one of its numbers

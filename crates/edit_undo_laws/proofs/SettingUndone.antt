@@ -1,5 +1,5 @@
 -- An attribute that got another value has its own again; one that came goes.
-use Rattle.std.proofs.Common.{◌≡◌, ◌≢◌, ℕ, true, List, [], ◌∷◌, ◌++◌, length, Option, None, Some, refl, sym, ap, ap₂, ◌∙◌, subst, arith, unwrap_or}
+use Rattle.std.proofs.Common.{◌≡◌, ◌≢◌, ℕ, ◌+◌, true, List, [], ◌∷◌, ◌++◌, length, Option, None, Some, refl, sym, ap, ap₂, ◌∙◌, subst, arith, unwrap_or}
 use Rattle.std.specs.Option.{option_or}
 use Rattle.doc_table.proofs.Appending.{holder-live}
 use Rattle.doc_table.proofs.Forests.{formed-of}
@@ -36,12 +36,13 @@ use Rattle.edit_script.specs.declared.command.PathStep.{PathStep}
 use Rattle.edit_commands.specs.Commands.{IsEdited, command_refusal, refusal_where}
 use Rattle.edit_commands.specs.Paths.{node_named}
 use Rattle.edit_iso_laws.specs.CommandsMove.{none, then}
-use Rattle.edit_undo_laws.specs.Entries.{setting_undone, undoing_where}
+use Rattle.edit_paths.specs.Entries.{numbers_where, setting_undone, undoing_where}
 use Rattle.edit_undo_laws.specs.Undoing.{SettingsAreUndone, TakesBack}
 use Rattle.edit_undo_laws.proofs.AttributesFound.{meant-is, meant-kept, refusal-kept}
-use Rattle.edit_undo_laws.proofs.PathsKept.{path-kept}
+use Rattle.edit_paths.proofs.PathsKept.{path-kept}
+use Rattle.edit_undo_laws.proofs.RemovalCounts.{removed-length}
 use Rattle.edit_undo_laws.proofs.ScopesKept.{scope-kept}
-use Rattle.edit_undo_laws.proofs.TextUndone.{path-same, room-back}
+use Rattle.edit_undo_laws.proofs.TextUndone.{path-same, room-back, said-length}
 
 -- what a table with another text keeps
 module _ (T : Table) (a : ℕ) (value : List ℕ) where
@@ -53,11 +54,11 @@ module _ (T : Table) (a : ℕ) (value : List ℕ) where
   name-said m = changed-word (λ o. name_at (content_at o)) (with_text value) text-name T a m
 
 -- one command, done to its end
-pub one-done : (before after : Contents) (U : Table) (command : Command) → command_refusal after command ≡ None → IsEdited after.nodes command U → SameTree before.nodes U →
-    TakesBack before after (command ∷ [])
-one-done before after U command free edited same =
+pub one-done : (before after : Contents) (U : Table) (command : Command) (more : ℕ) → command_refusal after command ≡ None → IsEdited after.nodes command U → SameTree before.nodes U →
+    length U ≡ length after.nodes + more → TakesBack before after (command ∷ []) more
+one-done before after U command more free edited same numbers =
     let end : Contents = record after { nodes = U } in
-    record { end = end; done = then after end end command [] free edited refl (none end); same = same }
+    record { end = end; done = then after end end command [] free edited refl (none end); same = same; numbers = numbers }
 
 module _ (before : Contents) (path : List PathStep) (name value : List ℕ) (n : ℕ) (form : WellFormed before.nodes) (named : node_named before.nodes path ≡ Some n)
     (free : setting_refusal before n (prefix_part name) (local_part name) value ≡ None) where
@@ -105,7 +106,7 @@ module _ (before : Contents) (path : List PathStep) (name value : List ℕ) (n :
     name-after : name_refusal U n prefix local ≡ None
     name-after = refusal-kept T U n prefix local (same-kind (saying value) (saying-kind value) T a n) scope ∙ name-none
 
-    pub present-undone : (after : Contents) → after.nodes ≡ U → TakesBack before after (SetAttr path name (value_of T a) ∷ [])
+    pub present-undone : (after : Contents) → after.nodes ≡ U → TakesBack before after (SetAttr path name (value_of T a) ∷ []) 0
     present-undone after is =
         let command : Command = SetAttr path name (value_of T a) in
         let changed : Contents = record after { nodes = U } in
@@ -116,9 +117,9 @@ module _ (before : Contents) (path : List PathStep) (name value : List ℕ) (n :
         let again : attribute_set U n prefix local (value_of T a) ≡ T =
         ap (λ o. with_value U n (attribute_name_at U n prefix local) o (value_of T a)) meant ∙ said-back T a value in
         let done : IsEdited U command (attribute_set U n prefix local (value_of T a)) = record { node = n; named = named-after; edited = refl } in
-        subst (λ V. TakesBack before (record after { nodes = V }) (command ∷ [])) (sym is)
-        (one-done before changed (attribute_set U n prefix local (value_of T a)) command (ap (refusal_where changed command) named-after ∙ free-after) done
-        (subst (SameTree T) (sym again) (same-lines-same-tree T T form form refl)))
+        subst (λ V. TakesBack before (record after { nodes = V }) (command ∷ []) 0) (sym is)
+        (one-done before changed (attribute_set U n prefix local (value_of T a)) command 0 (ap (refusal_where changed command) named-after ∙ free-after) done
+        (subst (SameTree T) (sym again) (same-lines-same-tree T T form form refl)) (omega (arith, ap length again, said-length T a value)))
 
   -- a new one
   module _ (given : AttributesAreGivenBack) (absent : attribute_meant T n prefix local ≡ None) where
@@ -167,24 +168,24 @@ module _ (before : Contents) (path : List PathStep) (name value : List ℕ) (n :
         (λ m k lives ne h. ap kind_at (same-content k (kid-lives m k h))) (λ m k lives ne h. kid-lives m k h)
         (holder-live T 0 (ap holds_kids form.root_kind)) path named
 
-    pub new-undone : (after : Contents) → after.nodes ≡ G → TakesBack before after (UnsetAttr path name ∷ [])
+    pub new-undone : (after : Contents) → after.nodes ≡ G → TakesBack before after (UnsetAttr path name ∷ []) 0
     new-undone after is =
         let command : Command = UnsetAttr path name in
         let changed : Contents = record after { nodes = G } in
         let free-after : unsetting_refusal G n prefix local ≡ None = ap₂ option_or name-more (ap absence_refusal meant-new) in
         let gone : attribute_unset G n prefix local ≡ removed G (length T) = ap (without_attribute G) meant-new in
         let done : IsEdited G command (attribute_unset G n prefix local) = record { node = n; named = named-more; edited = refl } in
-        subst (λ V. TakesBack before (record after { nodes = V }) (command ∷ [])) (sym is)
-        (one-done before changed (attribute_unset G n prefix local) command (ap (refusal_where changed command) named-more ∙ free-after) done
-        (subst (SameTree T) (sym gone) (given.gain T n new value form gains)))
+        subst (λ V. TakesBack before (record after { nodes = V }) (command ∷ []) 0) (sym is)
+        (one-done before changed (attribute_unset G n prefix local) command 0 (ap (refusal_where changed command) named-more ∙ free-after) done
+        (subst (SameTree T) (sym gone) (given.gain T n new value form gains)) (omega (arith, ap length gone, removed-length G (length T))))
 
   -- by whether it was there
   pub setting-back : AttributesAreGivenBack → (after : Contents) → after.nodes ≡ attribute_set T n prefix local value →
-      TakesBack before after (setting_undone path name T (attribute_meant T n prefix local))
+      TakesBack before after (setting_undone path name T (attribute_meant T n prefix local)) 0
   setting-back given after is = by (attribute_meant T n prefix local) refl is
     where
       by : (o : Option ℕ) → attribute_meant T n prefix local ≡ o → after.nodes ≡ with_value T n (attribute_name_at T n prefix local) o value →
-          TakesBack before after (setting_undone path name T o)
+          TakesBack before after (setting_undone path name T o) 0
       by None e same = new-undone given e after same
       by (Some a) e same = present-undone a e after same
 
@@ -195,4 +196,4 @@ settings-are-undone given before after path name value n form named free edited 
     let is : after.nodes ≡ attribute_set T n (prefix_part name) (local_part name) value =
     subst (λ m. after.nodes ≡ attribute_set T m (prefix_part name) (local_part name) value) node edited.edited in
     let free-at : setting_refusal before n (prefix_part name) (local_part name) value ≡ None = ap (refusal_where before (SetAttr path name value)) (sym named) ∙ free in
-    subst (λ o. TakesBack before after (undoing_where T (SetAttr path name value) o)) (sym named) (setting-back before path name value n form named free-at given after is)
+    subst (λ o. TakesBack before after (undoing_where T (SetAttr path name value) o) (numbers_where T (SetAttr path name value) o)) (sym named) (setting-back before path name value n form named free-at given after is)

@@ -7,10 +7,11 @@ use Rattle.doc_table.proofs.Counts.{text-count}
 use Rattle.doc_table.proofs.Forests.{formed-of}
 use Rattle.doc_table.proofs.SameTreeLemmas.{same-lines-same-tree}
 use Rattle.doc_table.specs.inner.Sound.{Formed}
-use Rattle.doc_edits.specs.Changes.{said, saying}
+use Rattle.doc_edits.specs.Changes.{said, saying, with_text}
 use Rattle.doc_edits.specs.Fitting.{MaySay}
 use Rattle.doc_edits.proofs.RecontentLemmas.{same-kind, same-links}
 use Rattle.doc_edits.proofs.SayingLemmas.{held-said, saying-kind, sayings-keep-trees, value-said}
+use Rattle.doc_edits.proofs.TableLemmas.{changed-length}
 use Rattle.doc_edit_laws.proofs.InsertionOrderLemmas.{filter-same}
 use Rattle.doc_tree.specs.kind.Kind.{Kind}
 use Rattle.doc_tree.specs.kind.Kind.TheVariants.{Root, Element, Attribute, Text, Comment, Pi}
@@ -30,8 +31,11 @@ use Rattle.edit_commands.specs.Commands.{IsEdited, command_refusal, refusal_wher
 use Rattle.edit_commands.specs.Paths.{kids_of_kind, led_from, node_named}
 use Rattle.edit_commands.proofs.TextLemmas.{may-say}
 use Rattle.edit_iso_laws.specs.CommandsMove.{none, then}
-use Rattle.edit_undo_laws.specs.Entries.{undoing_where}
+use Rattle.edit_paths.specs.Entries.{numbers_where, undoing_where}
 use Rattle.edit_undo_laws.specs.Undoing.{TakesBack, TextsAreUndone}
+
+pub said-length : (T : Table) (n : ℕ) (new : List ℕ) → length (said T n new) ≡ length T
+said-length T n new = changed-length T n (with_text new)
 
 -- a path leads where it led, where kids and kinds stay
 module _ (T U : Table) (kids : (m : ℕ) → kids_of U m ≡ kids_of T m) (kinds : (m : ℕ) → kind_of U m ≡ kind_of T m) where
@@ -44,7 +48,7 @@ module _ (T U : Table) (kids : (m : ℕ) → kids_of U m ≡ kids_of T m) (kinds
       ∙ filter-same (λ k. is_kind step.kind (kind_of U k)) (λ k. is_kind step.kind (kind_of T k)) (kids_of T n) (λ k h. ap (is_kind step.kind) (kinds k)))
       ∙ led-same (slice_get (kids_of_kind T n step.kind) (step.index - 1)) steps
 
-text-of : (o : Option Kind) → is_text o ≡ true → o ≡ Some Text
+pub text-of : (o : Option Kind) → is_text o ≡ true → o ≡ Some Text
 text-of None h = absurd (true≢false (sym h))
 text-of (Some Root) h = absurd (true≢false (sym h))
 text-of (Some Element) h = absurd (true≢false (sym h))
@@ -91,15 +95,12 @@ pub path-same : (T : Table) (n : ℕ) (new : List ℕ) (path : List PathStep) �
 path-same T n new path =
     led-same T (said T n new) (λ m. (same-links (saying new) (saying-kind new) T n m).kids) (λ m. same-kind (saying new) (saying-kind new) T n m) (Some 0) path
 
-module _ (T : Table) (n : ℕ) (new : List ℕ) (form : WellFormed T) (free : text_refusal T n new ≡ None) (own : has_own_text (kind_of T n) ≡ true) where
+module _ (T : Table) (n : ℕ) (new : List ℕ) (form : WellFormed T) (may : MaySay T n new) (own : has_own_text (kind_of T n) ≡ true) where
   abbrev U : Table
   U = said T n new
 
   t : Formed T
   t = formed-of T form
-
-  may : MaySay T n new
-  may = may-say T n new free
 
   u : Formed U
   u = sayings-keep-trees T n new t may
@@ -131,15 +132,17 @@ texts-are-undone before after path new n form named free edited =
     let is : after.nodes ≡ said T n new = subst (λ m. after.nodes ≡ said T m new) node edited.edited in
     let free-at : text_refusal T n new ≡ None = ap (refusal_where before (SetText path new)) (sym named) ∙ free in
     let own : has_own_text (kind_of T n) ≡ true = own-text T n new free-at in
+    let may : MaySay T n new = may-say T n new free-at in
     let command : Command = SetText path (value_of T n) in
     let end : Contents = record after { nodes = said after.nodes n (value_of T n) } in
-    let named2 : node_named after.nodes path ≡ Some n = ap (λ U. node_named U path) is ∙ (path-after T n new form free-at own path ∙ named) in
+    let named2 : node_named after.nodes path ≡ Some n = ap (λ U. node_named U path) is ∙ (path-after T n new form may own path ∙ named) in
     let free2 : command_refusal after command ≡ None =
-    ap (refusal_where after command) named2 ∙ (ap (λ U. text_refusal U n (value_of T n)) is ∙ free-after T n new form free-at own) in
+    ap (refusal_where after command) named2 ∙ (ap (λ U. text_refusal U n (value_of T n)) is ∙ free-after T n new form may own) in
     let done : IsEdited after.nodes command (said after.nodes n (value_of T n)) = record { node = n; named = named2; edited = refl } in
     let again : said after.nodes n (value_of T n) ≡ T = ap (λ U. said U n (value_of T n)) is ∙ said-back T n new in
-    subst (λ o. TakesBack before after (undoing_where T (SetText path new) o)) (sym named) (record {
+    subst (λ o. TakesBack before after (undoing_where T (SetText path new) o) (numbers_where T (SetText path new) o)) (sym named) (record {
       end = end;
       done = then after end end command [] free2 done refl (none end);
       same = subst (SameTree T) (sym again) (same-lines-same-tree T T form form refl);
+      numbers = omega (arith, said-length after.nodes n (value_of T n));
     })

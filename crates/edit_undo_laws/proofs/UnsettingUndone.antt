@@ -1,6 +1,5 @@
 -- An attribute that went comes again, with those behind it in their order.
 use Rattle.std.proofs.Common.{◌≡◌, ℕ, ◌+◌, ◌≤◌, List, [], ◌∷◌, ◌++◌, length, map, take, Option, None, Some, refl, sym, ap, ap₂, ◌∙◌, subst, arith, unwrap_or}
-use Rattle.std.specs.Prelude.{sum_by}
 use Rattle.sch_base.specs.Names.{QNamesSplit}
 use Rattle.doc_table.proofs.Forests.{formed-of}
 use Rattle.doc_table.proofs.ListLemmas.{In, mem-In, occurs-append, occurs-head}
@@ -21,32 +20,16 @@ use Rattle.doc_tree.proofs.RefusalLemmas.{or-none}
 use Rattle.doc_undo_laws.specs.Undoing.{AttributesAreGivenBack, content_of_pair, lost, regained}
 use Rattle.name_scopes.specs.QNames.{local_part, prefix_part}
 use Rattle.name_scopes.specs.Scoping.{InScope}
-use Rattle.edit_script.specs.declared.command.Command.{Command}
 use Rattle.edit_script.specs.declared.command.Command.TheVariants.{UnsetAttr}
 use Rattle.edit_script.specs.declared.command.PathStep.{PathStep}
 use Rattle.edit_commands.specs.Commands.{refusal_where}
 use Rattle.edit_commands.specs.Paths.{node_named}
-use Rattle.edit_iso_laws.specs.CommandsMove.{DoneInTurn, numbers_asked}
-use Rattle.edit_undo_laws.specs.Entries.{attribute_comes, attribute_goes, behind, undoing_where, unsetting_undone}
+use Rattle.edit_iso_laws.specs.CommandsMove.{DoneInTurn}
+use Rattle.edit_paths.specs.Entries.{attribute_comes, behind, numbers_behind, numbers_where, undoing_where, unsetting_undone}
 use Rattle.edit_undo_laws.specs.Undoing.{TakesBack, UnsettingsAreUndone}
 use Rattle.edit_undo_laws.proofs.GainingAttributes.{Gaining, Regained, gaining-done}
 use Rattle.edit_undo_laws.proofs.LosingAttributes.{Losing, losing-done, losing-on, lost-all, with_nodes}
 use Rattle.edit_undo_laws.proofs.OwnAttributes.{IsOwn, own, pair_of, split-placed}
-use Rattle.std.proofs.lemmas.List.Sums.{sum_by-cons}
-
--- how many numbers the commands ask for
-sum-goes : (path : List PathStep) (T : Table) (ats : List ℕ) (more : List Command) → sum_by numbers_asked (map (attribute_goes path T) ats ++ more) ≡ sum_by numbers_asked more
-sum-goes path T [] more = refl
-sum-goes path T (a ∷ ats) more =
-    sum_by-cons numbers_asked (attribute_goes path T a) (map (attribute_goes path T) ats ++ more) ∙ omega (arith, sum-goes path T ats more)
-
-sum-comes : (path : List PathStep) (T : Table) (ats : List ℕ) → sum_by numbers_asked (map (attribute_comes path T) ats) ≡ length ats
-sum-comes path T [] = refl
-sum-comes path T (a ∷ ats) =
-    sum_by-cons numbers_asked (attribute_comes path T a) (map (attribute_comes path T) ats) ∙ omega (arith, sum-comes path T ats)
-
-pub sum-unsetting : (path : List PathStep) (T : Table) (behind more : List ℕ) → sum_by numbers_asked (map (attribute_goes path T) behind ++ map (attribute_comes path T) more) ≡ length more
-sum-unsetting path T behind more = sum-goes path T behind (map (attribute_comes path T) more) ∙ sum-comes path T more
 
 module _ (splits : QNamesSplit) (T : Table) (form : WellFormed T) (scoped : InScope T) (n : ℕ) (path : List PathStep) (named : node_named T path ≡ Some n) (kind : kind_of T n ≡ Some Element)
     (a : ℕ) (found : In a (attrs_of T n)) (given : AttributesAreGivenBack) where
@@ -99,12 +82,12 @@ module _ (splits : QNamesSplit) (T : Table) (form : WellFormed T) (scoped : InSc
   contents (k ∷ ks) each = ap₂ (λ x xs. x ∷ xs) (each k (occurs-head k ks)).content (contents ks (λ b h. each b (omega (arith, h))))
 
   pub attributes-back : (before after : Contents) → before.nodes ≡ T → after.nodes ≡ removed T a → length (order T) ≤ after.pair_cap →
-      length after.nodes + sum_by numbers_asked (unsetting_undone path T n (Some a)) ≤ MAX_NODE_NUMBERS → TakesBack before after (unsetting_undone path T n (Some a))
+      length after.nodes + numbers_behind T n (Some a) ≤ MAX_NODE_NUMBERS → TakesBack before after (unsetting_undone path T n (Some a)) (numbers_behind T n (Some a))
   attributes-back before after was is room few =
       let start : Gaining T n path front [] (a ∷ back) L = record {
         holds = gone.holds;
         names = names;
-        numbers = omega (arith, gone.numbers, first.numbers, ap length is, few, sum-unsetting path T back (a ∷ back));
+        numbers = omega (arith, gone.numbers, first.numbers, ap length is, few);
         nodes = omega (arith, gone.nodes);
         text = omega (arith, gone.text);
       } in
@@ -117,6 +100,7 @@ module _ (splits : QNamesSplit) (T : Table) (form : WellFormed T) (scoped : InSc
         done = subst (λ V. DoneInTurn (with_nodes after V) (unsetting_undone path T n (Some a)) end) (sym is) done;
         same = subst (λ V. SameTree V (regained n (map (pair_of T) (a ∷ back)) L)) (sym was)
             (given.loss T n front (a ∷ back) (map (pair_of T) (a ∷ back)) form list (contents (a ∷ back) owns) again.may);
+        numbers = omega (arith, again.numbers, gone.numbers, first.numbers, ap length is);
       }
 
 pub unsettings-are-undone : QNamesSplit → AttributesAreGivenBack → UnsettingsAreUndone
@@ -129,17 +113,17 @@ unsettings-are-undone splits given before after path name n form scoped room nam
     let free-at : unsetting_refusal T n prefix local ≡ None = ap (refusal_where before (UnsetAttr path name)) (sym named) ∙ free in
     let parts : (name_refusal T n prefix local ≡ None) × (absence_refusal (attribute_meant T n prefix local) ≡ None) =
     or-none (name_refusal T n prefix local) (absence_refusal (attribute_meant T n prefix local)) free-at in
-    let goal : Option ℕ → Type 0 = λ o. TakesBack before after (unsetting_undone path T n o) in
+    let goal : Option ℕ → Type 0 = λ o. TakesBack before after (unsetting_undone path T n o) (numbers_behind T n o) in
     let by : (o : Option ℕ) → attribute_meant T n prefix local ≡ o → absence_refusal o ≡ None → after.nodes ≡ without_attribute T o →
-    length after.nodes + sum_by numbers_asked (unsetting_undone path T n o) ≤ MAX_NODE_NUMBERS → goal o =
+    length after.nodes + numbers_behind T n o ≤ MAX_NODE_NUMBERS → goal o =
     λ o. elim o as (λ p. attribute_meant T n prefix local ≡ p → absence_refusal p ≡ None → after.nodes ≡ without_attribute T p →
-    length after.nodes + sum_by numbers_asked (unsetting_undone path T n p) ≤ MAX_NODE_NUMBERS → goal p) [
+    length after.nodes + numbers_behind T n p ≤ MAX_NODE_NUMBERS → goal p) [
       | None ↦ λ e absent was less. absurd (cc)
       | Some a ↦ λ e absent was less.
           attributes-back splits T form scoped n path named (owner T n prefix local parts.0) a (mem-In a (attrs_of T n) (found-member T n a prefix local e)) given before after refl was
           (subst (λ c. length (order T) ≤ c) (sym same-cap) room) less
     ] in
-    let few-at : length after.nodes + sum_by numbers_asked (unsetting_undone path T n (attribute_meant T n prefix local)) ≤ MAX_NODE_NUMBERS =
-    subst (λ o. length after.nodes + sum_by numbers_asked (undoing_where T (UnsetAttr path name) o) ≤ MAX_NODE_NUMBERS) named few in
-    subst (λ o. TakesBack before after (undoing_where T (UnsetAttr path name) o)) (sym named)
+    let few-at : length after.nodes + numbers_behind T n (attribute_meant T n prefix local) ≤ MAX_NODE_NUMBERS =
+    subst (λ o. length after.nodes + numbers_where T (UnsetAttr path name) o ≤ MAX_NODE_NUMBERS) named few in
+    subst (λ o. TakesBack before after (undoing_where T (UnsetAttr path name) o) (numbers_where T (UnsetAttr path name) o)) (sym named)
     (by (attribute_meant T n prefix local) refl parts.1 is few-at)

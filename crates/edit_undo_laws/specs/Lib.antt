@@ -1,2 +1,2 @@
-pub mod Entries
+pub use Rattle.edit_paths.specs.Entries
 pub mod Undoing

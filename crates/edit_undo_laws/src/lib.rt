@@ -2,18 +2,20 @@
 #![tactic(auto)]
 
 ghost use Rattle.edit_undo_laws.specs.Undoing.{
+  CommandsAreUndone,
   InsertsAreUndone,
   LoneDeletionsAreUndone,
+  MergingDeletionsAreUndone,
   SettingsAreUndone,
   TextsAreUndone,
   UndoingsAreFormed,
-  UndoingsAskFor,
   UnsettingsAreUndone,
 };
 
 use doc_undo_laws::{attributes_are_given_back, deletions_are_undone, insertions_are_undone};
 use edit_command_laws::edits_keep_trees;
-use name_scopes_laws::fragments_have_pieces;
+use edit_iso_laws::scripts_go_on;
+use name_scopes_laws::{edits_keep_scope, fragments_have_pieces};
 use sch_base::qnames_split;
 use subtree_events::subtrees_are_fragments;
 
@@ -54,17 +56,35 @@ pub fn lone_deletions_are_undone()
     subtrees_are_fragments();
 }
 
+/// The left one of two texts that met says its own again, and then the node and the right one come again.
+pub fn merging_deletions_are_undone()
+    ensures { MergingDeletionsAreUndone }
+{
+    deletions_are_undone();
+    fragments_have_pieces();
+    subtrees_are_fragments();
+    edits_keep_scope();
+    edits_keep_trees();
+    scripts_go_on();
+    qnames_split();
+}
+
+/// Each command that was done is taken back by the commands that the tree before it tells.
+pub fn commands_are_undone()
+    ensures { CommandsAreUndone }
+{
+    inserts_are_undone();
+    texts_are_undone();
+    settings_are_undone();
+    unsettings_are_undone();
+    lone_deletions_are_undone();
+    merging_deletions_are_undone();
+}
+
 /// A script can hold the commands that take a command back.
 pub fn undoings_are_formed()
     ensures { UndoingsAreFormed }
 {
     qnames_split();
-    subtrees_are_fragments();
-}
-
-/// They may ask for as many numbers as there are nodes that come again, and for one where an attribute has its value again.
-pub fn undoings_ask_for()
-    ensures { UndoingsAskFor }
-{
     subtrees_are_fragments();
 }

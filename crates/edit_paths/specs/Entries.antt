@@ -79,7 +79,7 @@ undoing_where T command (Some n) = undoing_at T command n
 abbrev pub undoing : Table → Command → List Command
 undoing T command = undoing_where T command (node_named T (path_of command))
 
--- how many new numbers they make
+-- how many new numbers they make: one for each node or attribute that comes again
 abbrev pub numbers_behind : Table → ℕ → Option ℕ → ℕ
 numbers_behind T n None = 0
 numbers_behind T n (Some a) = suc (length (behind a (attrs_of T n)))
@@ -95,14 +95,10 @@ numbers_at T (SetText path text) n = 0
 numbers_at T (SetAttr path name value) n = 0
 numbers_at T (UnsetAttr path name) n = numbers_behind T n (attribute_meant T n (prefix_part name) (local_part name))
 
--- a set may make a number, but makes none for an attribute that is there
-abbrev pub spared : Option ℕ → ℕ
-spared None = 0
-spared (Some a) = 1
+abbrev pub numbers_where : Table → Command → Option ℕ → ℕ
+numbers_where T command None = 0
+numbers_where T command (Some n) = numbers_at T command n
 
-abbrev pub spared_at : Table → Command → ℕ → ℕ
-spared_at T (Insert path at piece) n = 0
-spared_at T (Delete path) n = 0
-spared_at T (SetText path text) n = 0
-spared_at T (SetAttr path name value) n = spared (attribute_meant T n (prefix_part name) (local_part name))
-spared_at T (UnsetAttr path name) n = 0
+-- how many new numbers the commands make that take a command back
+abbrev pub undoing_numbers : Table → Command → ℕ
+undoing_numbers T command = numbers_where T command (node_named T (path_of command))
