@@ -1,1 +1,4 @@
 pub mod EventLemmas
+pub mod MeetingFound
+pub mod PlaceLemmas
+pub mod TreeLemmas

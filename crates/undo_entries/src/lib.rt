@@ -3,7 +3,12 @@
 
 mod entry;
 mod events;
+mod finding;
+mod making;
 mod names;
+mod paths;
+mod places;
 
 pub use entry::{CommandList, Entry};
 pub use events::subtree_events;
+pub use making::entry_for;
