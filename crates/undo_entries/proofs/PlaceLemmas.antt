@@ -1,5 +1,5 @@
 -- Places in lists of numbers, and counts of those that pass a test.
-use Rattle.std.proofs.Common.{◌≡◌, ◌≢◌, ℕ, ◌+◌, ◌<◌, ◌≤◌, suc, Bool, true, false, cond, List, [], ◌∷◌, length, take, drop, drop-cons, slice_index_or, ⊎_elim, refl, sym, ap, ◌∙◌, eqb, eqb-true, true≢false, arith}
+use Rattle.std.proofs.Common.{◌≡◌, ◌≢◌, ℕ, ◌+◌, ◌<◌, suc, Bool, true, false, cond, List, [], ◌∷◌, length, take, drop, drop-cons, slice_index_or, ⊎_elim, refl, sym, ap, ◌∙◌, eqb, eqb-true, true≢false, arith}
 use Rattle.std.specs.Prelude.{count_by, filter}
 use Rattle.std.proofs.lemmas.Bool.{eqb-false}
 use Rattle.std.proofs.lemmas.List.Sums.{sum_by-cons}

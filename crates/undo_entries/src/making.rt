@@ -8,7 +8,7 @@ ghost use Rattle.edit_script.specs.WellFormed.{WellFormedCommand};
 ghost use Rattle.edit_script.specs.declared.command.Command.TheVariants.{Delete, SetAttr, SetText, UnsetAttr};
 ghost use Rattle.edit_commands.specs.Commands.{top_kind};
 ghost use Rattle.edit_paths.specs.Entries.{attribute_comes, attribute_goes, comes_again, deletion_undone, numbers_met, step_under, undoing, undoing_at, undoing_numbers};
-ghost use Rattle.undo_entries.specs.inner.Parts.{behind_undone, entry_at, entry_of, meeting_of};
+ghost use Rattle.undo_entries.specs.inner.Parts.{behind_undone, entry_at, entry_of, meeting_of, said_again};
 
 use crate::entry::{CommandList, Entry};
 use crate::events::subtree_events;
@@ -347,11 +347,24 @@ fn push_parted(
     requires right { is_live tree.now.nodes texts.now.right ≡ true }
     ensures { OnOk result (commands.new ≡ commands.old ++ deletion_undone parent.now tree.now.nodes n (meeting_of (Some texts.now))) }
 {
-    let left = path_with(alloc, parent, step_to(tree, texts.left))?;
-    let says = text_again(alloc, tree, texts.left, left.as_slice())?;
-    commands.push(says)?;
+    push_said(alloc, tree, parent, texts.left, commands)?;
     push_again(alloc, tree, parent, n, commands)?;
     push_again(alloc, tree, parent, texts.right, commands)
+}
+
+/// Puts the command by which a kid says its text again at the end of a list.
+fn push_said(
+    alloc: Global,
+    tree: &Tree,
+    parent: &[PathStep],
+    n: NodeId,
+    commands: &mut CommandList,
+) -> Result<(), AllocError>
+    ensures { OnOk result (commands.new ≡ commands.old ++ said_again parent.now tree.now.nodes n ∷ []) }
+{
+    let path = path_with(alloc, parent, step_to(tree, n))?;
+    let command = text_again(alloc, tree, n, path.as_slice())?;
+    commands.push(command)
 }
 
 /// Puts the command by which a node comes again at the end of a list.

@@ -2,9 +2,11 @@
 use Rattle.std.specs.Prelude.{ℕ, ◌&&◌, List, [], ◌∷◌, ◌++◌, map, Option, None, Some, if◌then◌else◌}
 use Rattle.doc_tree.specs.Changes.{Meeting}
 use Rattle.doc_tree.specs.Kinds.{is_text}
-use Rattle.doc_tree.specs.Table.{Name, Table, kind_of}
+use Rattle.doc_tree.specs.Table.{Name, Table, kind_of, parent_of, value_of}
 use Rattle.edit_script.specs.declared.command.Command.{Command}
+use Rattle.edit_script.specs.declared.command.Command.TheVariants.{SetText}
 use Rattle.edit_script.specs.declared.command.PathStep.{PathStep}
+use Rattle.edit_paths.specs.PathTo.{step_to}
 use Rattle.edit_paths.specs.Entries.{attribute_comes, attribute_goes, numbers_at, undoing_at}
 use Rattle.undo_entries.specs.declared.entry.Entry.{Entry}
 use Rattle.undo_entries.specs.declared.places.Met.{Met}
@@ -28,6 +30,10 @@ meeting_of (Some met) = Some (record { left = met.left; right = met.right })
 abbrev pub both_texts : Table → ℕ → ℕ → Option Meeting
 both_texts T left right =
     if is_text (kind_of T left) && is_text (kind_of T right) then Some (record { left = left; right = right }) else None
+
+-- a kid says its text again
+abbrev pub said_again : List PathStep → Table → ℕ → Command
+said_again parent T n = SetText (parent ++ step_to T n (parent_of T n) (kind_of T n)) (value_of T n)
 
 -- attributes go, and one and these come again
 abbrev pub behind_undone : List PathStep → Table → ℕ → List ℕ → List Command

@@ -1,5 +1,5 @@
 -- Three kids at a time tell whether the node stands between two texts.
-use Rattle.std.proofs.Common.{◌≡◌, ◌-◌, ◌<◌, ℕ, true, false, length, ap, ap₂, sym, ◌∙◌, arith, eqb, eqb-true, nat_eq}
+use Rattle.std.proofs.Common.{◌≡◌, ◌-◌, ◌<◌, true, false, length, ap, ap₂, sym, ◌∙◌, arith, eqb, eqb-true, nat_eq}
 use Rattle.undo_entries.proofs.MeetingFound.{at, found, further, none-left, number-there}
 use Rattle.undo_entries.specs.inner.Parts.{both_texts}
 use Rattle.undo_entries.proofs.places.meeting.Goals as goal
