@@ -1,0 +1,4 @@
+pub mod MarkLemmas
+pub mod TurnLemmas
+pub mod BackLemmas
+pub mod UndoLemmas

@@ -1,0 +1,4 @@
+pub mod InTurn
+pub mod Remembered
+pub mod Coding
+pub mod inner
