@@ -28,10 +28,10 @@ use Rattle.edit_iso_laws.specs.CommandsMove.{CommandsMove, DoneInTurn, GoesOn, N
 use Rattle.edit_iso_laws.proofs.CommandLemmas.{piece-may}
 
 -- no edit but one that adds makes numbers
-said-length : (T : Table) (n : ℕ) (new : List ℕ) → length (said T n new) ≡ length T
+pub said-length : (T : Table) (n : ℕ) (new : List ℕ) → length (said T n new) ≡ length T
 said-length T n new = changed-length T n (with_text new)
 
-removed-length : (T : Table) (n : ℕ) → length (removed T n) ≡ length T
+pub removed-length : (T : Table) (n : ℕ) → length (removed T n) ≡ length T
 removed-length T n = by (parent_of T n)
   where
     by : (o : Option ℕ) → length (removed_from T n o) ≡ length T

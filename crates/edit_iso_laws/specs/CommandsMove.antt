@@ -32,14 +32,6 @@ ScriptsMove = (before other after after_other : Contents) (commands : List Comma
     is_document before.nodes ≡ true → is_document other.nodes ≡ true → SameTree before.nodes other.nodes →
     DoneInTurn before commands after → DoneInTurn other commands after_other → SameTree after.nodes after_other.nodes
 
--- how many new numbers a command may ask for
-abbrev pub numbers_asked : Command → ℕ
-numbers_asked (Insert path at piece) = sum_by event_nodes piece
-numbers_asked (Delete path) = 0
-numbers_asked (SetText path text) = 0
-numbers_asked (SetAttr path name value) = 1
-numbers_asked (UnsetAttr path name) = 0
-
 -- how many new numbers a value makes: one where no attribute has its name
 abbrev pub numbers_for_value : Option ℕ → ℕ
 numbers_for_value None = 1

@@ -40,7 +40,7 @@ use Rattle.edit_iso_laws.proofs.CommandLemmas.{piece-may}
 use Rattle.edit_paths.specs.Entries.{numbers_where, step_under, undoing_where}
 use Rattle.edit_undo_laws.specs.Undoing.{InsertsAreUndone, TakesBack}
 use Rattle.edit_paths.proofs.PathsKept.{led-on, path-kept, step-leads}
-use Rattle.edit_undo_laws.proofs.RemovalCounts.{removed-length}
+use Rattle.edit_iso_laws.proofs.GoingOnLemmas.{removed-length}
 
 same-kind : (kind : Kind) → is_kind kind (Some kind) ≡ true
 same-kind Root = refl

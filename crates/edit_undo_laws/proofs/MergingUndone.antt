@@ -45,7 +45,9 @@ use Rattle.edit_script.specs.declared.command.PathStep.{PathStep}
 use Rattle.edit_commands.specs.Commands.{IsEdited, command_refusal, refusal_where}
 use Rattle.edit_commands.specs.Paths.{kids_of_kind, led_from, node_named}
 use Rattle.edit_command_laws.specs.TreesKept.{EditsKeepTrees}
-use Rattle.edit_iso_laws.specs.CommandsMove.{DoneInTurn, GoesOn, ScriptsGoOn, none, then}
+use Rattle.edit_iso_laws.specs.CommandsMove.{DoneInTurn, GoesOn, ScriptsGoOn, then}
+use Rattle.edit_iso_laws.proofs.GoingOnLemmas.{said-length}
+use Rattle.edit_iso_laws.proofs.InTurnLemmas.{cap-in-turn, done-on, kept-in-turn}
 use Rattle.edit_paths.specs.PathTo.{step_to}
 use Rattle.edit_paths.specs.Entries.{comes_again, deletion_undone, numbers_met, numbers_where, path_above, place_of, undoing, undoing_numbers, undoing_where}
 use Rattle.edit_undo_laws.specs.Undoing.{MergingDeletionsAreUndone, TakesBack}
@@ -55,24 +57,7 @@ use Rattle.edit_undo_laws.proofs.LosingAttributes.{with_nodes}
 use Rattle.edit_paths.proofs.PathsKept.{led-on, place-counts, step-leads}
 use Rattle.edit_undo_laws.proofs.RemovalCounts.{nodes-left}
 use Rattle.edit_undo_laws.proofs.SubtreeStays.{below-stays, events-stay}
-use Rattle.edit_undo_laws.proofs.TextUndone.{free-after, path-same, said-length, text-of}
-
--- commands in turn: a document stays one, and its pair cap stays
-kept-in-turn : EditsKeepTrees → (before after : Contents) (commands : List Command) → WellFormed before.nodes → is_document before.nodes ≡ true → DoneInTurn before commands after →
-    WellFormed after.nodes × (is_document after.nodes ≡ true)
-kept-in-turn keeps _ _ _ form document (none before) = (form, document)
-kept-in-turn keeps _ _ _ form document (then before next after command commands free edited kept rest) =
-    let here = keeps before command next.nodes form document free edited in kept-in-turn keeps next after commands here.0 here.1 rest
-
-cap-in-turn : (before after : Contents) (commands : List Command) → DoneInTurn before commands after → after.pair_cap ≡ before.pair_cap
-cap-in-turn _ _ _ (none before) = refl
-cap-in-turn _ _ _ (then before next after command commands free edited kept rest) = cap-in-turn next after commands rest ∙ kept
-
--- some, and others after them
-done-on : (before middle after : Contents) (commands more : List Command) → DoneInTurn before commands middle → DoneInTurn middle more after → DoneInTurn before (commands ++ more) after
-done-on _ _ after _ more (none before) rest = rest
-done-on _ _ after _ more (then before next middle command commands free edited kept done) rest =
-    then before next after command (commands ++ more) free edited kept (done-on next middle after commands more done rest)
+use Rattle.edit_undo_laws.proofs.TextUndone.{free-after, path-same, text-of}
 
 place-behind : (n : ℕ) (front back : List ℕ) → ((k : ℕ) → In k front → k ≢ n) → place_in n (front ++ n ∷ back) ≡ length front
 place-behind n [] back others = place-head n n back refl

@@ -10,17 +10,9 @@ use Rattle.doc_table.specs.Lists.{occurs}
 use Rattle.doc_table.specs.Table.{Facts, Table, content_at, entry_at, is_live, parent_of, value_at, value_of}
 use Rattle.doc_table.specs.Walks.{below, order}
 use Rattle.doc_edits.specs.Changes.{changed_at, cleared, removed, removed_from, without_link}
-use Rattle.doc_edits.proofs.ClearLemmas.{cleared-kept, cut-length, sum-taken}
+use Rattle.doc_edits.proofs.ClearLemmas.{cleared-kept, sum-taken}
 use Rattle.doc_edits.proofs.RemovalLemmas.{cutting}
 use Rattle.doc_edits.proofs.TableLemmas.{changed-other}
-
--- tables keep their lengths where nodes go
-pub removed-length : (T : Table) (n : ℕ) → length (removed T n) ≡ length T
-removed-length T n = by (parent_of T n)
-  where
-    by : (o : Option ℕ) → length (removed_from T n o) ≡ length T
-    by None = refl
-    by (Some p) = cut-length T n p (below T n)
 
 -- what a node weighs
 abbrev weight : (Facts → ℕ) → Option Facts → ℕ

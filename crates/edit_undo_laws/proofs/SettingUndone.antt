@@ -40,9 +40,9 @@ use Rattle.edit_paths.specs.Entries.{numbers_where, setting_undone, undoing_wher
 use Rattle.edit_undo_laws.specs.Undoing.{SettingsAreUndone, TakesBack}
 use Rattle.edit_undo_laws.proofs.AttributesFound.{meant-is, meant-kept, refusal-kept}
 use Rattle.edit_paths.proofs.PathsKept.{path-kept}
-use Rattle.edit_undo_laws.proofs.RemovalCounts.{removed-length}
+use Rattle.edit_iso_laws.proofs.GoingOnLemmas.{removed-length, said-length}
 use Rattle.edit_undo_laws.proofs.ScopesKept.{scope-kept}
-use Rattle.edit_undo_laws.proofs.TextUndone.{path-same, room-back, said-length}
+use Rattle.edit_undo_laws.proofs.TextUndone.{path-same, room-back}
 
 -- what a table with another text keeps
 module _ (T : Table) (a : ℕ) (value : List ℕ) where

@@ -7,11 +7,10 @@ use Rattle.doc_table.proofs.Counts.{text-count}
 use Rattle.doc_table.proofs.Forests.{formed-of}
 use Rattle.doc_table.proofs.SameTreeLemmas.{same-lines-same-tree}
 use Rattle.doc_table.specs.inner.Sound.{Formed}
-use Rattle.doc_edits.specs.Changes.{said, saying, with_text}
+use Rattle.doc_edits.specs.Changes.{said, saying}
 use Rattle.doc_edits.specs.Fitting.{MaySay}
 use Rattle.doc_edits.proofs.RecontentLemmas.{same-kind, same-links}
 use Rattle.doc_edits.proofs.SayingLemmas.{held-said, saying-kind, sayings-keep-trees, value-said}
-use Rattle.doc_edits.proofs.TableLemmas.{changed-length}
 use Rattle.doc_edit_laws.proofs.InsertionOrderLemmas.{filter-same}
 use Rattle.doc_tree.specs.kind.Kind.{Kind}
 use Rattle.doc_tree.specs.kind.Kind.TheVariants.{Root, Element, Attribute, Text, Comment, Pi}
@@ -31,11 +30,9 @@ use Rattle.edit_commands.specs.Commands.{IsEdited, command_refusal, refusal_wher
 use Rattle.edit_commands.specs.Paths.{kids_of_kind, led_from, node_named}
 use Rattle.edit_commands.proofs.TextLemmas.{may-say}
 use Rattle.edit_iso_laws.specs.CommandsMove.{none, then}
+use Rattle.edit_iso_laws.proofs.GoingOnLemmas.{said-length}
 use Rattle.edit_paths.specs.Entries.{numbers_where, undoing_where}
 use Rattle.edit_undo_laws.specs.Undoing.{TakesBack, TextsAreUndone}
-
-pub said-length : (T : Table) (n : ℕ) (new : List ℕ) → length (said T n new) ≡ length T
-said-length T n new = changed-length T n (with_text new)
 
 -- a path leads where it led, where kids and kinds stay
 module _ (T U : Table) (kids : (m : ℕ) → kids_of U m ≡ kids_of T m) (kinds : (m : ℕ) → kind_of U m ≡ kind_of T m) where

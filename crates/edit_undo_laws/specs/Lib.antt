@@ -1,2 +1,1 @@
-pub use Rattle.edit_paths.specs.Entries
 pub mod Undoing

@@ -11,6 +11,7 @@ use Rattle.edit_commands.specs.Commands.{IsEdited, command_refusal}
 use Rattle.edit_command_laws.specs.OneEdit.{OneEdit}
 use Rattle.edit_command_laws.specs.TreesKept.{EditsKeepTrees}
 use Rattle.edit_iso_laws.specs.CommandsMove.{DoneInTurn, GoesOn, ScriptsGoOn, none, then}
+use Rattle.edit_iso_laws.proofs.InTurnLemmas.{cap-in-turn, kept-in-turn}
 use Rattle.undo_entries.specs.declared.entry.Entry.{Entry}
 use Rattle.history_laws.specs.Histories.{HistoriesStand, IsLater, LeadsBack, Returns, StandsFor}
 
@@ -30,18 +31,6 @@ done-as one _ other _ _ nodes cap (then before next after command commands free 
       then other next2 on.0 command commands (refusal-as before other command nodes cap ∙ free) (subst (λ T. IsEdited T command next.nodes) (sym nodes) edited) refl on.1,
       on.2,
     )
-
--- a document stays one
-pub kept-in-turn : EditsKeepTrees → (before after : Contents) (commands : List Command) → WellFormed before.nodes → is_document before.nodes ≡ true → DoneInTurn before commands after →
-    WellFormed after.nodes × (is_document after.nodes ≡ true)
-kept-in-turn keeps _ _ _ form document (none before) = (form, document)
-kept-in-turn keeps _ _ _ form document (then before next after command commands free edited kept rest) =
-    let here = keeps before command next.nodes form document free edited in kept-in-turn keeps next after commands here.0 here.1 rest
-
--- so does the pair cap
-pub cap-in-turn : (before after : Contents) (commands : List Command) → DoneInTurn before commands after → after.pair_cap ≡ before.pair_cap
-cap-in-turn _ _ _ (none before) = refl
-cap-in-turn _ _ _ (then before next after command commands free edited kept rest) = cap-in-turn next after commands rest ∙ kept
 
 -- the first of some commands that were done, and the others
 abbrev Begun : Contents → List Command → Contents → Type 0
