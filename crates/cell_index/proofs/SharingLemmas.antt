@@ -1,7 +1,8 @@
 -- Units that share sets of cells: what becomes of the cells of units.
-use Rattle.std.proofs.Common.{◌≡◌, ◌≢◌, ◌∙◌, ℕ, zero, suc, ◌<◌, ◌==◌, Bool, true, false, ◌||◌, ◌&&◌, List, [], ◌∷◌, ◌⊎◌, set, nat_lt, Option, Some, None, Result, Ok, Err, IfNone, IfOk, OnErr, OnOk, refl, sym, ap, inl, inr, arith}
+use Rattle.std.proofs.Common.{◌≡◌, ◌≢◌, ◌∙◌, ℕ, zero, suc, ◌<◌, ◌==◌, Bool, true, false, ◌||◌, ◌&&◌, List, [], ◌∷◌, ◌⊎◌, set, length, nat_lt, Option, Some, None, Result, Ok, Err, IfNone, IfOk, OnErr, OnOk, refl, sym, ap, inl, inr, subst, arith}
 use Rattle.std.proofs.Math.ListN.{get_or-map}
 use Rattle.std.proofs.lemmas.Bool.{cases_eq, eq-eqb, lt-ltb, eqb-true, false_from_ne_true, false≢true}
+use Rattle.std.specs.Bool.{OnFalse, OnTrue}
 use Rattle.std.specs.List.{Contains, list_any}
 use Rattle.std.specs.List.Sorted.{IsStrictlyIncreasing}
 use Rattle.std.specs.Prelude.{if◌then◌else◌}
@@ -9,7 +10,10 @@ use Rattle.doc_tree.specs.cell.Cell.{Cell}
 use Rattle.cell_index.specs.Cells.{is_among}
 use Rattle.cell_index.specs.Index.{Adds, AreThoseWith, Stays, cells_of, has}
 use Rattle.cell_index.specs.inner.Gathering.{Finds}
-use Rattle.cell_index.specs.inner.Sharing.{Joins, KeepsCells, cells_of_set, held_of, is_member, set_has, set_of}
+use Rattle.cell_index.specs.declared.chains.Chains.{Chains}
+use Rattle.cell_index.specs.inner.CellNumbers.{cell_number}
+use Rattle.cell_index.specs.inner.Chains.{InChain}
+use Rattle.cell_index.specs.inner.Sharing.{AreReaders, Joins, KeepsCells, cells_of_set, held_of, is_member, set_has, set_of}
 use Rattle.cell_index.proofs.GatheringLemmas.{any_here, here_any, nothing_contained}
 
 apart : (a b : ℕ) → a ≢ b → (a == b) ≡ false
@@ -127,6 +131,30 @@ module _ (sets : List (List Cell)) (of_unit : List ℕ) (cells : List Cell) wher
       each = λ u there. is_unit u (units_found.each u (unit_each u there));
       all = λ u it. unit_all u (units_found.all u (has_set u (sym (any_view u cells) ∙ it)));
     }
+
+-- A set without a hint from a cell doesn't have it, and no unit has what no set has
+
+pub none_chained : (may : Bool) (sets : List (List Cell)) (readers : Chains) (c : Cell) (number : ℕ) → number ≡ cell_number c → AreReaders sets readers →
+    OnFalse may ((set : ℕ) → InChain readers number set → ⊥) → OnFalse may ((set : ℕ) → set_has sets set c ≡ false)
+none_chained true sets readers c number is are none = tt
+none_chained false sets readers c number is are none = λ set.
+    false_from_ne_true (set_has sets set c) (λ there. none set (subst (λ (key : ℕ). InChain readers key set) (sym is) (are set c there)))
+
+pub none_have : (may : Bool) (sets : List (List Cell)) (of_unit : List ℕ) (c : Cell) → OnFalse may ((set : ℕ) → set_has sets set c ≡ false) →
+    OnFalse may ((u : ℕ) → has (held_of sets of_unit) u c ≡ false)
+none_have true sets of_unit c none = tt
+none_have false sets of_unit c none = λ u. has_view sets of_unit u c ∙ none (set_of of_unit u)
+
+nothing_in : (sets : List (List Cell)) (set : ℕ) → length sets ≡ 0 → cells_of_set sets set ≡ []
+nothing_in sets zero none = refl
+nothing_in [] (suc place) none = refl
+nothing_in (own ∷ sets) (suc place) none = absurd (omega (arith, none))
+
+pub none_in : (unused : Bool) (sets : List (List Cell)) (of_unit : List ℕ) → unused ≡ (length sets == 0) →
+    OnTrue unused ((u : ℕ) (c : Cell) → has (held_of sets of_unit) u c ≡ false)
+none_in false sets of_unit is = tt
+none_in true sets of_unit is = λ u c.
+    has_view sets of_unit u c ∙ ap (λ (own : List Cell). is_among own c) (nothing_in sets (set_of of_unit u) (eqb-true (length sets) 0 (sym is)))
 
 -- What becomes of units after they stayed as they were
 

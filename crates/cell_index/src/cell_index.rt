@@ -1,6 +1,7 @@
 //! The index from cells to units.
 
 ghost use Rattle.std.specs.Prelude.{◌≡◌, ℕ, ◌<◌, true, false, IfNone, IfOk, IfSome, OnErr, OnOk, length};
+ghost use Rattle.std.specs.Bool.{OnFalse, OnTrue};
 ghost use Rattle.doc_tree.specs.cell.Cell.{Cell};
 ghost use Rattle.cell_index.specs.Index.{Adds, AreThoseWith, Removes, Stays, has};
 
@@ -98,6 +99,20 @@ impl CellIndex {
     {
         let unit = take_unit(&mut self.sets, &mut self.units, cell)?;
         Some(u64::from(unit))
+    }
+
+    /// Whether a unit may have the cell; where not, none has it. Looks at one number.
+    pub fn may_have(&self, cell: &Cell) -> bool
+        ensures { OnFalse result ((unit : ℕ) → has self.now unit cell.now ≡ false) }
+    {
+        self.sets.may_have(cell)
+    }
+
+    /// Whether no cell was given to a unit since the index was made; then no unit has one.
+    pub fn is_unused(&self) -> bool
+        ensures { OnTrue result ((unit : ℕ) (c : Cell) → has self.now unit c ≡ false) }
+    {
+        self.sets.len() == 0
     }
 
     /// Makes the hints anew where they are many more than they need be.

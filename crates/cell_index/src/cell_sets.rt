@@ -1,7 +1,7 @@
 //! Sets of cells, by their numbers.
 
 ghost use Rattle.std.specs.Prelude.{◌≡◌, ℕ, ◌+◌, ◌<◌, ◌≤◌, [], true, false, length, IfNone, IfOk, IfSome, OnErr, OnOk};
-ghost use Rattle.std.specs.Bool.{OnTrue};
+ghost use Rattle.std.specs.Bool.{OnFalse, OnTrue};
 ghost use Rattle.std.specs.List.{list_any};
 ghost use Rattle.doc_tree.specs.cell.Cell.{Cell};
 ghost use Rattle.cell_index.specs.inner.Chains.{Keeps};
@@ -131,6 +131,13 @@ impl CellSets {
         ensures same { self.new ≡ self.old }
     {
         next_with(self.sets.as_slice(), &mut self.readers, cell)
+    }
+
+    /// Whether a cell has a hint to a set.
+    pub(crate) fn may_have(&self, cell: &Cell) -> bool
+        ensures { OnFalse result ((set : ℕ) → set_has self.now set cell.now ≡ false) }
+    {
+        self.readers.has_any(cell_number(*cell))
     }
 
     /// The sets that have one of some cells, in any order, some perhaps more than once.

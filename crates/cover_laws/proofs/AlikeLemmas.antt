@@ -1,9 +1,6 @@
 -- Sets of cells that are alike: they are touched alike, stay alike, and compose.
-use Rattle.std.proofs.Common.{◌≡◌, ℕ, Bool, true, false, ◌&&◌, ◌||◌, ◌⊎◌, List, [], ◌∷◌, refl, sym, ap, ap₂, ◌∙◌, subst, inl, inr, ⊎_elim}
-use Rattle.std.specs.FinSet.{contains, contains-items, contains-retain, items, retain}
-use Rattle.std.specs.List.{list_any}
-use Rattle.std.specs.Ordering.{eq_by_cmp, is_eq}
-use Rattle.std.specs.Cmp.{Equal-is, tied_itself}
+use Rattle.std.proofs.Common.{◌≡◌, ℕ, Bool, true, false, ◌&&◌, ◌⊎◌, List, ◌∷◌, refl, sym, ap, ap₂, ◌∙◌, subst, inl, inr, ⊎_elim}
+use Rattle.std.specs.FinSet.{contains, retain}
 use Rattle.std.proofs.lemmas.Bool.{and_from, and_parts, false≢true, or_cases, or_left, or_right}
 use Rattle.doc_table.proofs.Forests.{formed-of}
 use Rattle.doc_tree.specs.cell.Cell.{Cell}
@@ -16,55 +13,27 @@ use Rattle.doc_tree.specs.Walks.{ancestors}
 use Rattle.doc_edit_laws.specs.Along.{Edits, EditsLeave, Left, none, then}
 use Rattle.doc_edit_laws.specs.Agreement.{Stays}
 use Rattle.doc_edit_laws.proofs.TextLemmas.{ways-alike}
-use Rattle.xp_outcome.specs.Recorded.{CellSet, cell_cmp, node_of}
+use Rattle.xp_outcome.specs.Recorded.{CellSet, node_of}
 use Rattle.xp_outcome.proofs.Sets.{cell_cmp_antisymmetric, cell_cmp_total}
 use Rattle.cover_laws.specs.Covering.{Alike, AreOfLive, CoveringIsTouched, covers, has_touched}
 use Rattle.cover_laws.proofs.CoverLemmas.{covers-covered, touched-live}
-
--- two tests of which each holds where the other does are one
-same-test : (a b : Bool) → (a ≡ true → b ≡ true) → (b ≡ true → a ≡ true) → a ≡ b
-same-test true b there back = sym (there refl)
-same-test false true there back = back refl
-same-test false false there back = refl
+use Rattle.cover_laws.proofs.SetLemmas.{found_in, held_in, in_left, same_test}
 
 module _ (touched : Cell → Bool) where
-  -- a cell of a list that was touched
-  found : (xs : List Cell) → list_any touched xs ≡ true → (c : Cell) × (list_any (eq_by_cmp cell_cmp c) xs ≡ true) × (touched c ≡ true)
-  found [] h = absurd (false≢true h)
-  found (x ∷ xs) h = by (touched x) refl h (found xs)
-    where
-      by : (b : Bool) → touched x ≡ b → (b || list_any touched xs) ≡ true
-          → (list_any touched xs ≡ true → (c : Cell) × (list_any (eq_by_cmp cell_cmp c) xs ≡ true) × (touched c ≡ true))
-          → (c : Cell) × (list_any (eq_by_cmp cell_cmp c) (x ∷ xs) ≡ true) × (touched c ≡ true)
-      by true e h more = (x, or_left (eq_by_cmp cell_cmp x x) (list_any (eq_by_cmp cell_cmp x) xs) (ap is_eq (tied_itself cell_cmp_total x)), e)
-      by false e h more = let rest = more h in (rest.0, or_right (eq_by_cmp cell_cmp rest.0 x) (list_any (eq_by_cmp cell_cmp rest.0) xs) rest.1, rest.2)
-
-  listed : (c : Cell) → touched c ≡ true → (xs : List Cell) → list_any (eq_by_cmp cell_cmp c) xs ≡ true → list_any touched xs ≡ true
-  listed c hit [] h = absurd (false≢true h)
-  listed c hit (x ∷ xs) h = by (eq_by_cmp cell_cmp c x) refl h (listed c hit xs)
-    where
-      by : (b : Bool) → eq_by_cmp cell_cmp c x ≡ b → (b || list_any (eq_by_cmp cell_cmp c) xs) ≡ true
-          → (list_any (eq_by_cmp cell_cmp c) xs ≡ true → list_any touched xs ≡ true) → list_any touched (x ∷ xs) ≡ true
-      by true e h more = or_left (touched x) (list_any touched xs) (ap touched (sym (cell_cmp_antisymmetric c x ((Equal-is (cell_cmp c x)).0 e))) ∙ hit)
-      by false e h more = or_right (touched x) (list_any touched xs) (more h)
-
-  -- a set has a touched cell where it holds one
-  found-in : (cells : CellSet) → has_touched touched cells ≡ true → (c : Cell) × (contains cells c ≡ true) × (touched c ≡ true)
-  found-in cells h = let one = found (items cells) h in (one.0, contains-items cells one.0 ∙ one.1, one.2)
-
-  held-in : (cells : CellSet) (c : Cell) → contains cells c ≡ true → touched c ≡ true → has_touched touched cells ≡ true
-  held-in cells c there hit = listed c hit (items cells) (sym (contains-items cells c) ∙ there)
-
-  pub touched-alike : (T : Table) (held reads : CellSet) → ((d c : Cell) → contains reads c ≡ true → covers T d c ≡ true → touched c ≡ true → touched d ≡ true) →
-      Alike T held reads →
+  pub touched-alike : (T : Table) (held reads : CellSet) →
+      ((d c : Cell) → contains reads c ≡ true → covers T d c ≡ true → touched c ≡ true → touched d ≡ true) → Alike T held reads →
       has_touched touched held ≡ has_touched touched reads
   touched-alike T held reads upward alike =
-      same-test (has_touched touched held) (has_touched touched reads)
-      (λ h. let one = found-in held h in held-in reads one.0 (alike.part one.0 one.1) one.2)
-      (λ h. let one = found-in reads h in
-      let over = alike.covered one.0 one.1 in
-      held-in held over.0 over.1
-      (⊎_elim (λ (e : over.0 ≡ one.0). ap touched e ∙ one.2) (λ (g : covers T over.0 one.0 ≡ true). upward over.0 one.0 one.1 g one.2) over.2))
+      same_test (has_touched touched held) (has_touched touched reads)
+      (λ h.
+      let one = found_in cell_cmp_total cell_cmp_antisymmetric touched held h in
+      held_in cell_cmp_total cell_cmp_antisymmetric touched reads one.item (alike.part one.item one.there) one.passes)
+      (λ h.
+      let one = found_in cell_cmp_total cell_cmp_antisymmetric touched reads h in
+      let over = alike.covered one.item one.there in
+      held_in cell_cmp_total cell_cmp_antisymmetric touched held over.0 over.1
+      (⊎_elim (λ (e : over.0 ≡ one.item). ap touched e ∙ one.passes)
+      (λ (g : covers T over.0 one.item ≡ true). upward over.0 one.item one.there g one.passes) over.2))
 
 -- a cell covers those that it covered, where the other's node keeps its kind and its way up
 covers-alike : (T U : Table) (d c : Cell) → ancestors T (node_of c) ≡ ancestors U (node_of c) → kind_of T (node_of c) ≡ kind_of U (node_of c) →
@@ -139,7 +108,7 @@ module _ (T : Table) (form : WellFormed T) (ways : HasWaysUp T) where
   }
     where
       is-left : (c : Cell) → contains (retain held stays) c ≡ (contains held c && stays c)
-      is-left c = contains-retain held stays c (λ x tied. ap stays (sym (cell_cmp_antisymmetric c x tied)))
+      is-left c = in_left cell_cmp_total cell_cmp_antisymmetric stays held c
 
       by : (c : Cell) → contains held c ≡ true → (b : Bool) → stays c ≡ b
           → (d : Cell) × (contains (retain held stays) d ≡ true) × ((d ≡ c) ⊎ (covers T d c ≡ true))

@@ -15,8 +15,9 @@ use Rattle.doc_tree.specs.Lists.{mem}
 use Rattle.doc_tree.specs.Table.{Table, is_live, kids_of, kind_of, parent_of}
 use Rattle.doc_tree.specs.Walks.{above, ancestors}
 use Rattle.doc_edits.specs.Changes.{Meeting, meeting}
-use Rattle.doc_edit_laws.specs.Along.{Edit, deletes, gains, inserts, loses, says}
-use Rattle.doc_edit_laws.specs.Touching.{touched_attributes, touched_kids, touched_meeting, touched_saying}
+use Rattle.doc_edits.proofs.RenamingLemmas.{named-live}
+use Rattle.doc_edit_laws.specs.Along.{Edit, deletes, gains, inserts, loses, renames, says}
+use Rattle.doc_edit_laws.specs.Touching.{touched_attributes, touched_kids, touched_meeting, touched_name, touched_saying}
 use Rattle.xp_outcome.specs.Recorded.{node_of}
 use Rattle.cover_laws.specs.Covering.{covers}
 use Rattle.cover_laws.proofs.WayLemmas.{above-above, above-ancestors}
@@ -58,7 +59,7 @@ left-among T n (l ∷ m ∷ r ∷ ms) texts h = by (eqb m n) (is_text (kind_of T
     by false meet h more = or_right (eqb texts.left l) (mem texts.left (m ∷ r ∷ ms)) (more h)
 
 module _ (T : Table) (form : WellFormed T) (ways : HasWaysUp T) where
-  up-live : (n : ℕ) → is_live T n ≡ true → (m : ℕ) → mem m (above T n) ≡ true → is_live T m ≡ true
+  pub up-live : (n : ℕ) → is_live T n ≡ true → (m : ℕ) → mem m (above T n) ≡ true → is_live T m ≡ true
   up-live n live m h = let t : Formed T = formed-of T form in above-live T t.forest t.whole n m live (mem-In m (above T n) h)
 
   up-saying : (n : ℕ) → Upward T (touched_saying T n)
@@ -71,6 +72,14 @@ module _ (T : Table) (form : WellFormed T) (ways : HasWaysUp T) where
     values = λ a m is h t.
         subst (λ (k : ℕ). (is_text (kind_of T k) && mem a (ancestors T k)) ≡ true) (eqb-true m n t)
         (and_from (is_text (kind_of T m)) (mem a (ancestors T m)) is h);
+  }
+
+  up-name : (n : ℕ) → Upward T (touched_name n)
+  up-name n = record {
+    kids = λ a m h t. absurd (false≢true t);
+    shapes = λ a m h t. absurd (false≢true t);
+    texts = λ a m h t. absurd (false≢true t);
+    values = λ a m is h t. absurd (false≢true t);
   }
 
   up-attributes : (n : ℕ) → Upward T (touched_attributes n)
@@ -108,6 +117,7 @@ module _ (T : Table) (form : WellFormed T) (ways : HasWaysUp T) where
 
   upward : (U : Table) (touched : Cell → Bool) → Edit T U touched → Upward T touched
   upward _ _ (says n new may) = up-saying n
+  upward _ _ (renames n name may) = up-name n
   upward _ _ (gains n name value may) = up-attributes n
   upward _ _ (loses a n is up) = up-attributes n
   upward _ _ (deletes n p kid up) =
@@ -143,6 +153,14 @@ module _ (T : Table) (form : WellFormed T) (ways : HasWaysUp T) where
   saying-live n live (Attrs m) t = absurd (false≢true t)
   saying-live n live (Name m) t = absurd (false≢true t)
 
+  name-live : (n : ℕ) → is_live T n ≡ true → (c : Cell) → touched_name n c ≡ true → is_live T (node_of c) ≡ true
+  name-live n live (Name m) t = ap (is_live T) (eqb-true m n t) ∙ live
+  name-live n live (Kids m) t = absurd (false≢true t)
+  name-live n live (Shape m) t = absurd (false≢true t)
+  name-live n live (Attrs m) t = absurd (false≢true t)
+  name-live n live (Value m) t = absurd (false≢true t)
+  name-live n live (Text m) t = absurd (false≢true t)
+
   meeting-live : (o : Option Meeting) → ((texts : Meeting) → o ≡ Some texts → is_live T texts.left ≡ true) → (c : Cell) → touched_meeting o c ≡ true → is_live T (node_of c) ≡ true
   meeting-live None live c t = absurd (false≢true t)
   meeting-live (Some texts) live (Value m) t = ap (is_live T) (eqb-true m texts.left t) ∙ live texts refl
@@ -154,6 +172,7 @@ module _ (T : Table) (form : WellFormed T) (ways : HasWaysUp T) where
 
   pub touched-live : (U : Table) (touched : Cell → Bool) → Edit T U touched → (c : Cell) → touched c ≡ true → is_live T (node_of c) ≡ true
   touched-live _ _ (says n new may) c t = saying-live n may.lives c t
+  touched-live _ _ (renames n name may) c t = name-live n (named-live T n may.named) c t
   touched-live _ _ (gains n name value may) c t = attributes-live n (holder-live T n (ap holds_kids may.under)) c t
   touched-live _ _ (loses a n is up) c t = attributes-live n (ways.parent_live a n up) c t
   touched-live _ _ (deletes n p kid up) c t =

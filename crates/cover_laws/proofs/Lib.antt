@@ -1,3 +1,7 @@
+pub mod SetLemmas
 mod WayLemmas
 mod CoverLemmas
 mod AlikeLemmas
+mod NameLemmas
+mod UpwardLemmas
+mod HeldLemmas

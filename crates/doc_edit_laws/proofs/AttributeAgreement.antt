@@ -116,9 +116,10 @@ module _ (T : Table) (n : ℕ) (name : Name) (value : List ℕ) (t : Formed T) (
   gain-leaves : Agree T more (touched_attributes n)
   gain-leaves = record {
     kind = λ m stays. ap kind_at (content-grown m stays);
-    name = λ m stays. ap name_at (content-grown m stays);
+    target = λ m stays other. ap name_at (content-grown m stays);
     parent = parent-grown;
     in_order = in_order_grown;
+    name = λ m stays named out. ap name_at (content-grown m stays);
     kids = λ m stays out. sym (kids-grown m);
     shape = λ m stays out. shape-alike T more t u parent-grown (λ k lives. ap kind_at (content-grown k lives)) in_order_grown m (goes m) (comes m);
     attributes = λ m stays out. sym (links-kept T n (attribute name value) live m (old m stays) (other-than m n out)).attributes;
@@ -232,9 +233,10 @@ module _ (T : Table) (a n : ℕ) (t : Formed T) (is : kind_of T a ≡ Some Attri
   loss-leaves : Agree T less (touched_attributes n)
   loss-leaves = record {
     kind = λ m stays. ap kind_at (content-left m stays);
-    name = λ m stays. ap name_at (content-left m stays);
+    target = λ m stays other. ap name_at (content-left m stays);
     parent = parent-left;
     in_order = in_order_left;
+    name = λ m stays named out. ap name_at (content-left m stays);
     kids = λ m stays out. sym (kids-left m);
     shape = λ m stays out. shape-alike T less t formed-less parent-left (λ k lives. ap kind_at (content-left k lives)) in_order_left m (none-goes m) (λ k lives h. live-before k lives);
     attributes = λ m stays out. attributes-other m stays (other-than m n out);

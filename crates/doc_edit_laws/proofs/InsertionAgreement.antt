@@ -48,10 +48,11 @@ module _ (T : Table) (p before : ℕ) (P : Table) (t : Formed T) (f : Formed P) 
   pub insertions-leave : Formed U → Agree T U (touched_kids T p)
   insertions-leave u = record {
     kind = λ n stays. ap kind_at (sym (content n (lived n stays)));
-    name = λ n stays. ap name_at (sym (content n (lived n stays)));
+    target = λ n stays other. ap name_at (sym (content n (lived n stays)));
     parent = λ n stays. sym (parent-kept T P p before live n (other n (lived n stays)));
     in_order = filter-kept T p before P t f m (lives_in_both T U) (lives_in_both T U) (λ n alive. refl)
         (λ k h. ap (λ b. b && is_live U (given_number T P k)) (new-dead k h));
+    name = λ n stays named out. ap name_at (sym (content n (lived n stays)));
     kids = λ n stays out. sym (links-kept T P p before live n (other n (lived n stays)) (λ e. true≢false (sym (eq-eqb n p e) ∙ out))).kids;
     shape = λ n stays out. filter-kept T p before P t f m (is_descendant T n) (is_descendant U n)
         (λ k alive. ap₂ (λ l kind. mem n l && not (is_attribute_kind kind)) (sym (way-old T P p before live t.forest t.whole k alive)) (ap kind_at (sym (content k alive))))

@@ -2,7 +2,9 @@ pub mod OrderLemmas
 pub mod Composing
 pub mod TextLemmas
 pub mod LinkLemmas
+pub mod RecontentAgreement
 pub mod SayingAgreement
+pub mod RenamingAgreement
 pub mod AttributeAgreement
 pub mod InsertionOrderLemmas
 pub mod InsertionCellLemmas

@@ -279,9 +279,10 @@ module _ (T : Table) (formed : Formed T) where
       pub lost-agree : Agree T U touched
       lost-agree = record {
         kind = λ m s. sym (same m s).kind;
-        name = λ m s. sym (same m s).name;
+        target = λ m s other. sym (same m s).name;
         parent = λ m s. sym (same m s).parent;
         in_order = order-left;
+        name = λ m s named out. sym (same m s).name;
         kids = λ m s out. sym (kids-same m (stay m s) (not-owner m out));
         shape = λ m s out.
             let off : occurs m (above T p) ≡ 0 = off-way (touched (Shape m)) m (covers.shapes m) out in

@@ -1,23 +1,20 @@
 -- A node says another text: all links stay, and of texts those of the nodes above it alone differ.
 use Rattle.std.proofs.Common.{◌≡◌, ◌≢◌, ℕ, Bool, true, false, ◌&&◌, List, [], ◌⊎◌, Option, None, Some, refl, sym, ap, ◌∙◌, subst, inl, inr, ⊎_elim, true≢false, arith, eq-eqb}
-use Rattle.std.specs.Prelude.{filter}
 use Rattle.doc_table.specs.inner.Sound.{Formed}
-use Rattle.doc_table.proofs.Paths.{SameLinks}
 use Rattle.doc_tree.specs.Kinds.{is_text}
 use Rattle.doc_tree.specs.Lists.{mem}
-use Rattle.doc_tree.specs.Table.{Table, Content, root, element, attribute, text, comment, instruction, content_at, kind_at, value_at, content_of, is_live, kind_of, name_of}
-use Rattle.doc_tree.specs.Walks.{ancestors, characters_in, order}
+use Rattle.doc_tree.specs.Table.{Table, Content, root, element, attribute, text, comment, instruction, kind_at, value_at, content_of, kind_of, name_of}
+use Rattle.doc_tree.specs.Walks.{ancestors, characters_in}
 use Rattle.doc_tree.proofs.ListLemmas.{eq_or}
 use Rattle.doc_axes.specs.Axes.{is_descendant}
-use Rattle.doc_edit_laws.specs.Agreement.{Agree, lives_in_both}
+use Rattle.doc_edit_laws.specs.Agreement.{Agree}
 use Rattle.doc_edit_laws.proofs.Composing.{both}
-use Rattle.doc_edits.specs.Changes.{said, saying, with_text}
-use Rattle.doc_edits.proofs.RecontentLemmas.{same-kind, same-links, same-live, same-name}
+use Rattle.doc_edits.specs.Changes.{said, saying}
+use Rattle.doc_edits.proofs.RecontentLemmas.{same-name}
 use Rattle.doc_edits.proofs.SayingLemmas.{saying-kind, saying-name}
-use Rattle.doc_edits.proofs.TableLemmas.{changed-length, changed-other}
 use Rattle.doc_edit_laws.specs.Touching.{touched_saying}
-use Rattle.doc_edit_laws.proofs.LinkLemmas.{order-alike}
-use Rattle.doc_edit_laws.proofs.TextLemmas.{says, shape-alike, text-alike}
+use Rattle.doc_edit_laws.proofs.RecontentAgreement as kept
+use Rattle.doc_edit_laws.proofs.TextLemmas.{says}
 
 -- what is no text has no characters
 other-silent : (o : Option Content) → is_text (kind_at o) ≡ false → characters_in o ≡ []
@@ -33,25 +30,14 @@ module _ (T : Table) (n : ℕ) (new : List ℕ) (t : Formed T) (u : Formed (said
   abbrev after : Table
   after = said T n new
 
-  live : (m : ℕ) → is_live after m ≡ is_live T m
-  live m = same-live (saying new) (saying-kind new) T n m
-
-  links : (m : ℕ) → SameLinks T after m
-  links m = same-links (saying new) (saying-kind new) T n m
-
   kind : (m : ℕ) → kind_of T m ≡ kind_of after m
-  kind m = sym (same-kind (saying new) (saying-kind new) T n m)
+  kind m = kept.kind (saying new) (saying-kind new) T n t m
 
   name : (m : ℕ) → name_of T m ≡ name_of after m
   name m = sym (same-name (saying new) (saying-name new) T n m)
 
   content : (m : ℕ) → m ≢ n → content_of T m ≡ content_of after m
-  content m ne = ap content_at (sym (changed-other T n (with_text new) m ne))
-
-  in_order : filter (lives_in_both T after) (order T) ≡ filter (lives_in_both T after) (order after)
-  in_order =
-      order-alike T after (lives_in_both T after) (λ m. (links m).kids) (λ m. ap (filter (lives_in_both T after)) (links m).attributes) t
-      (omega (arith, changed-length T n (with_text new)))
+  content m ne = kept.content (saying new) (saying-kind new) T n t m ne
 
   -- the characters of another node stay, and those of the node where it is no text
   says-same : (m : ℕ) → (is_text (kind_of T n) ≡ false) ⊎ (m ≢ n) → says T m ≡ says after m
@@ -76,15 +62,15 @@ module _ (T : Table) (n : ℕ) (new : List ℕ) (t : Formed T) (u : Formed (said
   pub saying-leaves : Agree T after (touched_saying T n)
   saying-leaves = record {
     kind = λ m stays. kind m;
-    name = λ m stays. name m;
-    parent = λ m stays. sym (links m).parent;
-    in_order = in_order;
-    kids = λ m stays out. sym (links m).kids;
-    shape = λ m stays out. shape-alike T after t u (λ k lives. sym (links k).parent) (λ k lives. kind k) in_order m (λ k lives h. live k ∙ lives) (λ k lives h. sym (live k) ∙ lives);
-    attributes = λ m stays out. sym (links m).attributes;
+    target = λ m stays other. name m;
+    parent = λ m stays. kept.parent (saying new) (saying-kind new) T n t m;
+    in_order = kept.in_order (saying new) (saying-kind new) T n t;
+    name = λ m stays named out. name m;
+    kids = λ m stays out. kept.kids (saying new) (saying-kind new) T n t m;
+    shape = λ m stays out. kept.shape (saying new) (saying-kind new) T n t u m;
+    attributes = λ m stays out. kept.attributes (saying new) (saying-kind new) T n t m;
     value = λ m stays out. ap value_at (content m (λ e. true≢false (sym (eq-eqb m n e) ∙ out)));
-    text = λ m stays holds out. text-alike T after t u (λ k lives. sym (links k).parent) (λ k lives. kind k) in_order m (λ k lives h. live k ∙ lives) (λ k lives h. sym (live k) ∙ lives)
-        stays holds (λ k lives h. says-below m k out h);
-    numbers = omega (arith, changed-length T n (with_text new));
-    no_return = λ m old lives. sym (live m) ∙ lives;
+    text = λ m stays holds out. kept.text (saying new) (saying-kind new) T n t u m stays holds (λ k h. says-below m k out h);
+    numbers = omega (arith, kept.same-length (saying new) (saying-kind new) T n t);
+    no_return = λ m old lives. sym (kept.live (saying new) (saying-kind new) T n t m) ∙ lives;
   }

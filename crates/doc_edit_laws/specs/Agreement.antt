@@ -1,8 +1,8 @@
 -- Two trees of one document (XPath 1.0, section 5): what they have in common outside the cells that were touched between them.
 use Rattle.std.specs.Prelude.{◌≡◌, ℕ, ◌<◌, ◌≤◌, Bool, true, false, ◌&&◌, ◌||◌, List, [], ◌∷◌, length, filter}
 use Rattle.doc_tree.specs.cell.Cell.{Cell}
-use Rattle.doc_tree.specs.cell.Cell.TheVariants.{Kids, Shape, Attrs, Value, Text}
-use Rattle.doc_tree.specs.Kinds.{holds_kids}
+use Rattle.doc_tree.specs.cell.Cell.TheVariants.{Kids, Shape, Attrs, Value, Text, Name}
+use Rattle.doc_tree.specs.Kinds.{has_own_name, holds_kids}
 use Rattle.doc_tree.specs.Laws.{HasWaysUp, Ordered, WellFormed}
 use Rattle.doc_tree.specs.Table.{Table, attrs_of, is_live, kids_of, kind_of, name_of, parent_of, value_of}
 use Rattle.doc_tree.specs.Walks.{joined_text, order}
@@ -30,12 +30,13 @@ abbrev pub descendants : Table → ℕ → List ℕ
 descendants T n = filter (is_descendant T n) (order T)
 
 pub record Agree (T U : Table) (touched : Cell → Bool) : Type 0 where
-  -- the nodes that live in both keep their kind, their name and their parent, and their relative order
+  -- the nodes that live in both keep their kind and their parent, an instruction its target, and their relative order
   pub kind : (n : ℕ) → Stays T U n → kind_of T n ≡ kind_of U n
-  pub name : (n : ℕ) → Stays T U n → name_of T n ≡ name_of U n
+  pub target : (n : ℕ) → Stays T U n → has_own_name (kind_of T n) ≡ false → name_of T n ≡ name_of U n
   pub parent : (n : ℕ) → Stays T U n → parent_of T n ≡ parent_of U n
   pub in_order : filter (lives_in_both T U) (order T) ≡ filter (lives_in_both T U) (order U)
   -- and what their cells hold that weren't touched
+  pub name : (n : ℕ) → Stays T U n → has_own_name (kind_of T n) ≡ true → touched (Name n) ≡ false → name_of T n ≡ name_of U n
   pub kids : (n : ℕ) → Stays T U n → touched (Kids n) ≡ false → kids_of T n ≡ kids_of U n
   pub shape : (n : ℕ) → Stays T U n → touched (Shape n) ≡ false → descendants T n ≡ descendants U n
   pub attributes : (n : ℕ) → Stays T U n → touched (Attrs n) ≡ false → attrs_of T n ≡ attrs_of U n

@@ -6,13 +6,14 @@ use Rattle.doc_tree.specs.Kinds.{can_be_kid}
 use Rattle.doc_tree.specs.Laws.{WellFormed}
 use Rattle.doc_tree.specs.Table.{Name, Table, kind_of, parent_of}
 use Rattle.doc_edit_laws.specs.Agreement.{Agree, IsTree}
-use Rattle.doc_edits.specs.Changes.{deleted, gained, inserted, removed, said}
-use Rattle.doc_edits.specs.Fitting.{MayGain, MaySay, MayTake}
-use Rattle.doc_edit_laws.specs.Touching.{touched_attributes, touched_deletion, touched_kids, touched_saying}
+use Rattle.doc_edits.specs.Changes.{deleted, gained, inserted, removed, renamed, said}
+use Rattle.doc_edits.specs.Fitting.{MayGain, MayRename, MaySay, MayTake}
+use Rattle.doc_edit_laws.specs.Touching.{touched_attributes, touched_deletion, touched_kids, touched_name, touched_saying}
 
 -- an edit of a tree, with the tree that it makes and the cells that it touches
 pub data Edit (T : Table) : Table → (Cell → Bool) → Type 0 where
   says : (n : ℕ) (new : List ℕ) → MaySay T n new → Edit T (said T n new) (touched_saying T n)
+  renames : (n : ℕ) (name : Name) → MayRename T n name → Edit T (renamed T n name) (touched_name n)
   gains : (n : ℕ) (name : Name) (value : List ℕ) → MayGain T n name value → Edit T (gained T n name value) (touched_attributes n)
   loses : (a n : ℕ) → kind_of T a ≡ Some Attribute → parent_of T a ≡ Some n → Edit T (removed T a) (touched_attributes n)
   deletes : (n p : ℕ) → can_be_kid (kind_of T n) ≡ true → parent_of T n ≡ Some p → Edit T (deleted T n) (touched_deletion T n p)

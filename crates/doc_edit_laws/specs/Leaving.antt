@@ -5,12 +5,15 @@ use Rattle.doc_tree.specs.Kinds.{can_be_kid}
 use Rattle.doc_tree.specs.Laws.{WellFormed}
 use Rattle.doc_tree.specs.Table.{Name, Table, kind_of, parent_of}
 use Rattle.doc_edit_laws.specs.Agreement.{Agree}
-use Rattle.doc_edits.specs.Changes.{deleted, gained, inserted, removed, said}
-use Rattle.doc_edits.specs.Fitting.{MayGain, MaySay, MayTake}
-use Rattle.doc_edit_laws.specs.Touching.{touched_attributes, touched_deletion, touched_kids, touched_saying}
+use Rattle.doc_edits.specs.Changes.{deleted, gained, inserted, removed, renamed, said}
+use Rattle.doc_edits.specs.Fitting.{MayGain, MayRename, MaySay, MayTake}
+use Rattle.doc_edit_laws.specs.Touching.{touched_attributes, touched_deletion, touched_kids, touched_name, touched_saying}
 
 abbrev pub SayingsLeave : Type 0
 SayingsLeave = (T : Table) (n : ℕ) (new : List ℕ) → WellFormed T → MaySay T n new → Agree T (said T n new) (touched_saying T n)
+
+abbrev pub RenamesLeave : Type 0
+RenamesLeave = (T : Table) (n : ℕ) (name : Name) → WellFormed T → MayRename T n name → Agree T (renamed T n name) (touched_name n)
 
 pub record AttributesLeave : Type 0 where
   pub gain : (T : Table) (n : ℕ) (name : Name) (value : List ℕ) → WellFormed T → MayGain T n name value → Agree T (gained T n name value) (touched_attributes n)

@@ -17,6 +17,15 @@ touched_saying T n (Shape m) = false
 touched_saying T n (Attrs m) = false
 touched_saying T n (Name m) = false
 
+-- a node gets another name
+abbrev pub touched_name : ℕ → Cell → Bool
+touched_name n (Name m) = m == n
+touched_name n (Kids m) = false
+touched_name n (Shape m) = false
+touched_name n (Attrs m) = false
+touched_name n (Value m) = false
+touched_name n (Text m) = false
+
 -- an attribute of an element comes or goes: its list of attributes
 abbrev pub touched_attributes : ℕ → Cell → Bool
 touched_attributes n (Attrs m) = m == n

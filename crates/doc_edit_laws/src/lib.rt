@@ -4,10 +4,11 @@
 
 ghost use Rattle.doc_edit_laws.specs.Agreement.{AgreementComposes};
 ghost use Rattle.doc_edit_laws.specs.Along.{EditsLeave};
-ghost use Rattle.doc_edit_laws.specs.Leaving.{AttributesLeave, DeletionsLeave, InsertionsLeave, SayingsLeave};
+ghost use Rattle.doc_edit_laws.specs.Leaving.{AttributesLeave, DeletionsLeave, InsertionsLeave, RenamesLeave, SayingsLeave};
 
 use doc_edits::{
-    additions_keep_trees, deletions_keep_trees, removals_keep_trees, sayings_keep_trees,
+    additions_keep_trees, deletions_keep_trees, removals_keep_trees, renames_keep_trees,
+    sayings_keep_trees,
 };
 
 /// Trees that agree with one between them, the first outside some cells and the last outside others, agree outside both.
@@ -20,6 +21,13 @@ pub fn sayings_leave_the_rest()
     ensures { SayingsLeave }
 {
     sayings_keep_trees();
+}
+
+/// Where an element or an attribute gets another name.
+pub fn renames_leave_the_rest()
+    ensures { RenamesLeave }
+{
+    renames_keep_trees();
 }
 
 /// Where an attribute comes or goes.
@@ -49,6 +57,7 @@ pub fn edits_leave_the_rest()
     ensures { EditsLeave }
 {
     sayings_keep_trees();
+    renames_keep_trees();
     removals_keep_trees();
     deletions_keep_trees();
     additions_keep_trees();

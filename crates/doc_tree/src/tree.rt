@@ -143,11 +143,13 @@ impl Tree {
     }
 
     /// Whether the node has this expanded name; the namespace is empty for none. A node without a name has no such.
+    ///
+    /// The local parts are compared first: names differ in them more often than in the namespace.
     pub fn has_name(&self, n: NodeId, uri: &str, local: &str) -> bool
         ensures { result ≡ has_name self.now.nodes n uri.now local.now }
     {
         match self.name(n) {
-            Some(name) => self.uri_of(name) == uri && self.local_of(name) == local,
+            Some(name) => self.local_of(name) == local && self.uri_of(name) == uri,
             None => false,
         }
     }

@@ -9,11 +9,11 @@ use Rattle.doc_table.specs.Table.{Facts, Name, attribute}
 use Rattle.doc_table.proofs.Counts.{live-count, sum-more, sum-set}
 use Rattle.doc_table.proofs.Forests.{formed-of}
 use Rattle.doc_table.proofs.TreeLaws.{ordered}
-use Rattle.doc_edits.specs.Changes.{Meeting, changed_at, deleted, deleted_by, gained, meeting, removed, removed_from, said, with_attribute, with_text}
+use Rattle.doc_edits.specs.Changes.{Meeting, changed_at, deleted, deleted_by, gained, meeting, removed, removed_from, renamed, said, with_attribute, with_name, with_text}
 use Rattle.doc_edits.proofs.ClearLemmas.{cut-sum}
 use Rattle.doc_edits.proofs.InsertionSumLemmas.{count-inserted}
 use Rattle.doc_tree.specs.declared.refusal.EditRefusal.TheVariants.{TooManyNodes, TooMuchText, IdsSpent, TooManyPairs}
-use Rattle.doc_tree.specs.Edited.{attribute_name_at, attribute_set, attribute_unset, with_value, without_attribute}
+use Rattle.doc_tree.specs.Edited.{attribute_name_at, attribute_renamed, attribute_set, attribute_unset, element_name_at, with_other_name, with_value, without_attribute}
 use Rattle.doc_tree.specs.Laws.{WellFormed}
 use Rattle.doc_tree.specs.NameTests.{attribute_meant}
 use Rattle.doc_tree.specs.Refusals.{name_refusal, place_refusal, setting_refusal, value_refusal}
@@ -25,7 +25,7 @@ use Rattle.name_scopes.specs.Fragments.{event_nodes, piece_refusal, plain_text}
 use Rattle.name_scopes.specs.QNames.{local_part, prefix_part}
 use Rattle.name_scopes_laws.proofs.PieceSizes.{piece-nodes}
 use Rattle.edit_script.specs.declared.command.Command.{Command}
-use Rattle.edit_script.specs.declared.command.Command.TheVariants.{Insert, Delete, SetText, SetAttr, UnsetAttr}
+use Rattle.edit_script.specs.declared.command.Command.TheVariants.{Insert, Delete, SetText, SetAttr, UnsetAttr, Rename, RenameAttr}
 use Rattle.edit_commands.specs.Commands.{EditedAt, InsertedAt, insertion_refusal, refusal_at, refusal_where, size_refusal, top_kind}
 use Rattle.edit_command_laws.specs.TreesKept.{EditsKeepTrees}
 use Rattle.edit_cap_laws.specs.Within.{EditsStayWithin}
@@ -33,6 +33,10 @@ use Rattle.edit_cap_laws.specs.Within.{EditsStayWithin}
 -- where a node says another text, as many live
 said-count : (T : Table) (n : ℕ) (new : List ℕ) → count_live (said T n new) ≡ count_live T
 said-count T n new = sum-set (λ _. 1) T n (with_text new) refl (λ node. refl)
+
+-- where a node has another name, as many
+renamed-count : (T : Table) (n : ℕ) (name : Name) → count_live (renamed T n name) ≡ count_live T
+renamed-count T n name = sum-set (λ _. 1) T n (with_name name) refl (λ node. refl)
 
 -- where a node goes, no more
 removed-count : (T : Table) (n : ℕ) → count_live (removed T n) ≤ count_live T
@@ -116,6 +120,14 @@ module _ (before : Contents) (form : WellFormed before.nodes) (few : length (ord
       by None = omega (arith, live, few)
       by (Some a) = omega (arith, removed-count T a, live, few)
 
+  attribute-renamed-fits : (n : ℕ) (old_prefix old_local prefix local : List ℕ) →
+      count_live (attribute_renamed T n old_prefix old_local prefix local) ≤ before.pair_cap
+  attribute-renamed-fits n old_prefix old_local prefix local = by (attribute_meant T n old_prefix old_local)
+    where
+      by : (o : Option ℕ) → count_live (with_other_name T o (attribute_name_at T n prefix local)) ≤ before.pair_cap
+      by None = omega (arith, live, few)
+      by (Some a) = omega (arith, renamed-count T a (attribute_name_at T n prefix local), live, few)
+
   edited-fits : (command : Command) (n : ℕ) (U : Table) → refusal_at before command n ≡ None → EditedAt T command n U → count_live U ≤ before.pair_cap
   edited-fits (Insert path at events) n U free edited = inserted-fits n at events U free edited
   edited-fits (Delete path) n U free edited = omega (arith, ap count_live edited, deleted-count T n, live, few)
@@ -126,6 +138,10 @@ module _ (before : Contents) (form : WellFormed before.nodes) (few : length (ord
     set-fits n (prefix_part name) (local_part name) value free,
   )
   edited-fits (UnsetAttr path name) n U free edited = omega (arith, ap count_live edited, unset-fits n (prefix_part name) (local_part name))
+  edited-fits (Rename path name) n U free edited =
+      omega (arith, ap count_live edited, renamed-count T n (element_name_at T n (prefix_part name) (local_part name)), live, few)
+  edited-fits (RenameAttr path old name) n U free edited =
+      omega (arith, ap count_live edited, attribute-renamed-fits n (prefix_part old) (local_part old) (prefix_part name) (local_part name))
 
 pub stay-within : EditsKeepTrees → EditsStayWithin
 stay-within keeps tree command U form document free edited few =

@@ -8,7 +8,7 @@ use Rattle.doc_tree.specs.Laws.{WellFormedIsEnough}
 use Rattle.doc_tree.specs.Scope.{scope_at}
 use Rattle.doc_tree.specs.Table.{Table}
 use Rattle.edit_script.specs.declared.command.Command.{Command}
-use Rattle.edit_script.specs.declared.command.Command.TheVariants.{Insert, Delete, SetText, SetAttr, UnsetAttr}
+use Rattle.edit_script.specs.declared.command.Command.TheVariants.{Insert, Delete, SetText, SetAttr, UnsetAttr, Rename, RenameAttr}
 use Rattle.edit_commands.specs.Commands.{EditedAt, InsertedAt, IsEdited}
 use Rattle.edit_command_laws.specs.OneEdit.{OneEdit}
 use Rattle.edit_command_laws.proofs.OnePiece.{one-piece}
@@ -26,6 +26,8 @@ module _ (laws : WellFormedIsEnough) (one : OneTable) (T U V : Table) where
   edited-once (SetText path text) n this other = this ∙ sym other
   edited-once (SetAttr path name value) n this other = this ∙ sym other
   edited-once (UnsetAttr path name) n this other = this ∙ sym other
+  edited-once (Rename path name) n this other = this ∙ sym other
+  edited-once (RenameAttr path old name) n this other = this ∙ sym other
 
   command-once : (command : Command) → IsEdited T command U → IsEdited T command V → U ≡ V
   command-once command this other =

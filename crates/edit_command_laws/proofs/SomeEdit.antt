@@ -3,7 +3,7 @@ use Rattle.std.proofs.Common.{◌≡◌, ℕ, ◌-◌, ◌≤◌, Option, None, 
 use Rattle.doc_tree.specs.Laws.{WellFormed}
 use Rattle.doc_tree.specs.limits.TheConstants.{MAX_LIVE_TEXT_BYTES}
 use Rattle.doc_tree.specs.Changes.{deleted, inserted, said}
-use Rattle.doc_tree.specs.Edited.{attribute_set, attribute_unset}
+use Rattle.doc_tree.specs.Edited.{attribute_renamed, attribute_set, attribute_unset, element_renamed}
 use Rattle.doc_tree.specs.Refusals.{place_refusal}
 use Rattle.doc_tree.specs.Table.{Contents, Table}
 use Rattle.doc_tree.specs.declared.refusal.EditRefusal.TheVariants.{NoNode}
@@ -12,7 +12,7 @@ use Rattle.name_scopes.specs.Fragments.{piece_refusal, plain_text}
 use Rattle.name_scopes.specs.QNames.{local_part, prefix_part}
 use Rattle.name_scopes_laws.specs.Pieces.{FragmentsHavePieces}
 use Rattle.edit_script.specs.declared.command.Command.{Command}
-use Rattle.edit_script.specs.declared.command.Command.TheVariants.{Insert, Delete, SetText, SetAttr, UnsetAttr}
+use Rattle.edit_script.specs.declared.command.Command.TheVariants.{Insert, Delete, SetText, SetAttr, UnsetAttr, Rename, RenameAttr}
 use Rattle.edit_script.specs.WellFormed.{WellFormedCommand}
 use Rattle.edit_commands.specs.Commands.{EditedAt, IsEdited, path_of, refusal_at, refusal_where, size_refusal, top_kind}
 use Rattle.edit_commands.specs.Paths.{node_named}
@@ -30,6 +30,8 @@ module _ (pieces : FragmentsHavePieces) (tree : Contents) (formed : WellFormed t
   edited-at (SetText path text) n form free = (said tree.nodes n text, refl)
   edited-at (SetAttr path name value) n form free = (attribute_set tree.nodes n (prefix_part name) (local_part name) value, refl)
   edited-at (UnsetAttr path name) n form free = (attribute_unset tree.nodes n (prefix_part name) (local_part name), refl)
+  edited-at (Rename path name) n form free = (element_renamed tree.nodes n (prefix_part name) (local_part name), refl)
+  edited-at (RenameAttr path old name) n form free = (attribute_renamed tree.nodes n (prefix_part old) (local_part old) (prefix_part name) (local_part name), refl)
 
   edited-where : (command : Command) (found : Option ℕ) → node_named tree.nodes (path_of command) ≡ found → WellFormedCommand command → refusal_where tree command found ≡ None →
       (U : Table) × IsEdited tree.nodes command U

@@ -10,15 +10,15 @@ use Rattle.doc_table.proofs.Forests.{formed-of}
 use Rattle.doc_table.proofs.TreeLaws.{ordered, walks, ways-up}
 use Rattle.doc_edits.specs.Changes.{inserted, nodes_in}
 use Rattle.doc_edits.specs.Documents.{EditsKeepDocuments}
-use Rattle.doc_edits.specs.Keeping.{DeletionsKeepTrees, GainsKeepTrees, InsertionsKeepTrees, RemovalsKeepTrees, SayingsKeepTrees}
+use Rattle.doc_edits.specs.Keeping.{DeletionsKeepTrees, GainsKeepTrees, InsertionsKeepTrees, RemovalsKeepTrees, RenamesKeepTrees, SayingsKeepTrees}
 use Rattle.doc_tree.specs.declared.refusal.EditRefusal.TheVariants.{NoPrefix, SameAttribute, TooManyNodes, TooDeep, TooMuchText, IdsSpent, TooManyPairs}
-use Rattle.doc_tree.specs.Edited.{attribute_name_at, attribute_set, attribute_unset, with_value, without_attribute}
+use Rattle.doc_tree.specs.Edited.{attribute_name_at, attribute_renamed, attribute_set, attribute_unset, element_name_at, element_renamed, with_other_name, with_value, without_attribute}
 use Rattle.doc_tree.specs.Kinds.{is_document}
 use Rattle.doc_tree.specs.Laws.{HasWaysUp, WellFormed}
 use Rattle.doc_tree.specs.Lists.{mem}
 use Rattle.doc_tree.specs.NameTests.{attribute_meant}
 use Rattle.doc_tree.specs.Refusals as tree
-use Rattle.doc_tree.specs.Refusals.{deletion_refusal, is_too_deep_at, place_refusal, room_refusal, setting_refusal, top_of}
+use Rattle.doc_tree.specs.Refusals.{absence_refusal, attribute_renaming_refusal, deletion_refusal, is_too_deep_at, name_pair_refusal, place_refusal, renaming_refusal, room_refusal, setting_refusal, top_of}
 use Rattle.doc_tree.specs.Scope.{scope_at}
 use Rattle.doc_tree.specs.Table.{Contents, Table, attrs_of, kids_of, kind_of}
 use Rattle.doc_tree.specs.Walks.{above, order, text_bytes}
@@ -26,11 +26,12 @@ use Rattle.doc_tree.proofs.AttributeLemmas.{document-stays, found-member, may-ga
 use Rattle.doc_tree.proofs.DeleteLemmas as deleting
 use Rattle.doc_tree.proofs.InsertLemmas.{document-kept, may-take, nodes-brought}
 use Rattle.doc_tree.proofs.RefusalLemmas.{none-of-four, or-none}
+use Rattle.doc_tree.proofs.RenamingLemmas.{may-rename, may-rename-attribute}
 use Rattle.name_scopes.specs.Fragments.{ScopedPiece, event_nodes, is_too_deep, piece_refusal, some_tag, tag_doubles, tag_lacks_prefix}
 use Rattle.name_scopes.specs.QNames.{local_part, prefix_part}
 use Rattle.name_scopes_laws.proofs.PieceSizes.{piece-nodes, piece-text}
 use Rattle.edit_script.specs.declared.command.Command.{Command}
-use Rattle.edit_script.specs.declared.command.Command.TheVariants.{Insert, Delete, SetText, SetAttr, UnsetAttr}
+use Rattle.edit_script.specs.declared.command.Command.TheVariants.{Insert, Delete, SetText, SetAttr, UnsetAttr, Rename, RenameAttr}
 use Rattle.edit_commands.specs.Commands.{EditedAt, insertion_refusal, refusal_at, refusal_where, size_refusal, top_kind}
 use Rattle.edit_commands.proofs.DepthLemmas.{kind-of-top, none-too-deep}
 use Rattle.edit_commands.proofs.TextLemmas as texts
@@ -90,7 +91,7 @@ module _ (before : Contents) (n at : ℕ) (events : List Event) (P : Table) (for
 abbrev Kept : Table → Type 0
 Kept U = WellFormed U × (is_document U ≡ true)
 
-module _ (sayings : SayingsKeepTrees) (removals : RemovalsKeepTrees) (deletions : DeletionsKeepTrees) (gains : GainsKeepTrees) (insertions : InsertionsKeepTrees) (keeps : EditsKeepDocuments)
+module _ (sayings : SayingsKeepTrees) (namings : RenamesKeepTrees) (removals : RemovalsKeepTrees) (deletions : DeletionsKeepTrees) (gains : GainsKeepTrees) (insertions : InsertionsKeepTrees) (keeps : EditsKeepDocuments)
     (before : Contents) (formed : WellFormed before.nodes) (document : is_document before.nodes ≡ true) where
   abbrev nodes : Table
   nodes = before.nodes
@@ -122,6 +123,26 @@ module _ (sayings : SayingsKeepTrees) (removals : RemovalsKeepTrees) (deletions 
             document-stays nodes formed ways n a member keeps document,
           )
 
+  renamed-kept : (n : ℕ) (prefix local : List ℕ) → renaming_refusal nodes n prefix ≡ None → Kept (element_renamed nodes n prefix local)
+  renamed-kept n prefix local free = (
+    namings nodes n (element_name_at nodes n prefix local) formed (may-rename nodes n prefix local formed free),
+    keeps.renaming nodes n (element_name_at nodes n prefix local) document,
+  )
+
+  attribute-renamed-kept : (n : ℕ) (old_prefix old_local prefix local : List ℕ) → attribute_renaming_refusal nodes n old_prefix old_local prefix local ≡ None →
+      Kept (attribute_renamed nodes n old_prefix old_local prefix local)
+  attribute-renamed-kept n old_prefix old_local prefix local free = by (attribute_meant nodes n old_prefix old_local) refl
+    where
+      pair : name_pair_refusal nodes n old_prefix old_local prefix local ≡ None
+      pair = (or-none (name_pair_refusal nodes n old_prefix old_local prefix local) (absence_refusal (attribute_meant nodes n old_prefix old_local)) free).0
+
+      by : (o : Option ℕ) → attribute_meant nodes n old_prefix old_local ≡ o → Kept (with_other_name nodes o (attribute_name_at nodes n prefix local))
+      by None e = (formed, document)
+      by (Some a) e = (
+        namings nodes a (attribute_name_at nodes n prefix local) formed (may-rename-attribute nodes n a old_prefix old_local prefix local formed pair e),
+        keeps.renaming nodes a (attribute_name_at nodes n prefix local) document,
+      )
+
   edited-kept : (command : Command) (n : ℕ) (U : Table) → refusal_at before command n ≡ None → EditedAt nodes command n U → Kept U
   edited-kept (Insert path at events) n U free edited =
       let piece : Formed edited.piece = formed-of edited.piece edited.well_formed in
@@ -132,8 +153,11 @@ module _ (sayings : SayingsKeepTrees) (removals : RemovalsKeepTrees) (deletions 
       subst Kept (sym edited) (sayings nodes n new formed (texts.may-say nodes n new free), keeps.saying nodes n new document)
   edited-kept (SetAttr path name value) n U free edited = subst Kept (sym edited) (set-kept n (prefix_part name) (local_part name) value free)
   edited-kept (UnsetAttr path name) n U free edited = subst Kept (sym edited) (unset-kept n (prefix_part name) (local_part name))
+  edited-kept (Rename path name) n U free edited = subst Kept (sym edited) (renamed-kept n (prefix_part name) (local_part name) free)
+  edited-kept (RenameAttr path old name) n U free edited =
+      subst Kept (sym edited) (attribute-renamed-kept n (prefix_part old) (local_part old) (prefix_part name) (local_part name) free)
 
-pub trees-kept : SayingsKeepTrees → RemovalsKeepTrees → DeletionsKeepTrees → GainsKeepTrees → InsertionsKeepTrees → EditsKeepDocuments → EditsKeepTrees
-trees-kept sayings removals deletions gains insertions keeps before command U formed document free edited =
-    edited-kept sayings removals deletions gains insertions keeps before formed document command edited.node U
+pub trees-kept : SayingsKeepTrees → RenamesKeepTrees → RemovalsKeepTrees → DeletionsKeepTrees → GainsKeepTrees → InsertionsKeepTrees → EditsKeepDocuments → EditsKeepTrees
+trees-kept sayings namings removals deletions gains insertions keeps before command U formed document free edited =
+    edited-kept sayings namings removals deletions gains insertions keeps before formed document command edited.node U
     (ap (refusal_where before command) (sym edited.named) ∙ free) edited.edited

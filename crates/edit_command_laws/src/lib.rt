@@ -7,7 +7,7 @@ ghost use Rattle.edit_command_laws.specs.TreesKept.{EditsKeepTrees};
 
 use doc_edits::{
     additions_keep_trees, deletions_keep_trees, edits_keep_documents, removals_keep_trees,
-    sayings_keep_trees,
+    renames_keep_trees, sayings_keep_trees,
 };
 use doc_tree::{one_table, well_formed_is_enough};
 use name_scopes_laws::fragments_have_pieces;
@@ -26,6 +26,7 @@ pub fn edits_keep_trees()
     ensures { EditsKeepTrees }
 {
     sayings_keep_trees();
+    renames_keep_trees();
     removals_keep_trees();
     deletions_keep_trees();
     additions_keep_trees();

@@ -32,7 +32,7 @@ use Rattle.edit_commands.proofs.TextLemmas.{said-holds}
 -- a name against which nothing speaks
 module _ (T : Table) (n : ℕ) (prefix local : List ℕ) (free : name_refusal T n prefix local ≡ None) where
   -- it declares nothing
-  no-declaration : prefix ≡ [] → local ≢ xmlns_prefix
+  pub no-declaration : prefix ≡ [] → local ≢ xmlns_prefix
   no-declaration empty is =
       true≢false
       (sym ((bytes_eq-Decides local xmlns_prefix).1 is) ∙ and-false (is_nil prefix) (bytes_eq local xmlns_prefix) (no-words T n prefix local free).1 (ap is_nil empty))

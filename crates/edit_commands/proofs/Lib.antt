@@ -3,5 +3,6 @@ mod CommandLemmas
 mod DeleteLemmas
 pub mod DepthLemmas
 mod InsertLemmas
-mod MeetingLemmas
+pub mod MeetingLemmas
+mod RenamingLemmas
 pub mod TextLemmas

@@ -31,17 +31,18 @@ three ks i some low =
     ∙ ap (λ l. at ks (i - 2) ∷ l) (ap (λ j. drop j ks) (let e : suc (i - 2) ≡ i - 1 = omega (arith, some) in e) ∙ two ks i some low)
 
 module _ (T : Table) (n : ℕ) (ks : List ℕ) (i : ℕ) (some : 2 ≤ i) (low : i < length ks) (so_far : meeting T n (drop (i - 2) ks) ≡ meeting T n ks) where
-  abbrev here : Option Meeting
+  abbrev pub here : Option Meeting
   here = if is_text (kind_of T (at ks (i - 2))) && is_text (kind_of T (at ks i)) then Some (record { left = at ks (i - 2); right = at ks i }) else None
 
   looked : (if at ks (i - 1) == n then here else meeting T n (at ks (i - 1) ∷ at ks i ∷ drop (suc i) ks)) ≡ meeting T n ks
   looked = sym (ap (meeting T n) (three ks i some low)) ∙ so_far
 
-  -- the node stands here
+  -- the node stands here: the texts on both sides, and the left one
+  pub both-found : at ks (i - 1) ≡ n → here ≡ meeting T n ks
+  both-found is = subst (λ b. (if b then here else meeting T n (at ks (i - 1) ∷ at ks i ∷ drop (suc i) ks)) ≡ meeting T n ks) (eq-eqb (at ks (i - 1)) n is) looked
+
   pub found : at ks (i - 1) ≡ n → (if is_text (kind_of T (at ks (i - 2))) && is_text (kind_of T (at ks i)) then Some (at ks (i - 2)) else None) ≡ left_of (meeting T n ks)
-  found is =
-      by (is_text (kind_of T (at ks (i - 2))) && is_text (kind_of T (at ks i)))
-      ∙ ap left_of (subst (λ b. (if b then here else meeting T n (at ks (i - 1) ∷ at ks i ∷ drop (suc i) ks)) ≡ meeting T n ks) (eq-eqb (at ks (i - 1)) n is) looked)
+  found is = by (is_text (kind_of T (at ks (i - 2))) && is_text (kind_of T (at ks i))) ∙ ap left_of (both-found is)
     where
       by : (b : Bool) → (if b then Some (at ks (i - 2)) else None) ≡ left_of (if b then Some (record { left = at ks (i - 2); right = at ks i }) else None)
       by true = refl

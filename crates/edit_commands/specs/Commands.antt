@@ -10,16 +10,16 @@ use Rattle.doc_tree.specs.limits.TheConstants.{MAX_LIVE_TEXT_BYTES, MAX_NODE_NUM
 use Rattle.doc_tree.specs.declared.refusal.EditRefusal.{EditRefusal}
 use Rattle.doc_tree.specs.declared.refusal.EditRefusal.TheVariants.{NoNode, TooMuchText, IdsSpent, TooManyPairs}
 use Rattle.doc_tree.specs.Changes.{deleted, inserted, meeting, said}
-use Rattle.doc_tree.specs.Edited.{attribute_set, attribute_unset}
+use Rattle.doc_tree.specs.Edited.{attribute_renamed, attribute_set, attribute_unset, element_renamed}
 use Rattle.doc_tree.specs.Laws.{WellFormed}
-use Rattle.doc_tree.specs.Refusals.{deletion_refusal, place_refusal, setting_refusal, text_refusal, unsetting_refusal}
+use Rattle.doc_tree.specs.Refusals.{attribute_renaming_refusal, deletion_refusal, place_refusal, renaming_refusal, setting_refusal, text_refusal, unsetting_refusal}
 use Rattle.doc_tree.specs.Scope.{scope_at}
 use Rattle.doc_tree.specs.Table.{Contents, Table, kids_above, parent_of}
 use Rattle.doc_tree.specs.Walks.{order, text_bytes}
 use Rattle.name_scopes.specs.Fragments.{ScopedPiece, event_nodes, is_start, piece_refusal, plain_text}
 use Rattle.name_scopes.specs.QNames.{local_part, prefix_part}
 use Rattle.edit_script.specs.declared.command.Command.{Command}
-use Rattle.edit_script.specs.declared.command.Command.TheVariants.{Insert, Delete, SetText, SetAttr, UnsetAttr}
+use Rattle.edit_script.specs.declared.command.Command.TheVariants.{Insert, Delete, SetText, SetAttr, UnsetAttr, Rename, RenameAttr}
 use Rattle.edit_script.specs.declared.command.PathStep.{PathStep}
 use Rattle.edit_commands.specs.declared.refusal.ApplyError.{ApplyError}
 use Rattle.edit_commands.specs.declared.refusal.ApplyError.TheVariants.{Refused, Memory}
@@ -31,6 +31,8 @@ path_of (Delete path) = path
 path_of (SetText path text) = path
 path_of (SetAttr path name value) = path
 path_of (UnsetAttr path name) = path
+path_of (Rename path name) = path
+path_of (RenameAttr path old name) = path
 
 -- the kind of the one item of a fragment
 abbrev pub top_kind : List Event → Option Kind
@@ -61,6 +63,9 @@ refusal_at tree (Delete path) n = deletion_refusal tree.nodes n
 refusal_at tree (SetText path text) n = text_refusal tree.nodes n text
 refusal_at tree (SetAttr path name value) n = setting_refusal tree n (prefix_part name) (local_part name) value
 refusal_at tree (UnsetAttr path name) n = unsetting_refusal tree.nodes n (prefix_part name) (local_part name)
+refusal_at tree (Rename path name) n = renaming_refusal tree.nodes n (prefix_part name)
+refusal_at tree (RenameAttr path old name) n =
+    attribute_renaming_refusal tree.nodes n (prefix_part old) (local_part old) (prefix_part name) (local_part name)
 
 abbrev pub refusal_where : Contents → Command → Option ℕ → Option EditRefusal
 refusal_where tree command None = Some NoNode
@@ -84,6 +89,9 @@ EditedAt T (Delete path) n U = U ≡ deleted T n
 EditedAt T (SetText path text) n U = U ≡ said T n text
 EditedAt T (SetAttr path name value) n U = U ≡ attribute_set T n (prefix_part name) (local_part name) value
 EditedAt T (UnsetAttr path name) n U = U ≡ attribute_unset T n (prefix_part name) (local_part name)
+EditedAt T (Rename path name) n U = U ≡ element_renamed T n (prefix_part name) (local_part name)
+EditedAt T (RenameAttr path old name) n U =
+    U ≡ attribute_renamed T n (prefix_part old) (local_part old) (prefix_part name) (local_part name)
 
 -- U is what an accepted command makes of T
 pub record IsEdited (T : Table) (command : Command) (U : Table) : Type 0 where
@@ -91,7 +99,7 @@ pub record IsEdited (T : Table) (command : Command) (U : Table) : Type 0 where
   pub named : node_named T (path_of command) ≡ Some node
   pub edited : EditedAt T command node U
 
--- when a command can want memory at its node: where nothing speaks against another text, or against a value; where a fragment
+-- when a command can want memory at its node: where nothing speaks against another text, a value or a name; where a fragment
 -- may come at its place and, if it has no tags, whose names are judged with memory, nothing speaks against its nodes; where a
 -- node is deleted and two texts meet; not where an attribute goes
 abbrev pub MayWantMemory : Contents → Command → ℕ → Type 0
@@ -101,6 +109,9 @@ MayWantMemory tree (Delete path) n = meeting tree.nodes n (kids_above tree.nodes
 MayWantMemory tree (SetText path text) n = text_refusal tree.nodes n text ≡ None
 MayWantMemory tree (SetAttr path name value) n = setting_refusal tree n (prefix_part name) (local_part name) value ≡ None
 MayWantMemory tree (UnsetAttr path name) n = ⊥
+MayWantMemory tree (Rename path name) n = renaming_refusal tree.nodes n (prefix_part name) ≡ None
+MayWantMemory tree (RenameAttr path old name) n =
+    attribute_renaming_refusal tree.nodes n (prefix_part old) (local_part old) (prefix_part name) (local_part name) ≡ None
 
 -- the answers to a command that isn't done at its node: the first reason against it, or want of memory where it can come
 abbrev pub RefusesAt : Contents → Command → ℕ → ApplyError → Type 0

@@ -7,12 +7,12 @@ use Rattle.doc_tree.specs.Lists.{mem}
 use Rattle.doc_tree.specs.NameTests.{attribute_meant}
 use Rattle.doc_tree.specs.Table.{Table, parent_of}
 use Rattle.doc_tree.specs.Walks.{ancestors}
-use Rattle.doc_edit_laws.specs.Touching.{touched_attributes, touched_deletion, touched_kids, touched_saying}
+use Rattle.doc_edit_laws.specs.Touching.{touched_attributes, touched_deletion, touched_kids, touched_name, touched_saying}
 use Rattle.name_scopes.specs.QNames.{local_part, prefix_part}
 use Rattle.edit_script.specs.declared.command.Command.{Command}
-use Rattle.edit_script.specs.declared.command.Command.TheVariants.{Insert, Delete, SetText, SetAttr, UnsetAttr}
+use Rattle.edit_script.specs.declared.command.Command.TheVariants.{Insert, Delete, SetText, SetAttr, UnsetAttr, Rename, RenameAttr}
 use Rattle.edit_commands.specs.declared.touched.Touched.{Touched}
-use Rattle.edit_commands.specs.declared.touched.Touched.TheVariants.{Said, Attributes, Below}
+use Rattle.edit_commands.specs.declared.touched.Touched.TheVariants.{Said, Attributes, Below, Named}
 use Rattle.edit_commands.specs.Commands.{path_of}
 use Rattle.edit_commands.specs.Paths.{node_named}
 
@@ -20,6 +20,11 @@ use Rattle.edit_commands.specs.Paths.{node_named}
 abbrev pub touched_setting : Table → ℕ → Option ℕ → Cell → Bool
 touched_setting T n (Some a) = touched_saying T a
 touched_setting T n None = touched_attributes n
+
+-- an attribute that is there gets another name
+abbrev pub touched_renaming : Option ℕ → Cell → Bool
+touched_renaming (Some a) = touched_name a
+touched_renaming None = λ _. false
 
 abbrev pub touched_under : Table → ℕ → Option ℕ → Cell → Bool
 touched_under T n (Some p) = touched_deletion T n p
@@ -33,6 +38,8 @@ touched_at T (SetText path text) n = touched_saying T n
 touched_at T (SetAttr path name value) n =
     touched_setting T n (attribute_meant T n (prefix_part name) (local_part name))
 touched_at T (UnsetAttr path name) n = touched_attributes n
+touched_at T (Rename path name) n = touched_name n
+touched_at T (RenameAttr path old name) n = touched_renaming (attribute_meant T n (prefix_part old) (local_part old))
 
 abbrev pub touched_where : Table → Command → Option ℕ → Cell → Bool
 touched_where T command (Some n) = touched_at T command n
@@ -71,3 +78,4 @@ abbrev pub holds_cell : Table → Touched → Cell → Bool
 holds_cell T (Said n is_text) c = said_cell T n is_text c
 holds_cell T (Attributes n) c = touched_attributes n c
 holds_cell T (Below p left) c = touched_kids T p c || left_cell left c
+holds_cell T (Named n) c = touched_name n c

@@ -19,6 +19,7 @@ ghost use Rattle.edit_commands.specs.inner.Done.{Done, Keeps, NotDone};
 use crate::inserting::insert_piece;
 use crate::paths::node_named;
 use crate::refusal::ApplyError;
+use crate::renaming::{rename_attribute, rename_element};
 use crate::touched::Touched;
 use doc_edit_laws::edits_leave_the_rest;
 use doc_tree::{EditRefusal, Kind, NodeId, Tree};
@@ -30,8 +31,8 @@ use std::alloc::Global;
 /// Does a command of an edit script on a document.
 ///
 /// A refused command, and one that finds no memory, changes nothing, names included. A delete where no two texts meet takes
-/// no memory, nor does an unset; another text and a set want it only where nothing speaks against them, and an insert only
-/// where its fragment may come at its place. Costs the kids along the path, and what the edit of the tree costs.
+/// no memory, nor does an unset; another text, a set and another name want it only where nothing speaks against them, and an
+/// insert only where its fragment may come at its place. Costs the kids along the path, and what the edit of the tree costs.
 pub fn apply_to(alloc: Global, tree: &mut Tree, command: &Command) -> Result<Touched, ApplyError>
     requires document { is_document tree.old.nodes ≡ true }
     requires formed { WellFormedCommand command.now }
@@ -75,6 +76,10 @@ fn apply_at(
             value,
         } => set_attribute(tree, n, name.as_str(), value.as_str()),
         Command::UnsetAttr { path: _, name } => unset_attribute(tree, n, name.as_str()),
+        Command::Rename { path: _, name } => rename_element(tree, n, name.as_str()),
+        Command::RenameAttr { path: _, old, name } => {
+            rename_attribute(tree, n, old.as_str(), name.as_str())
+        }
     }
 }
 
@@ -96,6 +101,12 @@ fn path_of(command: &Command) -> &Path
             value: _,
         } => path,
         Command::UnsetAttr { path, name: _ } => path,
+        Command::Rename { path, name: _ } => path,
+        Command::RenameAttr {
+            path,
+            old: _,
+            name: _,
+        } => path,
     }
 }
 

@@ -10,7 +10,7 @@ use edit_script::PathStep;
 /// The node that a path names; None where it names none.
 ///
 /// Costs the kids of the nodes along the path.
-pub(crate) fn node_named(tree: &Tree, path: &[PathStep]) -> Option<NodeId>
+pub fn node_named(tree: &Tree, path: &[PathStep]) -> Option<NodeId>
     requires { IsPath path.now }
     ensures { result ≡ node_named tree.now.nodes path.now }
 {

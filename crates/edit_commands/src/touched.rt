@@ -4,7 +4,7 @@ ghost use Rattle.std.specs.Prelude.{◌≡◌, Some};
 ghost use Rattle.doc_tree.specs.Lists.{mem};
 ghost use Rattle.doc_tree.specs.Table.{parent_of};
 ghost use Rattle.doc_tree.specs.Walks.{above, ancestors};
-ghost use Rattle.doc_edit_laws.specs.Touching.{touched_attributes, touched_kids};
+ghost use Rattle.doc_edit_laws.specs.Touching.{touched_attributes, touched_kids, touched_name};
 ghost use Rattle.edit_commands.specs.Touched.{holds_cell, left_cell, said_cell};
 
 use doc_tree::{Cell, NodeId, Tree};
@@ -28,6 +28,10 @@ pub enum Touched {
         /// Of two texts that met the left one, which says both.
         left: Option<NodeId>,
     },
+    /// An element or an attribute has another name.
+    Named {
+        node: NodeId,
+    },
 }
 
 impl Touched {
@@ -44,6 +48,7 @@ impl Touched {
             Touched::Below { parent, left } => {
                 kids_hold(tree, *parent, &cell) || left_holds(left, &cell)
             }
+            Touched::Named { node } => name_holds(*node, cell),
         }
     }
 }
@@ -67,6 +72,17 @@ fn attributes_hold(element: NodeId, cell: Cell) -> bool
         Cell::Attrs(n) => n == element,
         Cell::Kids(_) | Cell::Shape(_) | Cell::Value(_) => false,
         Cell::Text(_) | Cell::Name(_) => false,
+    }
+}
+
+/// Whether a node that has another name touches the cell.
+fn name_holds(node: NodeId, cell: Cell) -> bool
+    ensures { result ≡ touched_name node cell }
+{
+    match cell {
+        Cell::Name(n) => n == node,
+        Cell::Kids(_) | Cell::Shape(_) | Cell::Attrs(_) => false,
+        Cell::Value(_) | Cell::Text(_) => false,
     }
 }
 

@@ -6,7 +6,7 @@ use Rattle.std.proofs.lemmas.List.Elements.{All-append, All-cons, All-contains, 
 use Rattle.xp_typed_tree.specs.declared.value_type.ValueType.{ValueType}
 use Rattle.xp_typed_tree.specs.Slots.{slots_in}
 use Rattle.xp_typed_tree.specs.WellTyped.{type_of}
-use Rattle.xp_outcome.specs.Evaluation.{Read, cell, variable}
+use Rattle.xp_outcome.specs.Evaluation.{Read, cell, names_along, variable}
 use Rattle.xp_outcome.specs.Slots.{in_slot}
 use Rattle.xp_meaning.specs.Evaluation.{Lets}
 use Rattle.xp_meaning_laws.specs.Agreeing.{SlotsAgree}
@@ -51,6 +51,7 @@ module _ (count : ℕ) where
 
   read-before : (slots : List (ℕ × ValueType)) (r : Read) → Each (Below count) slots → IsNamedRead slots r → IsBefore count r
   read-before slots (cell c) each named = tt
+  read-before slots (names_along axis n) each named = tt
   read-before slots (variable place) each named = place-below slots place each named
 
   pub reads-before : (slots : List (ℕ × ValueType)) (reads : List Read) → Each (Below count) slots → Each (IsNamedRead slots) reads →

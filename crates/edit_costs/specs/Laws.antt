@@ -5,7 +5,7 @@ use Rattle.doc_tree.specs.cell.Cell.{Cell}
 use Rattle.doc_tree.specs.Laws.{WellFormed}
 use Rattle.doc_tree.specs.Table.{Table, is_live}
 use Rattle.doc_edit_laws.specs.Along.{Edits}
-use Rattle.xp_outcome.specs.Evaluation.{Read, cell, variable}
+use Rattle.xp_outcome.specs.Evaluation.{Read, cell, names_along, variable}
 use Rattle.xp_outcome.specs.Slots.{in_slot}
 use Rattle.xp_values.specs.declared.values.EvalFault.{EvalFault}
 use Rattle.xp_values.specs.declared.values.Value.{Value}
@@ -31,6 +31,7 @@ pub record CleanUnitsStand : Type 0 where
 -- a let that is read stands in a slot before another
 abbrev pub IsBefore : ℕ → Read → Type 0
 IsBefore slot (cell c) = Unit {0}
+IsBefore slot (names_along axis n) = Unit {0}
 IsBefore slot (variable other) = other < slot
 
 -- a let in force of a sound plan depends on the lets before it alone, and reads none but these

@@ -7,22 +7,22 @@ use Rattle.doc_table.proofs.TreeLaws.{ordered, ways-up}
 use Rattle.doc_table.specs.inner.Sound.{Formed}
 use Rattle.doc_edits.specs.Fitting.{MayGain, MayTake}
 use Rattle.doc_iso_laws.specs.EditsMove.{AdditionsMove, ChangesMove}
-use Rattle.doc_tree.specs.Changes.{deleted, inserted, removed, said}
-use Rattle.doc_tree.specs.Edited.{attribute_name_at, attribute_set, attribute_unset, with_value, without_attribute}
+use Rattle.doc_tree.specs.Changes.{deleted, inserted, removed, renamed, said}
+use Rattle.doc_tree.specs.Edited.{attribute_name_at, attribute_renamed, attribute_set, attribute_unset, element_name_at, element_renamed, with_other_name, with_value, without_attribute}
 use Rattle.doc_tree.specs.InOrder.{OneTable}
 use Rattle.doc_tree.specs.Kinds.{is_document}
 use Rattle.doc_tree.specs.Laws.{HasWaysUp, WellFormed, WellFormedIsEnough}
 use Rattle.doc_tree.specs.NameTests.{attribute_meant}
 use Rattle.doc_tree.specs.Refusals.{setting_refusal}
 use Rattle.doc_tree.specs.SameTree.{SameTree}
-use Rattle.doc_tree.specs.Scope.{attribute_namespace, scope_at}
+use Rattle.doc_tree.specs.Scope.{attribute_namespace, namespace_in, scope_at}
 use Rattle.doc_tree.specs.Table.{Contents, Name, Table}
 use Rattle.doc_tree.proofs.AttributeLemmas.{found-member, may-gain, may-go}
 use Rattle.doc_tree.proofs.InsertLemmas.{may-take}
 use Rattle.name_scopes.specs.Fragments.{ScopedPiece}
 use Rattle.name_scopes.specs.QNames.{local_part, prefix_part}
 use Rattle.edit_script.specs.declared.command.Command.{Command}
-use Rattle.edit_script.specs.declared.command.Command.TheVariants.{Insert, Delete, SetText, SetAttr, UnsetAttr}
+use Rattle.edit_script.specs.declared.command.Command.TheVariants.{Insert, Delete, SetText, SetAttr, UnsetAttr, Rename, RenameAttr}
 use Rattle.edit_script.specs.declared.command.PathStep.{PathStep}
 use Rattle.edit_commands.specs.Commands.{EditedAt, IsEdited, command_refusal, insertion_refusal, path_of, refusal_at, refusal_where}
 use Rattle.edit_commands.specs.Paths.{node_named}
@@ -66,19 +66,25 @@ module _ (laws : WellFormedIsEnough) (one_table : OneTable) (changes : ChangesMo
       end A B (inserted T n (at - 1) there.piece) (inserted U (f n) (at - 1) there.piece) (here.is ∙ ap (inserted T n (at - 1)) is) there.is
       (additions.insertion f T U there.piece n (at - 1) form form-other there.well_formed r may may-other)
 
+  -- a QName is one name at both, and means one attribute
+  attribute-name : (n : ℕ) (prefix local : List ℕ) → attribute_name_at U (f n) prefix local ≡ attribute_name_at T n prefix local
+  attribute-name n prefix local =
+      ap (λ scope. record { prefix = prefix; local = local; uri = unwrap_or (attribute_namespace scope prefix) [] }) (paths.scope f T U n form form-other r)
+
+  element-name : (n : ℕ) (prefix local : List ℕ) → element_name_at U (f n) prefix local ≡ element_name_at T n prefix local
+  element-name n prefix local =
+      ap (λ scope. record { prefix = prefix; local = local; uri = unwrap_or (namespace_in scope prefix) [] }) (paths.scope f T U n form form-other r)
+
+  means : (n : ℕ) (prefix local : List ℕ) (o : Option ℕ) → attribute_meant T n prefix local ≡ o → attribute_meant U (f n) prefix local ≡ option_map f o
+  means n prefix local o e = paths.meant f T U n prefix local form form-other r ∙ ap (option_map f) e
+
   set-same : (n : ℕ) (prefix local value : List ℕ) → setting_refusal before n prefix local value ≡ None → setting_refusal other (f n) prefix local value ≡ None →
       SameTree (attribute_set T n prefix local value) (attribute_set U (f n) prefix local value)
   set-same n prefix local value free free-other = by (attribute_meant T n prefix local) refl
     where
-      name : attribute_name_at U (f n) prefix local ≡ attribute_name_at T n prefix local
-      name = ap (λ scope. record { prefix = prefix; local = local; uri = unwrap_or (attribute_namespace scope prefix) [] }) (paths.scope f T U n form form-other r)
-
-      there : (o : Option ℕ) → attribute_meant T n prefix local ≡ o → attribute_meant U (f n) prefix local ≡ option_map f o
-      there o e = paths.meant f T U n prefix local form form-other r ∙ ap (option_map f) e
-
       moved : (o : Option ℕ) → attribute_meant T n prefix local ≡ o →
           attribute_set U (f n) prefix local value ≡ with_value U (f n) (attribute_name_at T n prefix local) (option_map f o) value
-      moved o e = ap₂ (λ (k : Name) (q : Option ℕ). with_value U (f n) k q value) name (there o e)
+      moved o e = ap₂ (λ (k : Name) (q : Option ℕ). with_value U (f n) k q value) (attribute-name n prefix local) (means n prefix local o e)
 
       by : (o : Option ℕ) → attribute_meant T n prefix local ≡ o → SameTree (attribute_set T n prefix local value) (attribute_set U (f n) prefix local value)
       by None e =
@@ -86,7 +92,7 @@ module _ (laws : WellFormedIsEnough) (one_table : OneTable) (changes : ChangesMo
           (with_value U (f n) (attribute_name_at T n prefix local) None value)
           (ap (λ q. with_value T n (attribute_name_at T n prefix local) q value) e) (moved None e)
           (additions.gain f T U n (attribute_name_at T n prefix local) value form form-other r (may-gain before n prefix local value free e)
-          (subst (λ k. MayGain U (f n) k value) name (may-gain other (f n) prefix local value free-other (there None e))))
+          (subst (λ k. MayGain U (f n) k value) (attribute-name n prefix local) (may-gain other (f n) prefix local value free-other (means n prefix local None e))))
       by (Some a) e =
           end (attribute_set T n prefix local value) (attribute_set U (f n) prefix local value) (with_value T n (attribute_name_at T n prefix local) (Some a) value)
           (with_value U (f n) (attribute_name_at T n prefix local) (Some (f a)) value)
@@ -102,11 +108,40 @@ module _ (laws : WellFormedIsEnough) (one_table : OneTable) (changes : ChangesMo
       by : (o : Option ℕ) → attribute_meant T n prefix local ≡ o → SameTree (attribute_unset T n prefix local) (attribute_unset U (f n) prefix local)
       by None e =
           end (attribute_unset T n prefix local) (attribute_unset U (f n) prefix local) T U (ap (without_attribute T) e)
-          (ap (without_attribute U) (paths.meant f T U n prefix local form form-other r ∙ ap (option_map f) e)) alike
+          (ap (without_attribute U) (means n prefix local None e)) alike
       by (Some a) e =
           end (attribute_unset T n prefix local) (attribute_unset U (f n) prefix local) (removed T a) (removed U (f a)) (ap (without_attribute T) e)
-          (ap (without_attribute U) (paths.meant f T U n prefix local form form-other r ∙ ap (option_map f) e))
+          (ap (without_attribute U) (means n prefix local (Some a) e))
           (same f (removed T a) (removed U (f a)) (changes.removal f T U a form form-other r (may-go T form ways n a (found-member T n a prefix local e))))
+
+  renamed-same : (n : ℕ) (prefix local : List ℕ) → SameTree (element_renamed T n prefix local) (element_renamed U (f n) prefix local)
+  renamed-same n prefix local =
+      let name : Name = element_name_at T n prefix local in
+      end (element_renamed T n prefix local) (element_renamed U (f n) prefix local) (renamed T n name) (renamed U (f n) name)
+      refl (ap (renamed U (f n)) (element-name n prefix local))
+      (same f (renamed T n name) (renamed U (f n) name) (changes.renaming f T U n name form form-other r))
+
+  attribute-renamed-same : (n : ℕ) (old_prefix old_local prefix local : List ℕ) →
+      SameTree (attribute_renamed T n old_prefix old_local prefix local) (attribute_renamed U (f n) old_prefix old_local prefix local)
+  attribute-renamed-same n old_prefix old_local prefix local = by (attribute_meant T n old_prefix old_local) refl
+    where
+      name : Name
+      name = attribute_name_at T n prefix local
+
+      here : Table
+      here = attribute_renamed T n old_prefix old_local prefix local
+
+      there : Table
+      there = attribute_renamed U (f n) old_prefix old_local prefix local
+
+      by : (o : Option ℕ) → attribute_meant T n old_prefix old_local ≡ o → SameTree here there
+      by None e =
+          end here there T U (ap (λ o. with_other_name T o name) e)
+          (ap₂ (λ (k : Name) (o : Option ℕ). with_other_name U o k) (attribute-name n prefix local) (means n old_prefix old_local None e)) alike
+      by (Some a) e =
+          end here there (renamed T a name) (renamed U (f a) name) (ap (λ o. with_other_name T o name) e)
+          (ap₂ (λ (k : Name) (o : Option ℕ). with_other_name U o k) (attribute-name n prefix local) (means n old_prefix old_local (Some a) e))
+          (same f (renamed T a name) (renamed U (f a) name) (changes.renaming f T U a name form form-other r))
 
   command-same : (command : Command) (n : ℕ) → Both command n
   command-same (Insert path at events) n = insertion-same path at events n
@@ -120,6 +155,13 @@ module _ (laws : WellFormedIsEnough) (one_table : OneTable) (changes : ChangesMo
   command-same (UnsetAttr path name) n = λ A B free free-other here there.
       end A B (attribute_unset T n (prefix_part name) (local_part name)) (attribute_unset U (f n) (prefix_part name) (local_part name)) here there
       (unset-same n (prefix_part name) (local_part name))
+  command-same (Rename path name) n = λ A B free free-other here there.
+      end A B (element_renamed T n (prefix_part name) (local_part name)) (element_renamed U (f n) (prefix_part name) (local_part name)) here there
+      (renamed-same n (prefix_part name) (local_part name))
+  command-same (RenameAttr path old name) n = λ A B free free-other here there.
+      end A B (attribute_renamed T n (prefix_part old) (local_part old) (prefix_part name) (local_part name))
+      (attribute_renamed U (f n) (prefix_part old) (local_part old) (prefix_part name) (local_part name)) here there
+      (attribute-renamed-same n (prefix_part old) (local_part old) (prefix_part name) (local_part name))
 
   both-same : (command : Command) (A B : Table) → command_refusal before command ≡ None → command_refusal other command ≡ None → IsEdited T command A → IsEdited U command B → SameTree A B
   both-same command A B free free-other here there =

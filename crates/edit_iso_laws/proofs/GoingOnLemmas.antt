@@ -1,15 +1,15 @@
 -- Commands that were done on a tree are done on another that is the same.
-use Rattle.std.proofs.Common.{◌≡◌, ℕ, ◌+◌, ◌-◌, ◌≤◌, true, List, [], ◌∷◌, length, Option, None, Some, refl, sym, ap, ◌∙◌, arith, length-append}
+use Rattle.std.proofs.Common.{◌≡◌, ℕ, ◌+◌, ◌-◌, true, List, [], ◌∷◌, length, Option, None, Some, refl, sym, ap, ◌∙◌, arith, length-append}
 use Rattle.std.proofs.lemmas.List.Elements.{All-head, All-tail}
 use Rattle.doc_table.proofs.Appending.{holder-live}
 use Rattle.doc_table.proofs.Forests.{formed-of}
 use Rattle.doc_table.proofs.TreeLaws.{ordered}
-use Rattle.doc_edits.specs.Changes.{changed_at, Meeting, deleted, deleted_by, meeting, removed, removed_from, said, with_attribute, with_text}
+use Rattle.doc_edits.specs.Changes.{changed_at, Meeting, deleted, deleted_by, meeting, removed, removed_from, renamed, said, with_attribute, with_name, with_text}
 use Rattle.doc_edits.specs.Fitting.{MayTake}
 use Rattle.doc_edits.proofs.ClearLemmas.{cut-length}
 use Rattle.doc_edits.proofs.InsertionLemmas.{length-inserted}
 use Rattle.doc_edits.proofs.TableLemmas.{changed-length}
-use Rattle.doc_tree.specs.Edited.{attribute_name_at, with_value, without_attribute}
+use Rattle.doc_tree.specs.Edited.{attribute_name_at, element_name_at, with_other_name, with_value, without_attribute}
 use Rattle.doc_tree.specs.Kinds.{is_document}
 use Rattle.doc_tree.specs.Laws.{WellFormed}
 use Rattle.doc_tree.specs.NameTests.{attribute_meant}
@@ -20,7 +20,7 @@ use Rattle.name_scopes.specs.QNames.{local_part, prefix_part}
 use Rattle.name_scopes_laws.proofs.PieceSizes.{piece-nodes}
 use Rattle.edit_script.specs.WellFormed.{WellFormedCommand}
 use Rattle.edit_script.specs.declared.command.Command.{Command}
-use Rattle.edit_script.specs.declared.command.Command.TheVariants.{Insert, Delete, SetText, SetAttr, UnsetAttr}
+use Rattle.edit_script.specs.declared.command.Command.TheVariants.{Insert, Delete, SetText, SetAttr, UnsetAttr, Rename, RenameAttr}
 use Rattle.edit_commands.specs.Commands.{EditedAt, IsEdited, command_refusal, refusal_at, refusal_where}
 use Rattle.edit_command_laws.specs.SomeEdit.{EditsMakeTrees}
 use Rattle.edit_command_laws.specs.TreesKept.{EditsKeepTrees}
@@ -30,6 +30,9 @@ use Rattle.edit_iso_laws.proofs.CommandLemmas.{piece-may}
 -- no edit but one that adds makes numbers
 pub said-length : (T : Table) (n : ℕ) (new : List ℕ) → length (said T n new) ≡ length T
 said-length T n new = changed-length T n (with_text new)
+
+pub renamed-length : (T : Table) (n : ℕ) (name : Name) → length (renamed T n name) ≡ length T
+renamed-length T n name = changed-length T n (with_name name)
 
 pub removed-length : (T : Table) (n : ℕ) → length (removed T n) ≡ length T
 removed-length T n = by (parent_of T n)
@@ -56,6 +59,10 @@ unset-length : (T : Table) (o : Option ℕ) → length (without_attribute T o) �
 unset-length T None = refl
 unset-length T (Some a) = removed-length T a
 
+other-name-length : (T : Table) (o : Option ℕ) (name : Name) → length (with_other_name T o name) ≡ length T
+other-name-length T None name = refl
+other-name-length T (Some a) name = renamed-length T a name
+
 module _ (before : Contents) (form : WellFormed before.nodes) where
   at-length : (command : Command) (n : ℕ) (U : Table) → refusal_at before command n ≡ None → EditedAt before.nodes command n U → length U ≡ length before.nodes + numbers_made_at before.nodes command n
   at-length (Insert path at events) n U free edited =
@@ -77,6 +84,14 @@ module _ (before : Contents) (form : WellFormed before.nodes) where
       )
   at-length (UnsetAttr path name) n U free edited =
       omega (arith, ap length edited, unset-length before.nodes (attribute_meant before.nodes n (prefix_part name) (local_part name)))
+  at-length (Rename path name) n U free edited =
+      omega (arith, ap length edited, renamed-length before.nodes n (element_name_at before.nodes n (prefix_part name) (local_part name)))
+  at-length (RenameAttr path old name) n U free edited =
+      omega (
+        arith,
+        ap length edited,
+        other-name-length before.nodes (attribute_meant before.nodes n (prefix_part old) (local_part old)) (attribute_name_at before.nodes n (prefix_part name) (local_part name)),
+      )
 
   edited-length : (command : Command) (U : Table) → command_refusal before command ≡ None → IsEdited before.nodes command U → length U ≡ length before.nodes + numbers_made before.nodes command
   edited-length command U free edited =

@@ -18,14 +18,14 @@ use Rattle.doc_tree.specs.declared.refusal.EditRefusal.TheVariants.{WrongKind, N
 use Rattle.doc_tree.specs.limits.TheConstants.{MAX_LIVE_NODES, MAX_LIVE_TEXT_BYTES, MAX_NODE_NUMBERS}
 use Rattle.doc_tree.specs.NameTests.{attribute_meant}
 use Rattle.doc_tree.specs.Laws.{WellFormed}
-use Rattle.doc_tree.specs.Refusals.{absence_refusal, declares_namespace, deletion_refusal, has_own_text, is_beside_text, name_refusal, place_refusal, setting_refusal, text_refusal, unsetting_refusal, value_refusal}
+use Rattle.doc_tree.specs.Refusals.{absence_refusal, are_two, attribute_renaming_refusal, declares_namespace, deletion_refusal, has_own_text, is_beside_text, name_pair_refusal, name_refusal, place_refusal, renaming_refusal, setting_refusal, text_refusal, unsetting_refusal, value_refusal}
 use Rattle.doc_tree.specs.Scope.{Decl, attribute_namespace, scope_at, xmlns_prefix}
 use Rattle.doc_tree.specs.Table.{Contents, Table, is_root, kids_of, kind_at, kind_of, parent_of, value_at, value_of}
 use Rattle.doc_tree.specs.Walks.{above, ancestors, order, text_bytes}
 use Rattle.name_scopes.specs.Fragments.{event_nodes, is_too_deep, piece_refusal, plain_text, some_tag, tag_doubles, tag_lacks_prefix}
 use Rattle.name_scopes.specs.QNames.{local_part, prefix_part}
 use Rattle.edit_script.specs.declared.command.Command.{Command}
-use Rattle.edit_script.specs.declared.command.Command.TheVariants.{Insert, Delete, SetText, SetAttr, UnsetAttr}
+use Rattle.edit_script.specs.declared.command.Command.TheVariants.{Insert, Delete, SetText, SetAttr, UnsetAttr, Rename, RenameAttr}
 use Rattle.edit_commands.specs.Commands.{command_refusal, insertion_refusal, path_of, refusal_at, refusal_where, size_refusal, top_kind}
 use Rattle.edit_commands.specs.Paths.{node_named}
 use Rattle.edit_iso_laws.specs.CommandsMove.{NumbersMove, RefusalsMove, numbers_for_value, numbers_made, numbers_made_at, numbers_made_where}
@@ -122,6 +122,30 @@ name_by prefix local kind scope =
     else if declares_namespace prefix local then Some XmlnsName
     else None
 
+abbrev renaming_by : List ℕ → Option Kind → List Decl → Option EditRefusal
+renaming_by prefix kind scope =
+    if not (is_element kind) then Some WrongKind
+    else if not (bytes_eq prefix xmlns_prefix) && is_none (attribute_namespace scope prefix) then Some NoPrefix
+    else if bytes_eq prefix xmlns_prefix then Some XmlnsName
+    else None
+
+abbrev unbound_by : List ℕ → List Decl → Bool
+unbound_by prefix scope = not (bytes_eq prefix xmlns_prefix) && is_none (attribute_namespace scope prefix)
+
+-- and whether two attributes were found
+abbrev name_pair_by : List ℕ → List ℕ → List ℕ → List ℕ → Option Kind → List Decl → Bool → Option EditRefusal
+name_pair_by old_prefix old_local prefix local kind scope two =
+    if not (is_element kind) then Some WrongKind
+    else if unbound_by old_prefix scope || unbound_by prefix scope then Some NoPrefix
+    else if two then Some SameAttribute
+    else if declares_namespace old_prefix old_local || declares_namespace prefix local then Some XmlnsName
+    else None
+
+two-moved : (f : ℕ → ℕ) → ((a b : ℕ) → f a ≡ f b → a ≡ b) → (o p : Option ℕ) → are_two (option_map f o) (option_map f p) ≡ are_two o p
+two-moved f apart None p = refl
+two-moved f apart (Some a) None = refl
+two-moved f apart (Some a) (Some b) = ap not (eqb-moved f apart a b)
+
 abbrev piece_by : List Event → List Decl → ℕ → ℕ → Option EditRefusal
 piece_by events scope count depth =
     if some_tag tag_lacks_prefix (scope ∷ []) events then Some NoPrefix
@@ -133,6 +157,9 @@ piece_by events scope count depth =
 module _ (f : ℕ → ℕ) (T U : Table) (r : Renumbers f T U) (hangs : Hangs f T U) (scopes : (n : ℕ) → scope_at U (f n) ≡ scope_at T n) where
   name-same : (n : ℕ) (prefix local : List ℕ) → name_refusal U (f n) prefix local ≡ name_refusal T n prefix local
   name-same n prefix local = ap₂ (name_by prefix local) (ap kind_at (r.content n)) (scopes n)
+
+  renaming-same : (n : ℕ) (prefix : List ℕ) → renaming_refusal U (f n) prefix ≡ renaming_refusal T n prefix
+  renaming-same n prefix = ap₂ (renaming_by prefix) (ap kind_at (r.content n)) (scopes n)
 
   piece-same : (n : ℕ) (events : List Event) → piece_refusal U (f n) events ≡ piece_refusal T n events
   piece-same n events =
@@ -222,13 +249,31 @@ module _ (before other : Contents) (f : ℕ → ℕ) (r : Renumbers f before.nod
       (name-same f T U r hangs scopes n prefix local ∙ parts.0)
       (ap (λ found. value_refusal other found value) (meant n prefix local) ∙ value-free (attribute_meant T n prefix local) value parts.1 room)
 
+  absence-same : (found : Option ℕ) → absence_refusal (option_map f found) ≡ absence_refusal found
+  absence-same None = refl
+  absence-same (Some a) = refl
+
   unsetting-free : (n : ℕ) (prefix local : List ℕ) → unsetting_refusal T n prefix local ≡ None → unsetting_refusal U (f n) prefix local ≡ None
   unsetting-free n prefix local free =
-      ap₂ option_or (name-same f T U r hangs scopes n prefix local) (ap absence_refusal (meant n prefix local) ∙ by (attribute_meant T n prefix local)) ∙ free
+      ap₂ option_or (name-same f T U r hangs scopes n prefix local) (ap absence_refusal (meant n prefix local) ∙ absence-same (attribute_meant T n prefix local)) ∙ free
+
+  renaming-attribute-same : (n : ℕ) (old_prefix old_local prefix local : List ℕ) →
+      attribute_renaming_refusal U (f n) old_prefix old_local prefix local ≡ attribute_renaming_refusal T n old_prefix old_local prefix local
+  renaming-attribute-same n old_prefix old_local prefix local =
+      ap₂ option_or pair (ap absence_refusal (meant n old_prefix old_local) ∙ absence-same (attribute_meant T n old_prefix old_local))
     where
-      by : (o : Option ℕ) → absence_refusal (option_map f o) ≡ absence_refusal o
-      by None = refl
-      by (Some a) = refl
+      two : are_two (attribute_meant U (f n) old_prefix old_local) (attribute_meant U (f n) prefix local)
+          ≡ are_two (attribute_meant T n old_prefix old_local) (attribute_meant T n prefix local)
+      two =
+          ap₂ are_two (meant n old_prefix old_local) (meant n prefix local)
+          ∙ two-moved f r.apart (attribute_meant T n old_prefix old_local) (attribute_meant T n prefix local)
+
+      pair : name_pair_refusal U (f n) old_prefix old_local prefix local ≡ name_pair_refusal T n old_prefix old_local prefix local
+      pair =
+          ap₂ (λ (kind : Option Kind) (scope : List Decl).
+          name_pair_by old_prefix old_local prefix local kind scope (are_two (attribute_meant U (f n) old_prefix old_local) (attribute_meant U (f n) prefix local)))
+          (ap kind_at (r.content n)) (scopes n)
+          ∙ ap (name_pair_by old_prefix old_local prefix local (kind_of T n) (scope_at T n)) two
 
   at-free : (command : Command) (n : ℕ) → refusal_at before command n ≡ None → length U + numbers_made_at T command n ≤ MAX_NODE_NUMBERS → refusal_at other command (f n) ≡ None
   at-free (Insert path at events) n free room = insertion-free n at events free room
@@ -236,6 +281,8 @@ module _ (before other : Contents) (f : ℕ → ℕ) (r : Renumbers f before.nod
   at-free (SetText path text) n free room = text-same f T U r hangs.root n text ∙ free
   at-free (SetAttr path name value) n free room = setting-free n (prefix_part name) (local_part name) value free room
   at-free (UnsetAttr path name) n free room = unsetting-free n (prefix_part name) (local_part name) free
+  at-free (Rename path name) n free room = renaming-same f T U r hangs scopes n (prefix_part name) ∙ free
+  at-free (RenameAttr path old name) n free room = renaming-attribute-same n (prefix_part old) (local_part old) (prefix_part name) (local_part name) ∙ free
 
   command-free : (command : Command) → command_refusal before command ≡ None → length U + numbers_made T command ≤ MAX_NODE_NUMBERS → command_refusal other command ≡ None
   command-free command free room =
@@ -257,6 +304,8 @@ module _ (before other : Contents) (f : ℕ → ℕ) (r : Renumbers f before.nod
       by None = refl
       by (Some a) = refl
   at-numbers (UnsetAttr path name) n = refl
+  at-numbers (Rename path name) n = refl
+  at-numbers (RenameAttr path old name) n = refl
 
   command-numbers : (command : Command) → numbers_made U command ≡ numbers_made T command
   command-numbers command = ap (numbers_made_where U command) (paths.path f T U (path_of command) form form-other r) ∙ by (node_named T (path_of command))

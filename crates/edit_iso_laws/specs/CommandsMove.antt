@@ -9,7 +9,7 @@ use Rattle.doc_tree.specs.NameTests.{attribute_meant}
 use Rattle.name_scopes.specs.Fragments.{event_nodes}
 use Rattle.name_scopes.specs.QNames.{local_part, prefix_part}
 use Rattle.edit_script.specs.declared.command.Command.{Command}
-use Rattle.edit_script.specs.declared.command.Command.TheVariants.{Insert, Delete, SetText, SetAttr, UnsetAttr}
+use Rattle.edit_script.specs.declared.command.Command.TheVariants.{Insert, Delete, SetText, SetAttr, UnsetAttr, Rename, RenameAttr}
 use Rattle.edit_script.specs.WellFormed.{WellFormedCommand}
 use Rattle.edit_commands.specs.Commands.{IsEdited, command_refusal, path_of}
 use Rattle.edit_commands.specs.Paths.{node_named}
@@ -44,6 +44,8 @@ numbers_made_at T (Delete path) n = 0
 numbers_made_at T (SetText path text) n = 0
 numbers_made_at T (SetAttr path name value) n = numbers_for_value (attribute_meant T n (prefix_part name) (local_part name))
 numbers_made_at T (UnsetAttr path name) n = 0
+numbers_made_at T (Rename path name) n = 0
+numbers_made_at T (RenameAttr path old name) n = 0
 
 abbrev pub numbers_made_where : Table → Command → Option ℕ → ℕ
 numbers_made_where T command None = 0

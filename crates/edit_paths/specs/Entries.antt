@@ -11,7 +11,7 @@ use Rattle.doc_tree.specs.Walks.{below}
 use Rattle.name_scopes.specs.QNames.{local_part, prefix_part}
 use Rattle.subtree_events.specs.Events.{events_below}
 use Rattle.edit_script.specs.declared.command.Command.{Command}
-use Rattle.edit_script.specs.declared.command.Command.TheVariants.{Insert, Delete, SetText, SetAttr, UnsetAttr}
+use Rattle.edit_script.specs.declared.command.Command.TheVariants.{Insert, Delete, SetText, SetAttr, UnsetAttr, Rename, RenameAttr}
 use Rattle.edit_script.specs.declared.command.PathStep.{PathStep}
 use Rattle.edit_commands.specs.Commands.{path_of, top_kind}
 use Rattle.edit_commands.specs.Paths.{node_named}
@@ -63,6 +63,11 @@ unsetting_undone path T n None = []
 unsetting_undone path T n (Some a) =
     map (attribute_goes path T) (behind a (attrs_of T n)) ++ map (attribute_comes path T) (a ∷ behind a (attrs_of T n))
 
+-- an attribute that had another name has it again
+abbrev pub attribute_renaming_undone : List PathStep → List ℕ → Table → Option ℕ → List Command
+attribute_renaming_undone path name T None = []
+attribute_renaming_undone path name T (Some a) = RenameAttr path name (written_in (name_of T a)) ∷ []
+
 -- what takes back a command at its node
 abbrev pub undoing_at : Table → Command → ℕ → List Command
 undoing_at T (Insert path at piece) n = Delete (path ++ step_under T n at (top_kind piece)) ∷ []
@@ -70,6 +75,9 @@ undoing_at T (Delete path) n = deletion_undone (path_above path) T n (meeting T 
 undoing_at T (SetText path text) n = SetText path (value_of T n) ∷ []
 undoing_at T (SetAttr path name value) n = setting_undone path name T (attribute_meant T n (prefix_part name) (local_part name))
 undoing_at T (UnsetAttr path name) n = unsetting_undone path T n (attribute_meant T n (prefix_part name) (local_part name))
+undoing_at T (Rename path name) n = Rename path (written_in (name_of T n)) ∷ []
+undoing_at T (RenameAttr path old name) n =
+    attribute_renaming_undone path name T (attribute_meant T n (prefix_part old) (local_part old))
 
 abbrev pub undoing_where : Table → Command → Option ℕ → List Command
 undoing_where T command None = []
@@ -94,6 +102,8 @@ numbers_at T (Delete path) n = length (below T n) + numbers_met (meeting T n (ki
 numbers_at T (SetText path text) n = 0
 numbers_at T (SetAttr path name value) n = 0
 numbers_at T (UnsetAttr path name) n = numbers_behind T n (attribute_meant T n (prefix_part name) (local_part name))
+numbers_at T (Rename path name) n = 0
+numbers_at T (RenameAttr path old name) n = 0
 
 abbrev pub numbers_where : Table → Command → Option ℕ → ℕ
 numbers_where T command None = 0

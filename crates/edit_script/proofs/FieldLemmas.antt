@@ -25,6 +25,8 @@ two_by : (text front middle second back : List ℕ) → Parted is_space text fro
 two_by text front middle second back cut later some = record {
   insert = rw (cut.parts, later.parts, some.2) refl;
   unset = rw (cut.parts, later.parts, some.2) refl;
+  rename = rw (cut.parts, later.parts, some.2) refl;
+  rename_attr = λ first. rw (cut.parts, later.parts, some.2) refl;
 }
 
 pub two_more : (text front second : List ℕ) (found : Option (Bor (List ℕ) × Bor (List ℕ))) → Parted is_space text front second →

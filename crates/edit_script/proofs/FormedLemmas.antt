@@ -14,7 +14,7 @@ use Rattle.edit_script.specs.declared.command.Verb.{Verb}
 use Rattle.edit_script.specs.declared.command.Verb.TheVariants as verb
 use Rattle.edit_script.specs.declared.fault.ScriptKind.{ScriptKind}
 use Rattle.edit_script.specs.declared.fault.ScriptKind.TheVariants.{BadChar, BadWord}
-use Rattle.edit_script.specs.CommandLine.{command_line, delete_of, fields, if_name, insert_of, said_by, said_in, set_of, text_of, unset_of, value_behind_one, value_behind_two, verb_of, with_number, with_path}
+use Rattle.edit_script.specs.CommandLine.{command_line, delete_of, fields, if_name, if_names, insert_of, rename_attr_of, rename_of, said_by, said_in, set_of, text_of, unset_of, value_behind_one, value_behind_two, verb_of, with_number, with_path}
 use Rattle.edit_script.specs.Paths.{number_of, path_of}
 use Rattle.edit_script.specs.WellFormed.{IsName, IsPath, IsPlace, IsText, WellFormedCommand}
 use Rattle.edit_script.proofs.NumberLemmas.{IfPlace, number_made}
@@ -70,6 +70,18 @@ name_by name said false is rest = rw is tt
 name_then : (name : List ℕ) (said : Said) → of_chars name ≡ true → (IsName name → IsFormed said) → IfFormed (if_name name said)
 name_then name said made rest = name_by name said (is_qname name) refl (λ is. rest (and_from (of_chars name) (is_qname name) made is))
 
+names_by : (old name : List ℕ) (said : Said) (v w : Bool) → is_qname old ≡ v → is_qname name ≡ w →
+    (is_qname old ≡ true → is_qname name ≡ true → IsFormed said) → IfFormed (if_names old name said)
+names_by old name said true true is names rest = rw (is, names) (rest is names)
+names_by old name said true false is names rest = rw (is, names) tt
+names_by old name said false w is names rest = rw is tt
+
+names_then : (old name : List ℕ) (said : Said) → of_chars old ≡ true → of_chars name ≡ true → (IsName old → IsName name → IsFormed said) →
+    IfFormed (if_names old name said)
+names_then old name said old_made made rest =
+    names_by old name said (is_qname old) (is_qname name) refl refl
+    (λ is names. rest (and_from (of_chars old) (is_qname old) old_made is) (and_from (of_chars name) (is_qname name) made names))
+
 insert_formed : (fs : List (List ℕ)) → IfFormed (insert_of fs)
 insert_formed [] = tt
 insert_formed (path ∷ []) = tt
@@ -99,6 +111,22 @@ unset_formed (path ∷ name ∷ []) all =
     path_then (path_of path) _ (path_made path) (λ steps is. name_then name _ all.1.0 (λ named. (is, named)))
 unset_formed (path ∷ name ∷ other ∷ others) all = tt
 
+rename_formed : (fs : List (List ℕ)) → AllTexts fs → IfFormed (rename_of fs)
+rename_formed [] all = tt
+rename_formed (path ∷ []) all = tt
+rename_formed (path ∷ name ∷ []) all =
+    path_then (path_of path) _ (path_made path) (λ steps is. name_then name _ all.1.0 (λ named. (is, named)))
+rename_formed (path ∷ name ∷ other ∷ others) all = tt
+
+rename_attr_formed : (fs : List (List ℕ)) → AllTexts fs → IfFormed (rename_attr_of fs)
+rename_attr_formed [] all = tt
+rename_attr_formed (path ∷ []) all = tt
+rename_attr_formed (path ∷ old ∷ []) all = tt
+rename_attr_formed (path ∷ old ∷ name ∷ []) all =
+    path_then (path_of path) _ (path_made path)
+    (λ steps is. names_then old name _ all.1.0 all.1.1.0 (λ old_named named. (is, old_named, named)))
+rename_attr_formed (path ∷ old ∷ name ∷ other ∷ others) all = tt
+
 value_made : (text : List ℕ) → of_chars text ≡ true → IsText (value_behind_one text)
 value_made text made = unescaped_made (after_first is_space text) (parts_made text made).1
 
@@ -111,6 +139,8 @@ by_formed (Some verb.SetAttr) text made =
     set_formed (fields text) (value_behind_two text) (fields_made text made)
     (value_made (after_first is_space text) (parts_made text made).1)
 by_formed (Some verb.UnsetAttr) text made = unset_formed (fields text) (fields_made text made)
+by_formed (Some verb.Rename) text made = rename_formed (fields text) (fields_made text made)
+by_formed (Some verb.RenameAttr) text made = rename_attr_formed (fields text) (fields_made text made)
 
 in_formed : (line : List ℕ) (v : Bool) → of_chars line ≡ true → IfFormed (cond v (said_by (verb_of (before_first is_space line)) (after_first is_space line)) (Err BadWord))
 in_formed line true made = by_formed (verb_of (before_first is_space line)) (after_first is_space line) (parts_made line made).1

@@ -1,5 +1,5 @@
 -- What a command line says: a word, and fields behind it, which are parted by single spaces.
-use Rattle.std.specs.Prelude.{ℕ, if◌then◌else◌, List, [], ◌∷◌, Option, None, Some, Result, Ok, Err, codes}
+use Rattle.std.specs.Prelude.{ℕ, ◌&&◌, if◌then◌else◌, List, [], ◌∷◌, Option, None, Some, Result, Ok, Err, codes}
 use Rattle.std.specs.List.{list_any, before_first, after_first, slice_split}
 use Rattle.sch_base.specs.Named.{named}
 use Rattle.pyx_core.specs.Escapes.{unescaped}
@@ -22,6 +22,8 @@ verb_names = (codes "insert", verb.Insert)
     ∷ (codes "text", verb.SetText)
     ∷ (codes "set", verb.SetAttr)
     ∷ (codes "unset", verb.UnsetAttr)
+    ∷ (codes "rename", verb.Rename)
+    ∷ (codes "renameattr", verb.RenameAttr)
     ∷ []
 
 -- the command with a word; None where there is none
@@ -54,6 +56,10 @@ with_number None next = Err BadNumber
 abbrev pub if_name : List ℕ → Said → Result Said ScriptKind
 if_name name said = if is_qname name then Ok said else Err BadName
 
+-- what is said, where both names are QNames
+abbrev pub if_names : List ℕ → List ℕ → Said → Result Said ScriptKind
+if_names old name said = if is_qname old && is_qname name then Ok said else Err BadName
+
 -- `insert PATH K`
 abbrev pub insert_of : List (List ℕ) → Result Said ScriptKind
 insert_of (path ∷ number ∷ []) = with_path (path_of path) (λ steps. with_number (number_of number) (λ at. Ok (Opening steps at)))
@@ -80,6 +86,17 @@ abbrev pub unset_of : List (List ℕ) → Result Said ScriptKind
 unset_of (path ∷ name ∷ []) = with_path (path_of path) (λ steps. if_name name (Whole (command.UnsetAttr steps name)))
 unset_of others = Err BadWord
 
+-- `rename PATH QNAME`
+abbrev pub rename_of : List (List ℕ) → Result Said ScriptKind
+rename_of (path ∷ name ∷ []) = with_path (path_of path) (λ steps. if_name name (Whole (command.Rename steps name)))
+rename_of others = Err BadWord
+
+-- `renameattr PATH QNAME QNAME`
+abbrev pub rename_attr_of : List (List ℕ) → Result Said ScriptKind
+rename_attr_of (path ∷ old ∷ name ∷ []) =
+    with_path (path_of path) (λ steps. if_names old name (Whole (command.RenameAttr steps old name)))
+rename_attr_of others = Err BadWord
+
 -- what a word says with the text behind the space after it
 abbrev pub said_by : Option Verb → List ℕ → Result Said ScriptKind
 said_by (Some verb.Insert) text = insert_of (fields text)
@@ -87,6 +104,8 @@ said_by (Some verb.Delete) text = delete_of (fields text)
 said_by (Some verb.SetText) text = text_of (fields text) (value_behind_one text)
 said_by (Some verb.SetAttr) text = set_of (fields text) (value_behind_two text)
 said_by (Some verb.UnsetAttr) text = unset_of (fields text)
+said_by (Some verb.Rename) text = rename_of (fields text)
+said_by (Some verb.RenameAttr) text = rename_attr_of (fields text)
 said_by None text = Err BadWord
 
 -- what a line of Chars says: each command has a word and a field behind it

@@ -6,7 +6,7 @@ use Rattle.doc_tree.specs.kind.Kind.{Kind}
 use Rattle.doc_tree.specs.kind.Kind.TheVariants as kinds
 use Rattle.name_scopes.specs.Fragments.{IsFragment, names_fault, plain_text}
 use Rattle.edit_script.specs.declared.command.Command.{Command}
-use Rattle.edit_script.specs.declared.command.Command.TheVariants.{Insert, Delete, SetText, SetAttr, UnsetAttr}
+use Rattle.edit_script.specs.declared.command.Command.TheVariants.{Insert, Delete, SetText, SetAttr, UnsetAttr, Rename, RenameAttr}
 use Rattle.edit_script.specs.declared.command.PathStep.{PathStep}
 use Rattle.edit_script.specs.declared.limits.TheConstants.{MAX_PLACE, MAX_SCRIPT_BYTES}
 
@@ -54,3 +54,5 @@ WellFormedCommand (Delete path) = IsPath path
 WellFormedCommand (SetText path text) = IsPath path × IsText text
 WellFormedCommand (SetAttr path name value) = IsPath path × IsName name × IsText value
 WellFormedCommand (UnsetAttr path name) = IsPath path × IsName name
+WellFormedCommand (Rename path name) = IsPath path × IsName name
+WellFormedCommand (RenameAttr path old name) = IsPath path × IsName old × IsName name

@@ -45,6 +45,17 @@ pub enum Command {
         path: Path,
         name: Text,
     },
+    /// The element gets the QName as its name.
+    Rename {
+        path: Path,
+        name: Text,
+    },
+    /// The attribute with the QName `old` gets `name` as its name.
+    RenameAttr {
+        path: Path,
+        old: Text,
+        name: Text,
+    },
 }
 
 /// The first word of a command line.
@@ -55,6 +66,8 @@ pub enum Verb {
     SetText,
     SetAttr,
     UnsetAttr,
+    Rename,
+    RenameAttr,
 }
 
 /// What a command line says.

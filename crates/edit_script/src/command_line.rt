@@ -6,10 +6,10 @@ ghost use Rattle.std.specs.Str.{chars, is_utf8};
 ghost use Rattle.sch_base.specs.Characters.{is_xml_char};
 ghost use Rattle.pyx_core.specs.Escapes.{unescaped};
 ghost use Rattle.pyx_core.specs.Nesting.{of_chars};
-ghost use Rattle.edit_script.specs.CommandLine.{command_line, delete_of, fields, if_name, insert_of, said_by, set_of, text_of, unset_of, value_behind_one, value_behind_two};
-ghost use Rattle.edit_script.specs.declared.command.Command.TheVariants.{SetAttr};
+ghost use Rattle.edit_script.specs.CommandLine.{command_line, delete_of, fields, if_name, if_names, insert_of, rename_attr_of, rename_of, said_by, set_of, text_of, unset_of, value_behind_one, value_behind_two};
+ghost use Rattle.edit_script.specs.declared.command.Command.TheVariants.{RenameAttr, SetAttr};
 ghost use Rattle.edit_script.specs.declared.command.Said.TheVariants.{Whole};
-ghost use Rattle.edit_script.specs.inner.Fields.{IsNotTwo, StartsWith};
+ghost use Rattle.edit_script.specs.inner.Fields.{IsNotThree, IsNotTwo, StartsWith};
 
 use crate::ScriptKind;
 use crate::command::{Command, Path, Said, Verb};
@@ -76,6 +76,8 @@ fn said_by(alloc: Global, verb: Verb, text: &str) -> Result<Result<Said, ScriptK
         Verb::SetText => read_text(alloc, text),
         Verb::SetAttr => read_set(alloc, text),
         Verb::UnsetAttr => read_unset(alloc, text),
+        Verb::Rename => read_rename(alloc, text),
+        Verb::RenameAttr => read_rename_attr(alloc, text),
     }
 }
 
@@ -88,6 +90,15 @@ fn two_fields(text: &str) -> Option<(&str, &str)>
         return None;
     }
     Some((first, second))
+}
+
+/// The three fields of a text; None where there are fewer or more.
+fn three_fields(text: &str) -> Option<(&str, &str, &str)>
+    ensures { MatchOption result (IsNotThree text.now) (λ three. fields text.now ≡ three.0.now ∷ (three.1.now ∷ (three.2.now ∷ []))) }
+{
+    let (first, behind) = split_space(text)?;
+    let (second, third) = two_fields(behind)?;
+    Some((first, second, third))
 }
 
 fn read_insert(alloc: Global, text: &str) -> Result<Result<Said, ScriptKind>, AllocError>
@@ -205,4 +216,68 @@ fn read_unset(alloc: Global, text: &str) -> Result<Result<Said, ScriptKind>, All
     Ok(Ok(Said::Whole {
         command: Command::UnsetAttr { path, name },
     }))
+}
+
+fn read_rename(alloc: Global, text: &str) -> Result<Result<Said, ScriptKind>, AllocError>
+    ensures { IfOk result (λ said. said ≡ rename_of (fields text.now)) }
+{
+    let Some((path, name)) = two_fields(text) else {
+        return Ok(Err(ScriptKind::BadWord));
+    };
+    let Some(path) = read_path(alloc, path)? else {
+        return Ok(Err(ScriptKind::BadPath));
+    };
+    if !is_qname(name) {
+        return Ok(Err(ScriptKind::BadName));
+    }
+    let name = Text::copy(alloc, name)?;
+    Ok(Ok(Said::Whole {
+        command: Command::Rename { path, name },
+    }))
+}
+
+fn read_rename_attr(alloc: Global, text: &str) -> Result<Result<Said, ScriptKind>, AllocError>
+    ensures { IfOk result (λ said. said ≡ rename_attr_of (fields text.now)) }
+{
+    let Some((path, old, name)) = three_fields(text) else {
+        return Ok(Err(ScriptKind::BadWord));
+    };
+    match read_path(alloc, path)? {
+        Some(path) => rename_attr_at(alloc, path, old, name),
+        None => Ok(Err(ScriptKind::BadPath)),
+    }
+}
+
+/// The command that gives an attribute, by its name, another name.
+fn rename_attr_at(
+    alloc: Global,
+    path: Path,
+    old: &str,
+    name: &str,
+) -> Result<Result<Said, ScriptKind>, AllocError>
+    ensures { IfOk result (λ said. said ≡ if_names old.now name.now (Whole (RenameAttr path old.now name.now))) }
+{
+    if !is_qname(old) || !is_qname(name) {
+        drop(path);
+        return Ok(Err(ScriptKind::BadName));
+    }
+    match copy_names(alloc, old, name) {
+        Ok((old, name)) => Ok(Ok(Said::Whole {
+            command: Command::RenameAttr { path, old, name },
+        })),
+        Err(error) => {
+            drop(path);
+            Err(error)
+        }
+    }
+}
+
+/// Two names, copied.
+fn copy_names(alloc: Global, old: &str, name: &str) -> Result<(Text, Text), AllocError>
+    ensures old { IfOk result (λ both. both.0 ≡ old.now) }
+    ensures name { IfOk result (λ both. both.1 ≡ name.now) }
+{
+    let old = Text::copy(alloc, old)?;
+    let name = Text::copy(alloc, name)?;
+    Ok((old, name))
 }

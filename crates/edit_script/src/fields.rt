@@ -29,6 +29,8 @@ pub(crate) fn verb_of(word: &str) -> Option<Verb>
         "text" => Some(Verb::SetText),
         "set" => Some(Verb::SetAttr),
         "unset" => Some(Verb::UnsetAttr),
+        "rename" => Some(Verb::Rename),
+        "renameattr" => Some(Verb::RenameAttr),
         _ => None,
     }
 }

@@ -7,16 +7,17 @@ use Rattle.xp_outcome.specs.Recorded.{Recorded}
 use Rattle.sch_compiled.specs.declared.plan.Plan.{Plan}
 use Rattle.sch_units.specs.Units.{lets_of}
 use Rattle.edit_costs.specs.Units.{ValidationUnit, under, units_of}
-use Rattle.cover_laws.specs.Covering.{has_touched}
+use Rattle.cover_laws.specs.Covering.{holds_touched}
 use Rattle.kept_state.specs.Kept.{Kept}
 use Rattle.kept_state.specs.Running.{is_run, to_run}
 use Rattle.kept_state.specs.Steps.{differs, unless_changed, unless_touched}
 use Rattle.edit_session.specs.Laws.{StaleAfterEdit, keeps_touched}
 
--- what a touched cell is among is stale
-stale-touched : (touched : Cell → Bool) (entry : Option Recorded) → is_none (unless_touched touched entry) ≡ (is_none entry || keeps_touched touched entry)
-stale-touched touched None = refl
-stale-touched touched (Some held) = by (has_touched touched held.cells)
+-- what something touched is among is stale
+stale-touched : (T : Table) (touched : Cell → Bool) (entry : Option Recorded) →
+    is_none (unless_touched T touched entry) ≡ (is_none entry || keeps_touched T touched entry)
+stale-touched T touched None = refl
+stale-touched T touched (Some held) = by (holds_touched T touched held)
   where
     by : (b : Bool) → is_none (if b then None else Some held) ≡ b
     by true = refl
@@ -24,9 +25,9 @@ stale-touched touched (Some held) = by (has_touched touched held.cells)
 
 pub stale-after : StaleAfterEdit
 stale-after = record {
-  touched = λ touched old new unit marks. ap is_none (marks.reads unit) ∙ stale-touched touched (old.reads unit);
+  touched = λ T touched old new unit marks. ap is_none (marks.reads unit) ∙ stale-touched T touched (old.reads unit);
   new = λ plan T touched old new p n keeps marks past.
-      ap is_none (marks.reads (under p n) ∙ ap (unless_touched touched) (keeps.new p n past));
+      ap is_none (marks.reads (under p n) ∙ ap (unless_touched T touched) (keeps.new p n past));
 }
 
 -- all units are to be run where nothing is kept

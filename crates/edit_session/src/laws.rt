@@ -8,7 +8,7 @@ pub fn pair_cap_is_for_pairs()
     ensures { CapIsForPairs }
 {}
 
-/// After an edit those units are stale that were so before, of which a kept cell is touched, or that are new.
+/// After an edit those units are stale that were so before, of which something that is kept is touched, or that are new.
 pub fn stale_after_edit()
     ensures { StaleAfterEdit }
 {}

@@ -27,6 +27,7 @@ use crate::laws::pair_cap_is_for_pairs;
 use crate::pairs::{has_too_many_pairs, pair_cap_for};
 use crate::refusal::OpenRefusal;
 use crate::state::{ReportError, Shown, write_outcomes};
+use cover_laws::names_are_touched_alike;
 use doc_tree::Tree;
 use edit_cap_laws::edits_stay_within;
 use edit_commands::{ApplyError, apply_to};
@@ -138,7 +139,8 @@ impl Session {
     /// Does a command of an edit script on the document, and marks the units that it touches as stale.
     ///
     /// A refused command changes nothing, nor does one that finds no memory; marking takes none. Costs what the edit of the tree
-    /// costs, and a look at what those units read that read a touched cell.
+    /// costs, and a look at what those units read that read something touched. Another name also costs a look at the siblings, and
+    /// at each node that was made where a unit read names along `following` or `preceding`.
     pub fn apply(&mut self, command: &Command) -> Result<(), ApplyError>
         requires formed { WellFormedCommand command.now }
         ensures within { OnOk result (command_refusal self.old.tree command.now ≡ None) }
@@ -147,7 +149,7 @@ impl Session {
         ensures dirty { OnOk result (IsFresh self.old.plan self.old.tree.nodes (seen_by self.old) →
             to_run self.old.plan self.new.tree.nodes (seen_by self.new) ≡
             dirty_units self.old.plan self.old.tree.nodes self.new.tree.nodes (touched_by self.old.tree.nodes command.now)) }
-        ensures marked { OnOk result (Marks (touched_by self.old.tree.nodes command.now) (seen_by self.old) (seen_by self.new)) }
+        ensures marked { OnOk result (Marks self.old.tree.nodes (touched_by self.old.tree.nodes command.now) (seen_by self.old) (seen_by self.new)) }
         ensures scope { InScope self.old.tree.nodes → InScope self.new.tree.nodes }
         ensures document { is_document self.new.tree.nodes ≡ true }
         ensures refused { IfErr result (RefusesCommand self.old.tree command.now) }
@@ -158,6 +160,7 @@ impl Session {
         edits_keep();
         edits_stay_within();
         dirty_are_run();
+        names_are_touched_alike();
         self.tree.laws();
         match apply_to(self.alloc, &mut self.tree, command) {
             Ok(touched) => {

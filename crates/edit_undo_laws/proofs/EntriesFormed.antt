@@ -23,6 +23,7 @@ use Rattle.doc_tree.specs.Laws.{WellFormed}
 use Rattle.doc_tree.specs.Lists.{place_in}
 use Rattle.doc_tree.specs.NameTests.{attribute_meant}
 use Rattle.doc_tree.specs.QNames.{written_in}
+use Rattle.doc_tree.specs.Refusals.{renaming_refusal}
 use Rattle.doc_tree.specs.Scope.{Decl, scope_at}
 use Rattle.doc_tree.specs.Table.{Content, Contents, Table, root, element, attribute, text, comment, instruction, attrs_of, content_of, is_root, kids_above, kids_of, kind_of, name_of, parent_of, value_at, value_of}
 use Rattle.doc_tree.specs.Walks.{below, text_bytes}
@@ -34,18 +35,19 @@ use Rattle.name_scopes.proofs.ItemNames.{spelled}
 use Rattle.subtree_events.specs.Events.{events_below}
 use Rattle.subtree_events.specs.Subtrees.{IsSubtree, SubtreesAreFragments}
 use Rattle.edit_script.specs.declared.command.Command.{Command}
-use Rattle.edit_script.specs.declared.command.Command.TheVariants.{Insert, Delete, SetText, SetAttr, UnsetAttr}
+use Rattle.edit_script.specs.declared.command.Command.TheVariants.{Insert, Delete, SetText, SetAttr, UnsetAttr, Rename, RenameAttr}
 use Rattle.edit_script.specs.declared.command.PathStep.{PathStep}
 use Rattle.edit_script.specs.declared.limits.TheConstants.{MAX_PLACE}
 use Rattle.edit_script.specs.WellFormed.{IsName, IsPath, IsPlace, IsStep, WellFormedCommand, is_kid}
 use Rattle.edit_commands.specs.Commands.{path_of, refusal_at, refusal_where, top_kind}
 use Rattle.edit_commands.specs.Paths.{kids_of_kind, node_named}
 use Rattle.edit_paths.specs.PathTo.{step_to}
-use Rattle.edit_paths.specs.Entries.{attribute_comes, attribute_goes, behind, comes_again, deletion_undone, path_above, place_of, setting_undone, step_under, undoing_at, undoing_where, unsetting_undone}
+use Rattle.edit_paths.specs.Entries.{attribute_comes, attribute_goes, attribute_renaming_undone, behind, comes_again, deletion_undone, path_above, place_of, setting_undone, step_under, undoing_at, undoing_where, unsetting_undone}
 use Rattle.edit_paths.proofs.LeadingLemmas.{few-listed, filter-short}
 use Rattle.edit_undo_laws.specs.Undoing.{UndoingsAreFormed}
 use Rattle.edit_undo_laws.proofs.DeletingUndone.{kid-live}
 use Rattle.edit_undo_laws.proofs.OwnAttributes.{IsOwn, own, pair_of, split-placed}
+use Rattle.edit_undo_laws.proofs.RenamingUndone.{IsCalled, called, renamed-element}
 
 -- what holds of each of a list
 all-none : {X : Type 0} (P : X → Type 0) → All P []
@@ -182,6 +184,20 @@ module _ (splits : QNamesSplit) (fragments : SubtreesAreFragments) (before : Con
       (all-of WellFormedCommand (attribute_goes path T) (behind a (attrs_of T n)) (λ b h. (formed, written-formed n b (among b (omega (arith, h))))))
       (all-of WellFormedCommand (attribute_comes path T) (a ∷ behind a (attrs_of T n)) (λ b h. (formed, written-formed n b (among b h), value-made T scoped b)))
 
+  called-formed : (n : ℕ) (prefix : List ℕ) → renaming_refusal T n prefix ≡ None → IsName (written_in (name_of T n))
+  called-formed n prefix free =
+      let old : IsCalled (scope_at T n) (name_of T n) = called T n scoped (renamed-element T n prefix free) in
+      subst (λ o. IsName (written_in o)) (sym old.is) (spelled splits old.name old.qualified).named
+
+  attribute-renaming-formed : (path : List PathStep) (name : List ℕ) (n : ℕ) → IsPath path → IsName name → (o : Option ℕ) →
+      ((a : ℕ) → o ≡ Some a → In a (attrs_of T n)) → All WellFormedCommand (attribute_renaming_undone path name T o)
+  attribute-renaming-formed path name n formed is None found = all-none WellFormedCommand
+  attribute-renaming-formed path name n formed is (Some a) found =
+      all-one WellFormedCommand (RenameAttr path name (written_in (name_of T a))) (formed, is, written-formed n a (found a refl))
+
+  meant-among : (n : ℕ) (name : List ℕ) (a : ℕ) → attribute_meant T n (prefix_part name) (local_part name) ≡ Some a → In a (attrs_of T n)
+  meant-among n name a e = mem-In a (attrs_of T n) (found-member T n a (prefix_part name) (local_part name) e)
+
   formed-at : (command : Command) (n : ℕ) → WellFormedCommand command → refusal_at before command n ≡ None → All WellFormedCommand (undoing_at T command n)
   formed-at (Insert path at piece) n well free =
       all-one WellFormedCommand (Delete (path ++ step_under T n at (top_kind piece)))
@@ -196,8 +212,11 @@ module _ (splits : QNamesSplit) (fragments : SubtreesAreFragments) (before : Con
   formed-at (SetText path new) n well free = all-one WellFormedCommand (SetText path (value_of T n)) (well.0, value-made T scoped n)
   formed-at (SetAttr path name value) n well free = setting-formed path name well.0 well.1 (attribute_meant T n (prefix_part name) (local_part name))
   formed-at (UnsetAttr path name) n well free =
-      unsetting-formed path n well.0 (attribute_meant T n (prefix_part name) (local_part name))
-      (λ a e. mem-In a (attrs_of T n) (found-member T n a (prefix_part name) (local_part name) e))
+      unsetting-formed path n well.0 (attribute_meant T n (prefix_part name) (local_part name)) (meant-among n name)
+  formed-at (Rename path name) n well free =
+      all-one WellFormedCommand (Rename path (written_in (name_of T n))) (well.0, called-formed n (prefix_part name) free)
+  formed-at (RenameAttr path old name) n well free =
+      attribute-renaming-formed path name n well.0 well.2 (attribute_meant T n (prefix_part old) (local_part old)) (meant-among n old)
 
   formed-where : (command : Command) (o : Option ℕ) → WellFormedCommand command → refusal_where before command o ≡ None → All WellFormedCommand (undoing_where T command o)
   formed-where command None well free = all-none WellFormedCommand

@@ -9,6 +9,8 @@ pub mod OwnAttributes
 pub mod LosingAttributes
 pub mod GainingAttributes
 pub mod UnsettingUndone
+pub mod RenamingUndone
+pub mod AttributeRenamingUndone
 pub mod SubtreeComes
 pub mod DeletingUndone
 pub mod EntriesFormed

@@ -10,7 +10,7 @@ use Rattle.doc_tree.specs.Walks.{order}
 use Rattle.doc_tree.specs.limits.TheConstants.{MAX_NODE_NUMBERS}
 use Rattle.name_scopes.specs.Scoping.{InScope}
 use Rattle.edit_script.specs.declared.command.Command.{Command}
-use Rattle.edit_script.specs.declared.command.Command.TheVariants.{Insert, Delete, SetText, SetAttr, UnsetAttr}
+use Rattle.edit_script.specs.declared.command.Command.TheVariants.{Insert, Delete, SetText, SetAttr, UnsetAttr, Rename, RenameAttr}
 use Rattle.edit_script.specs.declared.command.PathStep.{PathStep}
 use Rattle.edit_script.specs.WellFormed.{WellFormedCommand}
 use Rattle.edit_commands.specs.Commands.{IsEdited, command_refusal}
@@ -51,6 +51,18 @@ UnsettingsAreUndone = (before after : Contents) (path : List PathStep) (name : L
     length (order before.nodes) ≤ before.pair_cap → node_named before.nodes path ≡ Some n →
     command_refusal before (UnsetAttr path name) ≡ None → IsEdited before.nodes (UnsetAttr path name) after.nodes → after.pair_cap ≡ before.pair_cap →
     length after.nodes + undoing_numbers before.nodes (UnsetAttr path name) ≤ MAX_NODE_NUMBERS → IsUndone before after (UnsetAttr path name)
+
+-- an element that was renamed has its own name again
+abbrev pub RenamesAreUndone : Type 0
+RenamesAreUndone = (before after : Contents) (path : List PathStep) (name : List ℕ) (n : ℕ) → WellFormed before.nodes → InScope before.nodes →
+    node_named before.nodes path ≡ Some n → command_refusal before (Rename path name) ≡ None → IsEdited before.nodes (Rename path name) after.nodes →
+    IsUndone before after (Rename path name)
+
+-- and so has an attribute
+abbrev pub AttributeRenamesAreUndone : Type 0
+AttributeRenamesAreUndone = (before after : Contents) (path : List PathStep) (old name : List ℕ) (n : ℕ) → WellFormed before.nodes →
+    InScope before.nodes → node_named before.nodes path ≡ Some n → command_refusal before (RenameAttr path old name) ≡ None →
+    IsEdited before.nodes (RenameAttr path old name) after.nodes → IsUndone before after (RenameAttr path old name)
 
 -- a node that was deleted comes again with all below it, where no two texts met and enough numbers are left
 abbrev pub LoneDeletionsAreUndone : Type 0

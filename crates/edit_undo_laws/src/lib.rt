@@ -2,10 +2,12 @@
 #![tactic(auto)]
 
 ghost use Rattle.edit_undo_laws.specs.Undoing.{
+  AttributeRenamesAreUndone,
   CommandsAreUndone,
   InsertsAreUndone,
   LoneDeletionsAreUndone,
   MergingDeletionsAreUndone,
+  RenamesAreUndone,
   SettingsAreUndone,
   TextsAreUndone,
   UndoingsAreFormed,
@@ -47,6 +49,20 @@ pub fn unsettings_are_undone()
     qnames_split();
 }
 
+/// The element has its own name again.
+pub fn renames_are_undone()
+    ensures { RenamesAreUndone }
+{
+    qnames_split();
+}
+
+/// The attribute has its own name again.
+pub fn attribute_renames_are_undone()
+    ensures { AttributeRenamesAreUndone }
+{
+    qnames_split();
+}
+
 /// The node comes again with all below it, where no two texts met.
 pub fn lone_deletions_are_undone()
     ensures { LoneDeletionsAreUndone }
@@ -77,6 +93,8 @@ pub fn commands_are_undone()
     texts_are_undone();
     settings_are_undone();
     unsettings_are_undone();
+    renames_are_undone();
+    attribute_renames_are_undone();
     lone_deletions_are_undone();
     merging_deletions_are_undone();
 }

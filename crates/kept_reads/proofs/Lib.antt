@@ -4,3 +4,4 @@ pub mod DroppingLemmas
 pub mod TouchedLemmas
 pub mod CountingLemmas
 pub mod ForgettingLemmas
+pub mod NamingLemmas

@@ -1,17 +1,19 @@
 -- What is kept of what units read, place by place, and which rows may have a stale unit.
 use Rattle.std.specs.FinSet.{contains, from_list}
 use Rattle.std.specs.Prelude.{ℕ, ◌/◌, Bool, true, false, List, Option, None, Some, count_by, is_some, slice_index_or}
-use Rattle.doc_tree.specs.cell.Cell.{Cell}
+use Rattle.xp_outcome.specs.Evaluation.{Read, cell, names_along, variable}
 use Rattle.xp_outcome.specs.Recorded.{LetSet, Recorded}
 
 -- what stands at a place of a list, nothing past its end
 abbrev pub reads_at : List (Option Recorded) → ℕ → Option Recorded
 reads_at entries place = slice_index_or entries place None
 
--- whether a unit has read a cell, as far as is kept
-abbrev pub has_cell : Option Recorded → Cell → Bool
-has_cell None c = false
-has_cell (Some held) c = contains held.cells c
+-- whether a unit has read a cell, or the names along an axis from a node, as far as is kept
+abbrev pub has_kept : Option Recorded → Read → Bool
+has_kept None r = false
+has_kept (Some held) (cell c) = contains held.cells c
+has_kept (Some held) (names_along axis n) = contains held.names (record { axis = axis; node = n })
+has_kept (Some held) (variable slot) = false
 
 -- of how many units something is kept
 abbrev pub kept_count : List (Option Recorded) → ℕ

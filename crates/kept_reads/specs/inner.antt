@@ -1,4 +1,5 @@
 pub mod Dropping
+pub mod Naming
 pub mod Entries
 pub mod Forgetting
 pub mod LetsRead

@@ -1,25 +1,29 @@
-//! What each unit read when it was last evaluated: its cells in an index, and its lets.
+//! What each unit read when it was last evaluated: its cells and names along axes in an index, and its lets.
 
 ghost use Rattle.std.specs.Option.{option_copied};
 ghost use Rattle.std.specs.Prelude.{◌≡◌, ◌<◌, ◌≤◌, ℕ, true, false, [], None, Some, is_none, length, slice_set, IfNone, IfSome, OnErr, OnOk, OnSome};
-ghost use Rattle.kept_reads.specs.Reads.{has_cell, kept_count, lets_kept, lets_told, reads_at};
+ghost use Rattle.std.specs.Bool.{OnFalse};
+ghost use Rattle.doc_tree.specs.declared.axes.Axis.{Axis};
+ghost use Rattle.xp_outcome.specs.Evaluation.{cell as of_cell, names_along};
+ghost use Rattle.read_index.specs.Names.{is_far};
+ghost use Rattle.kept_reads.specs.Reads.{has_kept, kept_count, lets_kept, lets_told, reads_at};
 ghost use Rattle.kept_reads.specs.inner.Entries.{kept_of};
 ghost use Rattle.kept_reads.specs.inner.LetsRead.{slots_of};
 
 use crate::lets_read::{LetsRead, reach, set, slots_at};
-use cell_index::CellIndex;
 use doc_tree::Cell;
+use read_index::ReadIndex;
 use std::alloc::{AllocError, Global};
 use std::marker::Model;
-use xp_outcome::Recorder;
+use xp_outcome::{NamesAlong, Recorder};
 
-/// How many cells are kept as they come.
-const FEW_CELLS: usize = 3;
+/// How many cells, or names along axes, are kept as they come.
+const FEW: usize = 3;
 
 /// What units read when they were last evaluated, each at its place, seen by contracts as that list; None where a unit is stale.
 #[derive(Drop)]
 pub struct Entries {
-    index: CellIndex,
+    index: ReadIndex,
     lets: Vec<LetsRead>,
 }
 
@@ -46,7 +50,7 @@ impl Entries {
         ensures { result ≡ [] }
     {
         Entries {
-            index: CellIndex::new(alloc),
+            index: ReadIndex::new(alloc),
             lets: Vec::new(alloc),
         }
     }
@@ -90,7 +94,7 @@ impl Entries {
         settle_many(&mut reads);
         let slots = reads.lets();
         let lets = LetsRead::of(alloc, slots)?;
-        self.keep(place, reads.cells(), lets)
+        self.keep(alloc, place, reads.cells(), reads.names(), lets)
     }
 
     /// Forgets what the unit at a place read: it is stale. Takes no memory.
@@ -102,24 +106,31 @@ impl Entries {
     }
 
     /// Keeps what a stale unit read.
-    fn keep(&mut self, place: usize, cells: &[Cell], lets: LetsRead) -> Result<(), AllocError>
+    fn keep(
+        &mut self,
+        alloc: Global,
+        place: usize,
+        cells: &[Cell],
+        names: &[NamesAlong],
+        lets: LetsRead,
+    ) -> Result<(), AllocError>
         requires within { place < length self.old }
         requires stale { reads_at self.old place ≡ None }
         requires known { is_none (slots_of lets) ≡ false }
-        ensures kept { OnOk result (self.new ≡ slice_set self.old place (kept_of cells.now (slots_of lets))) }
+        ensures kept { OnOk result (self.new ≡ slice_set self.old place (kept_of cells.now names.now (slots_of lets))) }
         ensures unchanged { OnErr result (self.new ≡ self.old) }
     {
-        self.index.add(place as u64, cells)?;
+        self.index.add(alloc, place as u64, cells, names)?;
         set(&mut self.lets, place, lets);
         Ok(())
     }
 
     /// Forgets what a unit read that read the cell, and gives its place; None where no unit has read it. Takes no memory.
     pub(crate) fn take(&mut self, cell: &Cell) -> Option<usize>
-        ensures took { IfSome result (λ place. has_cell (reads_at self.old place) cell.now ≡ true) }
+        ensures took { IfSome result (λ place. has_kept (reads_at self.old place) (of_cell cell.now) ≡ true) }
         ensures dropped { IfSome result (λ place. self.new ≡ slice_set self.old place None) }
         ensures falls { OnSome result (kept_count self.new < kept_count self.old) }
-        ensures none { IfNone result ((place : ℕ) → has_cell (reads_at self.old place) cell.now ≡ false) }
+        ensures none { IfNone result ((place : ℕ) → has_kept (reads_at self.old place) (of_cell cell.now) ≡ false) }
         ensures unchanged { IfNone result (self.new ≡ self.old) }
     {
         match self.index.take(cell) {
@@ -130,13 +141,50 @@ impl Entries {
             None => None,
         }
     }
+
+    /// Forgets what a unit read that read the names along an axis from a node, and gives its place; None where no unit has read them.
+    /// Takes no memory.
+    pub(crate) fn take_names(&mut self, names: &NamesAlong) -> Option<usize>
+        ensures took { IfSome result (λ place. has_kept (reads_at self.old place) (names_along names.now.axis names.now.node) ≡ true) }
+        ensures dropped { IfSome result (λ place. self.new ≡ slice_set self.old place None) }
+        ensures falls { OnSome result (kept_count self.new < kept_count self.old) }
+        ensures none { IfNone result ((place : ℕ) → has_kept (reads_at self.old place) (names_along names.now.axis names.now.node) ≡ false) }
+        ensures unchanged { IfNone result (self.new ≡ self.old) }
+    {
+        match self.index.take_names(names) {
+            Some(unit) => {
+                set(&mut self.lets, unit as usize, LetsRead::Stale);
+                Some(unit as usize)
+            }
+            None => None,
+        }
+    }
+
+    /// Whether a unit may have read the names along an axis from a node; where not, none has.
+    pub(crate) fn may_have(&self, names: &NamesAlong) -> bool
+        ensures { OnFalse result ((place : ℕ) → has_kept (reads_at self.now place) (names_along names.now.axis names.now.node) ≡ false) }
+    {
+        self.index.may_have(names)
+    }
+
+    /// Whether a unit may have read the names along a far axis; where not, none has.
+    pub(crate) fn may_have_far(&self) -> bool
+        ensures { OnFalse result ((place : ℕ) (axis : Axis) (n : ℕ) → is_far axis ≡ true → has_kept (reads_at self.now place) (names_along axis n) ≡ false) }
+    {
+        self.index.may_have_far()
+    }
 }
 
-/// Settles a recorder that holds more than few cells.
+/// Settles a recorder that holds more than few cells or names along axes.
 fn settle_many(reads: &mut Recorder)
     ensures { reads.new ≡ reads.old }
 {
-    if reads.cells().len() > FEW_CELLS || !reads.lets().is_empty() {
+    if is_many(reads) {
         reads.settle();
     }
+}
+
+/// Whether a recorder holds more than few cells or names along axes, or some lets.
+fn is_many(reads: &Recorder) -> bool {
+    reads.cells().len() > FEW || reads.names().len() > FEW || !reads.lets().is_empty()
 }

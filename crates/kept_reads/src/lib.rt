@@ -8,6 +8,7 @@ mod forgetting;
 mod kept_reads;
 mod lets_read;
 mod marking;
+mod naming;
 
 pub use counting::place_in_row;
 pub use kept_reads::KeptReads;

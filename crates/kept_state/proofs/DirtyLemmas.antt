@@ -7,10 +7,9 @@ use Rattle.std.specs.List.{list_any, AllByRecursion as Each}
 use Rattle.std.proofs.lemmas.Bool.{false_from_ne_true, false≢true, not-false, not_from_true, or_from, or_parts}
 use Rattle.doc_tree.specs.Table.{Table, is_live}
 use Rattle.doc_edit_laws.specs.Along.{none}
-use Rattle.xp_outcome.specs.Evaluation.{Read, cell, variable}
+use Rattle.xp_outcome.specs.Evaluation.{Read, cell, names_along, variable}
 use Rattle.xp_outcome.specs.Recorded.{LetSet, Recorded, has_read}
 use Rattle.xp_outcome.specs.Slots.{in_slot}
-use Rattle.xp_outcome.proofs.Sets.{cell_cmp_antisymmetric, cell_cmp_total}
 use Rattle.xp_meaning.specs.Evaluation.{Lets}
 use Rattle.xp_locality_laws.specs.Locality.{Changed}
 use Rattle.sch_compiled.specs.declared.plan.Plan.{Plan}
@@ -22,18 +21,18 @@ use Rattle.edit_costs.specs.Dirty.{is_changed, is_dirty, is_new, is_touched}
 use Rattle.edit_costs.specs.Laws.{LetsNeedThoseBefore, SameOutcomesAreEqual}
 use Rattle.edit_costs.specs.SameOutcome.{same_outcome}
 use Rattle.edit_costs.specs.Units.{ValidationUnit, in_force, under, reads_of}
-use Rattle.cover_laws.specs.Covering.{EditsTouchAlike, AlikeStay, has_touched}
-use Rattle.kept_state.specs.Kept.{HeldAlike, IsUnit, LetsLive, noted, reads_under}
+use Rattle.cover_laws.specs.Covering.{EditsTouchHeldAlike, HeldAlike, HeldStaysAlike, IsOfLive, ReadsAreTouched, holds_touched}
+use Rattle.cover_laws.proofs.SetLemmas.{any_or, found_in}
+use Rattle.kept_state.specs.Kept.{IsUnit, LetsLive, noted, reads_under}
 use Rattle.kept_state.specs.Laws.{DirtyAreRun}
 use Rattle.unit_live_laws.specs.LiveReads.{UnitsReadLiveCells}
 use Rattle.kept_state.specs.Running.{IsDone, is_run}
 use Rattle.kept_state.specs.Steps.{differs, unless_changed, unless_touched}
 use Rattle.kept_state.proofs.EditLemmas.{Unmarked, all_edits, node_made, unit_before, unmarked}
-use Rattle.kept_state.proofs.LiveLemmas.{nothing}
+use Rattle.kept_state.proofs.LiveLemmas.{nothing, read_live}
 use Rattle.kept_state.proofs.LetLemmas.{Unchanged, lets_live_along, unchanged}
 use Rattle.kept_state.proofs.ReadLemmas.{each_of_list, each_of_set}
 use Rattle.kept_state.proofs.RightLemmas.{lets_right, own_live, own_reads}
-use Rattle.kept_state.proofs.SetLemmas.{found_in, held_in}
 
 same_false : (a b : Bool) → (a ≡ false → b ≡ false) → (b ≡ false → a ≡ false) → a ≡ b
 same_false false b there back = sym (there refl)
@@ -68,7 +67,8 @@ some_kept changed entry is = by (unless_changed changed entry) refl is
 unless_kept : (changed : ℕ → Bool) (held : Recorded) → list_any changed (items held.lets) ≡ false → is_none (unless_changed changed (Some held)) ≡ false
 unless_kept changed held same = ap (λ b. is_none (cond b None (Some held))) same
 
-module _ (local : GivenLetsAreLocal) (change : EditsChange) (touches : EditsTouchAlike) (stay : AlikeStay) (cells : UnitsReadLiveCells) (need : LetsNeedThoseBefore)
+module _ (local : GivenLetsAreLocal) (change : EditsChange) (touches : EditsTouchHeldAlike) (stay : HeldStaysAlike) (touch : ReadsAreTouched)
+    (cells : UnitsReadLiveCells) (need : LetsNeedThoseBefore)
     (equal : SameOutcomesAreEqual) (order : LetsStandInOrder) where
   pub dirty_are_run : DirtyAreRun
   dirty_are_run plan T U touched old new sound formed edits fresh marks unit is typed =
@@ -87,23 +87,31 @@ module _ (local : GivenLetsAreLocal) (change : EditsChange) (touches : EditsTouc
       runs_not not_dirty = ap (λ (o : Option Recorded). is_none (unless_changed (differs new.lets (lets_of plan U)) o)) kept
           ∙ unless_kept (differs new.lets (lets_of plan U)) done.held lets
         where
-          parts : (is_new T unit ≡ false) × (list_any (λ r. is_touched touched r || is_changed plan T U r) (reads_of plan T unit) ≡ false)
-          parts = or_parts (is_new T unit) (list_any (λ r. is_touched touched r || is_changed plan T U r) (reads_of plan T unit)) not_dirty
+          parts : (is_new T unit ≡ false) × (list_any (λ r. is_touched T touched r || is_changed plan T U r) (reads_of plan T unit) ≡ false)
+          parts = or_parts (is_new T unit) (list_any (λ r. is_touched T touched r || is_changed plan T U r) (reads_of plan T unit)) not_dirty
 
           done : IsDone plan T old unit
           done = fresh.done unit (old_unit plan T U unit parts.0 is)
 
-          each : (r : Read) → has_read (noted (reads_of plan T unit)) r ≡ true → (is_touched touched r || is_changed plan T U r) ≡ false
-          each = each_of_list (λ r. (is_touched touched r || is_changed plan T U r) ≡ false) (reads_of plan T unit)
-              (none_each (λ r. is_touched touched r || is_changed plan T U r) (reads_of plan T unit) parts.1)
+          each : (r : Read) → has_read (noted (reads_of plan T unit)) r ≡ true → (is_touched T touched r || is_changed plan T U r) ≡ false
+          each = each_of_list (λ r. (is_touched T touched r || is_changed plan T U r) ≡ false) (reads_of plan T unit)
+              (none_each (λ r. is_touched T touched r || is_changed plan T U r) (reads_of plan T unit) parts.1)
 
-          untouched : has_touched touched done.held.cells ≡ false
-          untouched = false_from_ne_true (has_touched touched done.held.cells) (λ hit.
-              let one = found_in cell_cmp_total cell_cmp_antisymmetric touched done.held.cells hit in
-              false≢true (sym (or_parts (touched one.item) false (each (cell one.item) (done.right.read.cells.part one.item one.there))).0 ∙ one.passes))
+          live : IsOfLive T (noted (reads_of plan T unit))
+          live = subst (λ (xs : List Read). IsOfLive T (noted xs)) (own_reads need order plan T sound unit)
+              (read_live local cells plan T (change T T nothing formed none) (lets_of plan T) unit (let e = order.count plan T in omega (arith, e))
+              (old_unit plan T U unit parts.0 is) typed
+              (λ slot _. own_live need order plan T sound local (change T T nothing formed none) slot))
+
+          untouched : holds_touched T touched done.held ≡ false
+          untouched =
+              touches T U touched done.held (noted (reads_of plan T unit)) formed edits live done.right.read
+              ∙ touch T touched (reads_of plan T unit)
+              ∙ (or_parts (list_any (is_touched T touched) (reads_of plan T unit)) (list_any (is_changed plan T U) (reads_of plan T unit))
+              (sym (any_or (is_touched T touched) (is_changed plan T U) (reads_of plan T unit)) ∙ parts.1)).0
 
           kept : new.reads unit ≡ Some done.held
-          kept = marks.reads unit ∙ ap (unless_touched touched) done.is ∙ ap (λ b. cond b None (Some done.held)) untouched
+          kept = marks.reads unit ∙ ap (unless_touched T touched) done.is ∙ ap (λ b. cond b None (Some done.held)) untouched
 
           lets : list_any (differs new.lets (lets_of plan U)) (items done.held.lets) ≡ false
           lets = false_from_ne_true (list_any (differs new.lets (lets_of plan U)) (items done.held.lets)) (λ hit.
@@ -112,9 +120,12 @@ module _ (local : GivenLetsAreLocal) (change : EditsChange) (touches : EditsTouc
               ∙ ap (λ (M : Lets). differs M (lets_of plan U) one.item) (sym own) ∙ one.passes))
 
       clean : is_run plan U new unit ≡ false → is_dirty plan T U touched unit ≡ false
-      clean not_run = or_from (is_new T unit) (list_any (λ r. is_touched touched r || is_changed plan T U r) (reads_of plan T unit)) (unit_old plan T unit was)
-          (each_none (λ r. is_touched touched r || is_changed plan T U r) (reads_of plan T unit)
-          (each_of_set (λ r. (is_touched touched r || is_changed plan T U r) ≡ false) (reads_of plan T unit) each))
+      clean not_run =
+          or_from (is_new T unit) (list_any (λ r. is_touched T touched r || is_changed plan T U r) (reads_of plan T unit)) (unit_old plan T unit was)
+          (any_or (is_touched T touched) (is_changed plan T U) (reads_of plan T unit)
+          ∙ or_from (list_any (is_touched T touched) (reads_of plan T unit)) (list_any (is_changed plan T U) (reads_of plan T unit))
+          (sym (touch T touched (reads_of plan T unit)) ∙ left)
+          (each_none (is_changed plan T U) (reads_of plan T unit) (each_of_set (λ r. is_changed plan T U r ≡ false) (reads_of plan T unit) each)))
         where
           some : (held : Recorded) × (unless_changed (differs new.lets (lets_of plan U)) (new.reads unit) ≡ Some held)
           some = some_kept (differs new.lets (lets_of plan U)) (new.reads unit) not_run
@@ -122,8 +133,8 @@ module _ (local : GivenLetsAreLocal) (change : EditsChange) (touches : EditsTouc
           same : Unchanged new.lets (lets_of plan U) (new.reads unit) some.0
           same = unchanged equal new.lets (lets_of plan U) (new.reads unit) some.0 some.1
 
-          entry : Unmarked touched (old.reads unit) some.0
-          entry = unmarked touched (old.reads unit) some.0 (sym (marks.reads unit) ∙ same.was)
+          entry : Unmarked T touched (old.reads unit) some.0
+          entry = unmarked T touched (old.reads unit) some.0 (sym (marks.reads unit) ∙ same.was)
 
           was : IsUnit plan T unit
           was = unit_before plan T U touched changed unit is (λ p n e.
@@ -146,14 +157,14 @@ module _ (local : GivenLetsAreLocal) (change : EditsChange) (touches : EditsTouc
           after = lets_live_along U (lets_of plan T) (lets_of plan U) some.0.lets agree
               (λ slot _. own_live need order plan U sound local (change U U nothing changed.after.well_formed none) slot)
 
-          left : has_touched touched (noted (reads_of plan T unit)).cells ≡ false
-          left = subst (λ (xs : List Read). has_touched touched (noted xs).cells ≡ false) (own_reads need order plan T sound unit)
+          left : holds_touched T touched (noted (reads_of plan T unit)) ≡ false
+          left = subst (λ (xs : List Read). holds_touched T touched (noted xs) ≡ false) (own_reads need order plan T sound unit)
               (all_edits local change touches stay cells plan (lets_of plan T) (let e = order.count plan T in omega (arith, e)) unit typed some.0 T U touched formed edits was is before after
               read entry.untouched).untouched
 
-          each : (r : Read) → has_read (noted (reads_of plan T unit)) r ≡ true → (is_touched touched r || is_changed plan T U r) ≡ false
-          each (cell c) there = or_from (touched c) false
-              (false_from_ne_true (touched c) (λ hit. false≢true (sym left ∙ held_in cell_cmp_total cell_cmp_antisymmetric touched (noted (reads_of plan T unit)).cells c there hit))) refl
+          each : (r : Read) → has_read (noted (reads_of plan T unit)) r ≡ true → is_changed plan T U r ≡ false
+          each (cell c) there = refl
+          each (names_along axis n) there = refl
           each (variable slot) there =
               let held_there : contains some.0.lets slot ≡ true = ap (λ (s : LetSet). contains s slot)
               (read.lets ∙ ap (λ (xs : List Read). (noted xs).lets) (own_reads need order plan T sound unit)) ∙ there in

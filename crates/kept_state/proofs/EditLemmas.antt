@@ -1,4 +1,4 @@
--- Edits: a unit that stood and read no touched cell stands in the tree that they make.
+-- Edits: a unit that stood and read nothing that was touched stands in the tree that they make.
 use Rattle.std.proofs.Common.{◌≡◌, ◌∙◌, ℕ, ◌<◌, ◌≤◌, Bool, true, false, cond, length, Option, None, Some, refl, sym, ap, subst, ⊎_elim, arith}
 use Rattle.std.specs.FinSet.{contains}
 use Rattle.std.proofs.lemmas.Bool.{cases_lt}
@@ -15,8 +15,8 @@ use Rattle.sch_compiled.specs.declared.plan.Plan.{Plan}
 use Rattle.sch_locality_laws.specs.Edits.{EditsChange}
 use Rattle.sch_locality_laws.specs.Locality.{GivenLetsAreLocal}
 use Rattle.edit_costs.specs.Units.{ValidationUnit, in_force, under}
-use Rattle.cover_laws.specs.Covering.{EditsTouchAlike, AlikeStay, AreOfLive, has_touched}
-use Rattle.kept_state.specs.Kept.{HeldAlike, IsTyped, IsUnit, Keeps, Kept, LetsLive, LetsPass, noted, reads_under}
+use Rattle.cover_laws.specs.Covering.{EditsTouchHeldAlike, HeldAlike, HeldStaysAlike, IsOfLive, holds_touched}
+use Rattle.kept_state.specs.Kept.{IsTyped, IsUnit, Keeps, Kept, LetsLive, LetsPass, noted, reads_under}
 use Rattle.kept_state.specs.Laws.{EditsKeep}
 use Rattle.unit_live_laws.specs.LiveReads.{UnitsReadLiveCells}
 use Rattle.kept_state.specs.Steps.{SameGiven, unless_touched}
@@ -49,36 +49,35 @@ node_made plan T kept keeps held p n is =
 
 -- What is kept of a unit that is marked
 
-pub unless_untouched : (touched : Cell → Bool) (held : Recorded) → has_touched touched held.cells ≡ false → unless_touched touched (Some held) ≡ Some held
-unless_untouched touched held is = ap (λ b. cond b None (Some held)) is
-
-pub record Unmarked (touched : Cell → Bool) (entry : Option Recorded) (held : Recorded) : Type 0 where
+pub record Unmarked (T : Table) (touched : Cell → Bool) (entry : Option Recorded) (held : Recorded) : Type 0 where
   pub was : entry ≡ Some held
-  pub untouched : has_touched touched held.cells ≡ false
+  pub untouched : holds_touched T touched held ≡ false
 
--- what is still kept was kept, and no cell of it was touched
-pub unmarked : (touched : Cell → Bool) (entry : Option Recorded) (held : Recorded) → unless_touched touched entry ≡ Some held → Unmarked touched entry held
-unmarked touched None held is = absurd (cc)
-unmarked touched (Some reads) held is = by (has_touched touched reads.cells) refl is
+-- what is still kept was kept, and nothing of it was touched
+pub unmarked : (T : Table) (touched : Cell → Bool) (entry : Option Recorded) (held : Recorded) → unless_touched T touched entry ≡ Some held →
+    Unmarked T touched entry held
+unmarked T touched None held is = absurd (cc)
+unmarked T touched (Some reads) held is = by (holds_touched T touched reads) refl is
   where
-    by : (b : Bool) → has_touched touched reads.cells ≡ b → cond b None (Some reads) ≡ Some held → Unmarked touched (Some reads) held
+    by : (b : Bool) → holds_touched T touched reads ≡ b → cond b None (Some reads) ≡ Some held → Unmarked T touched (Some reads) held
     by true e is = absurd (cc)
     by false e is =
         let same : reads ≡ held = cc in
-        record { was = is; untouched = subst (λ (r : Recorded). has_touched touched r.cells ≡ false) same e }
+        record { was = is; untouched = subst (λ (r : Recorded). holds_touched T touched r ≡ false) same e }
 
 -- Units over edits
 
--- what edits leave of a unit that read none of the cells that they touched
+-- what edits leave of a unit that read nothing that they touched
 pub record Left (plan : Plan) (T U : Table) (touched : Cell → Bool) (L : Lets) (unit : ValidationUnit) (held : Recorded) : Type 0 where
-  pub untouched : has_touched touched (noted (reads_under plan T L unit)).cells ≡ false
+  pub untouched : holds_touched T touched (noted (reads_under plan T L unit)) ≡ false
   pub same : SameUnit plan T U L L unit
   pub alike : HeldAlike U held (noted (reads_under plan U L unit))
 
-module _ (local : GivenLetsAreLocal) (change : EditsChange) (touches : EditsTouchAlike) (stay : AlikeStay) (cells : UnitsReadLiveCells) (plan : Plan) (L : Lets)
+module _ (local : GivenLetsAreLocal) (change : EditsChange) (touches : EditsTouchHeldAlike) (stay : HeldStaysAlike) (cells : UnitsReadLiveCells)
+    (plan : Plan) (L : Lets)
     (few : length L ≤ length plan.lets) (unit : ValidationUnit) (typed : IsTyped plan unit) (held : Recorded) where
   pub all_edits : (T U : Table) (touched : Cell → Bool) → WellFormed T → Edits T U touched → IsUnit plan T unit → IsUnit plan U unit → LetsLive T L held.lets → LetsLive U L held.lets →
-      HeldAlike T held (noted (reads_under plan T L unit)) → has_touched touched held.cells ≡ false → Left plan T U touched L unit held
+      HeldAlike T held (noted (reads_under plan T L unit)) → holds_touched T touched held ≡ false → Left plan T U touched L unit held
   all_edits T U touched formed edits old new before after alike clean = record { untouched = untouched; same = same; alike = now }
     where
       changed : Changed T U touched
@@ -87,11 +86,11 @@ module _ (local : GivenLetsAreLocal) (change : EditsChange) (touches : EditsTouc
       of_held : (slot : ℕ) → contains (noted (reads_under plan T L unit)).lets slot ≡ true → contains held.lets slot ≡ true
       of_held slot there = ap (λ (s : LetSet). contains s slot) alike.lets ∙ there
 
-      live : AreOfLive T (noted (reads_under plan T L unit)).cells
+      live : IsOfLive T (noted (reads_under plan T L unit))
       live = read_live local cells plan T (change T T nothing formed none) L unit few old typed (λ slot there. before slot (of_held slot there))
 
-      untouched : has_touched touched (noted (reads_under plan T L unit)).cells ≡ false
-      untouched = sym (touches T U touched held.cells (noted (reads_under plan T L unit)).cells formed edits live alike.cells) ∙ clean
+      untouched : holds_touched T touched (noted (reads_under plan T L unit)) ≡ false
+      untouched = sym (touches T U touched held (noted (reads_under plan T L unit)) formed edits live alike) ∙ clean
 
       same : SameUnit plan T U L L unit
       same = unit_same local plan T U touched changed L L unit few few old new typed untouched
@@ -100,24 +99,21 @@ module _ (local : GivenLetsAreLocal) (change : EditsChange) (touches : EditsTouc
       reads : noted (reads_under plan U L unit) ≡ noted (reads_under plan T L unit)
       reads = ap noted (same_reads plan T U L L unit same)
 
-      live_after : AreOfLive U (noted (reads_under plan U L unit)).cells
+      live_after : IsOfLive U (noted (reads_under plan U L unit))
       live_after = read_live local cells plan U (change U U nothing changed.after.well_formed none) L unit few new typed
           (λ slot there. after slot (of_held slot (ap (λ (r : Recorded). contains r.lets slot) (sym reads) ∙ there)))
 
       now : HeldAlike U held (noted (reads_under plan U L unit))
-      now = subst (λ (r : Recorded). HeldAlike U held r) (sym reads) (record {
-        lets = alike.lets;
-        cells = stay T U touched held.cells (noted (reads_under plan T L unit)).cells formed edits live
-            (subst (λ (r : Recorded). AreOfLive U r.cells) reads live_after) alike.cells;
-      })
+      now = subst (HeldAlike U held) (sym reads)
+          (stay T U touched held (noted (reads_under plan T L unit)) formed edits live (subst (IsOfLive U) reads live_after) alike)
 
-pub edits_keep : GivenLetsAreLocal → EditsChange → EditsTouchAlike → AlikeStay → UnitsReadLiveCells → EditsKeep
+pub edits_keep : GivenLetsAreLocal → EditsChange → EditsTouchHeldAlike → HeldStaysAlike → UnitsReadLiveCells → EditsKeep
 edits_keep local change touches stay cells plan T U touched old new formed edits keeps marks = record {
   few = subst (λ (L : Lets). length L ≤ length plan.lets) (sym marks.lets) keeps.few;
   made = λ slot. subst (λ (L : Lets). LetsPass (λ n. n < length U) L slot) (sym marks.lets)
       (λ v is. each_both (λ n. n < length T) (λ n. n < length T) (λ n. n < length U) (λ n below _. omega (arith, below, changed.agree.numbers)) (nodes_of v)
       (keeps.made slot v is) (keeps.made slot v is));
-  new = λ p n past. marks.reads (under p n) ∙ ap (unless_touched touched) (keeps.new p n (omega (arith, past, changed.agree.numbers)));
+  new = λ p n past. marks.reads (under p n) ∙ ap (unless_touched T touched) (keeps.new p n (omega (arith, past, changed.agree.numbers)));
   before = λ slot other held is there. keeps.before slot other held (was (in_force slot) held is).was there;
   stands = λ unit held is typed kept live.
       let entry = was unit held kept in
@@ -136,8 +132,8 @@ edits_keep local change touches stay cells plan T U touched old new formed edits
     changed : Changed T U touched
     changed = change T U touched formed edits
 
-    was : (unit : ValidationUnit) (held : Recorded) → new.reads unit ≡ Some held → Unmarked touched (old.reads unit) held
-    was unit held is = unmarked touched (old.reads unit) held (sym (marks.reads unit) ∙ is)
+    was : (unit : ValidationUnit) (held : Recorded) → new.reads unit ≡ Some held → Unmarked T touched (old.reads unit) held
+    was unit held is = unmarked T touched (old.reads unit) held (sym (marks.reads unit) ∙ is)
 
     given : (unit : ValidationUnit) → SameGiven old new unit
     given (in_force slot) = ap (λ (L : Lets). in_slot L slot) marks.lets

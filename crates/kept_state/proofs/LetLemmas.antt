@@ -24,14 +24,15 @@ use Rattle.sch_locality_laws.specs.Locality.{GivenLetsAreLocal}
 use Rattle.edit_costs.specs.Laws.{IsBefore, LetsNeedThoseBefore, SameOutcomesAreEqual}
 use Rattle.edit_costs.specs.SameOutcome.{same_outcome}
 use Rattle.edit_costs.specs.Units.{ValidationUnit, in_force, under, let_reads}
-use Rattle.kept_state.specs.Kept.{HeldAlike, IsTyped, IsUnit, LetsLive, LetsPass, Stands, let_gives, noted, reads_under}
+use Rattle.cover_laws.specs.Covering.{HeldAlike}
+use Rattle.cover_laws.proofs.SetLemmas.{held_in}
+use Rattle.kept_state.specs.Kept.{IsTyped, IsUnit, LetsLive, LetsPass, Stands, let_gives, noted, reads_under}
 use Rattle.kept_state.specs.Laws.{LetsKeep}
 use Rattle.kept_state.specs.Steps.{LiveBelow, SameGiven, differs, unless_changed}
 use Rattle.kept_state.proofs.EditLemmas.{live_made}
 use Rattle.kept_state.proofs.LiveLemmas.{nothing, nothing_touched}
 use Rattle.kept_state.proofs.PairLemmas.{cases_unit}
 use Rattle.kept_state.proofs.ReadLemmas.{each_of_list}
-use Rattle.kept_state.proofs.SetLemmas.{held_in}
 use Rattle.kept_state.proofs.UnitLemmas.{each_both, let_kept, reads_kept, same_gave, same_reads, unit_same}
 
 live_all : (T : Table) (ns : List ℕ) → AllStay T T ns → Each (λ n. is_live T n ≡ true) ns
@@ -70,7 +71,7 @@ module _ (need : LetsNeedThoseBefore) (plan : Plan) (T : Table) (l : ℕ) (sound
     -- the nodes of its value live where those of the lets before it do
     pub given_live : (v : Value) → let_gives T L (slice_get plan.lets l) ≡ Some (Ok v) → Each (λ n. is_live T n ≡ true) (nodes_of v)
     given_live v is = gives_live (slice_get plan.lets l)
-        (reads_kept T T nothing L L (reads_under plan T L (in_force l)) (nothing_touched (noted (reads_under plan T L (in_force l))).cells)
+        (reads_kept T T nothing L L (reads_under plan T L (in_force l)) (nothing_touched T (noted (reads_under plan T L (in_force l))))
         (λ slot there. let below = reads_before L slot there in let_kept T T nothing L L slot refl (live slot below) (live slot below))) v is
 
 -- What is kept of a unit once lets have changed
@@ -152,7 +153,7 @@ module _ (local : GivenLetsAreLocal) (changed_of : (T : Table) → WellFormed T 
           let before : LetsLive T old.lets held.lets = lets_live_along T old.lets new.lets held.lets entry.same lives in
           let stood = keeps.stands unit held is typed entry.was before in
           let same = unit_same local plan T T nothing changed old.lets new.lets unit keeps.few runs.few is is typed
-          (nothing_touched (noted (reads_under plan T old.lets unit)).cells)
+          (nothing_touched T (noted (reads_under plan T old.lets unit)))
           (λ slot there. let held_there : contains held.lets slot ≡ true = ap (λ (s : LetSet). contains s slot) stood.read.lets ∙ there in
           let_kept T T nothing old.lets new.lets slot (entry.same slot held_there) (before slot held_there) (before slot held_there)) in
           record {

@@ -1,4 +1,3 @@
-mod SetLemmas
 mod ReadLemmas
 mod UnitLemmas
 mod LiveLemmas

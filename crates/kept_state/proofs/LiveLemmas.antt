@@ -1,12 +1,14 @@
--- The cells that a unit read are of live nodes, where the nodes of the lets live that it read: the other lets may be left out.
+-- What a unit read is of live nodes, where the nodes of the lets live that it read: the other lets may be left out.
 use Rattle.std.proofs.Common.{◌≡◌, ◌∙◌, ℕ, zero, suc, ◌+◌, ◌≤◌, Bool, true, false, cond, List, [], ◌∷◌, length, Option, None, Some, Result, Ok, refl, sym, ap, subst, arith}
 use Rattle.std.specs.Prelude.{slice_get}
 use Rattle.std.specs.FinSet.{contains, items}
 use Rattle.std.specs.List.{list_any, AllByRecursion as Each}
+use Rattle.std.proofs.lemmas.Bool.{or_from}
 use Rattle.doc_tree.specs.cell.Cell.{Cell}
 use Rattle.doc_tree.specs.Table.{Table, is_live}
-use Rattle.xp_outcome.specs.Evaluation.{cell}
-use Rattle.xp_outcome.specs.Recorded.{CellSet, LetSet}
+use Rattle.xp_outcome.specs.Evaluation.{cell, names_along}
+use Rattle.xp_outcome.specs.Recorded.{LetSet, Recorded}
+use Rattle.xp_outcome.specs.declared.names_along.NamesAlong.{NamesAlong}
 use Rattle.xp_outcome.specs.Slots.{in_slot}
 use Rattle.xp_values.specs.declared.values.EvalFault.{EvalFault}
 use Rattle.xp_values.specs.declared.values.Value.{Value}
@@ -18,7 +20,7 @@ use Rattle.sch_compiled.specs.declared.parts.LetInForce.{LetInForce}
 use Rattle.sch_compiled.specs.declared.plan.Plan.{Plan}
 use Rattle.sch_locality_laws.specs.Locality.{GivenLetsAreLocal}
 use Rattle.edit_costs.specs.Units.{ValidationUnit, in_force, under, let_reads}
-use Rattle.cover_laws.specs.Covering.{AreOfLive, has_touched}
+use Rattle.cover_laws.specs.Covering.{IsOfLive, holds_touched, names_at}
 use Rattle.kept_state.specs.Kept.{IsTyped, IsUnit, LetsLive, noted, reads_under}
 use Rattle.unit_live_laws.specs.LiveReads.{UnitsReadLiveCells}
 use Rattle.kept_state.proofs.ReadLemmas.{each_of_list}
@@ -32,8 +34,16 @@ nothing_any : (xs : List Cell) → list_any nothing xs ≡ false
 nothing_any [] = refl
 nothing_any (x ∷ xs) = nothing_any xs
 
-pub nothing_touched : (cells : CellSet) → has_touched nothing cells ≡ false
-nothing_touched cells = nothing_any (items cells)
+no_name_touched : (T : Table) (rest : List NamesAlong) → list_any (λ a. list_any nothing (names_at T a)) rest ≡ false
+no_name_touched T [] = refl
+no_name_touched T (a ∷ rest) =
+    or_from (list_any nothing (names_at T a)) (list_any (λ x. list_any nothing (names_at T x)) rest) (nothing_any (names_at T a))
+    (no_name_touched T rest)
+
+pub nothing_touched : (T : Table) (held : Recorded) → holds_touched T nothing held ≡ false
+nothing_touched T held =
+    or_from (list_any nothing (items held.cells)) (list_any (λ a. list_any nothing (names_at T a)) (items held.names))
+    (nothing_any (items held.cells)) (no_name_touched T (items held.names))
 
 -- the outcomes of lets without those that fail a test, from a slot on
 masked : (ℕ → Bool) → ℕ → Lets → Lets
@@ -90,14 +100,17 @@ module _ (local : GivenLetsAreLocal) (cells : UnitsReadLiveCells) (plan : Plan) 
   unit_cells M live (under p n) is = cells.pairs plan T M p n changed.before.ordered changed.before.ways_up live is.1
 
   pub read_live : (L : Lets) (unit : ValidationUnit) → length L ≤ length plan.lets → IsUnit plan T unit → IsTyped plan unit →
-      LetsLive T L (noted (reads_under plan T L unit)).lets → AreOfLive T (noted (reads_under plan T L unit)).cells
-  read_live L unit few is typed live c there = each_of_list (IsLiveRead T) (reads_under plan T L unit) each (cell c) there
+      LetsLive T L (noted (reads_under plan T L unit)).lets → IsOfLive T (noted (reads_under plan T L unit))
+  read_live L unit few is typed live = record {
+    cells = λ c there. each_of_list (IsLiveRead T) (reads_under plan T L unit) each (cell c) there;
+    names = λ a there. each_of_list (IsLiveRead T) (reads_under plan T L unit) each (names_along a.axis a.node) there;
+  }
     where
       reads : reads_under plan T (among L (noted (reads_under plan T L unit)).lets) unit ≡ reads_under plan T L unit
       reads = same_reads plan T T L (among L (noted (reads_under plan T L unit)).lets) unit
           (unit_same local plan T T nothing changed L (among L (noted (reads_under plan T L unit)).lets) unit few
           (let e = among-length L (noted (reads_under plan T L unit)).lets in omega (arith, e, few)) is is typed
-          (nothing_touched (noted (reads_under plan T L unit)).cells)
+          (nothing_touched T (noted (reads_under plan T L unit)))
           (λ slot held. let_kept T T nothing L (among L (noted (reads_under plan T L unit)).lets) slot
           (among-same L (noted (reads_under plan T L unit)).lets slot held) (live slot held) (live slot held)))
 

@@ -6,7 +6,8 @@ use Rattle.xp_outcome.specs.Recorded.{Recorded}
 use Rattle.xp_meaning.specs.Evaluation.{Lets}
 use Rattle.sch_compiled.specs.declared.plan.Plan.{Plan}
 use Rattle.edit_costs.specs.Units.{ValidationUnit, in_force, under}
-use Rattle.kept_state.specs.Kept.{HeldAlike, Kept, LetsLive, LetsPass, Stands, noted, reads_under}
+use Rattle.cover_laws.specs.Covering.{HeldAlike}
+use Rattle.kept_state.specs.Kept.{Kept, LetsLive, LetsPass, Stands, noted, reads_under}
 use Rattle.kept_state.specs.Laws.{PairsKeep}
 use Rattle.kept_state.specs.Steps.{StaysAs}
 use Rattle.kept_state.proofs.UnitLemmas.{SameUnit, same_gave, same_self}

@@ -22,7 +22,8 @@ use Rattle.sch_units.specs.Validity.{outcome_of}
 use Rattle.sch_locality_laws.specs.Locality.{GivenLetsAreLocal}
 use Rattle.edit_costs.specs.Laws.{LetsNeedThoseBefore}
 use Rattle.edit_costs.specs.Units.{ValidationUnit, in_force, under, reads_of}
-use Rattle.kept_state.specs.Kept.{Gave, HeldAlike, IsTyped, IsUnit, Keeps, Kept, LetsLive, LetsPass, Stands, let_gives, noted, reads_under}
+use Rattle.cover_laws.specs.Covering.{HeldAlike}
+use Rattle.kept_state.specs.Kept.{Gave, IsTyped, IsUnit, Keeps, Kept, LetsLive, LetsPass, Stands, let_gives, noted, reads_under}
 use Rattle.kept_state.specs.Laws.{KeptIsRight}
 use Rattle.kept_state.specs.Running.{GivesHere, IsRight, NoLetIsStale, is_stale}
 use Rattle.kept_state.specs.Steps.{LiveBelow}

@@ -2,15 +2,15 @@
 use Rattle.std.proofs.Common.{◌≡◌, ◌∙◌, ℕ, ◌≤◌, Bool, true, false, List, [], ◌∷◌, length, Option, None, Some, refl, sym, ap}
 use Rattle.std.specs.Prelude.{slice_get}
 use Rattle.std.specs.FinSet.{contains}
-use Rattle.std.specs.List.{AllByRecursion as Each}
-use Rattle.std.proofs.lemmas.Bool.{and_from, false_from_ne_true, false≢true}
+use Rattle.std.specs.List.{list_any, AllByRecursion as Each}
+use Rattle.std.proofs.lemmas.Bool.{and_from, or_parts}
 use Rattle.doc_tree.specs.cell.Cell.{Cell}
 use Rattle.doc_tree.specs.Table.{Table, is_live}
 use Rattle.doc_edit_laws.specs.Agreement.{AllStay}
-use Rattle.xp_outcome.specs.Evaluation.{Evaluation, Read, cell, variable}
+use Rattle.xp_outcome.specs.Evaluation.{Evaluation, Read, cell, names_along, variable}
 use Rattle.xp_outcome.specs.Recorded.{has_read}
 use Rattle.xp_outcome.specs.Slots.{in_slot}
-use Rattle.xp_outcome.proofs.Sets.{cell_cmp_antisymmetric, cell_cmp_total}
+use Rattle.xp_outcome.proofs.Sets.{cell_cmp_antisymmetric, cell_cmp_total, names_cmp_antisymmetric, names_cmp_total}
 use Rattle.xp_values.specs.declared.values.EvalFault.{EvalFault}
 use Rattle.xp_values.specs.declared.values.Value.{Value}
 use Rattle.xp_meaning.specs.Conversions.{nodes_of}
@@ -23,11 +23,11 @@ use Rattle.sch_units.specs.Units.{unit_pair}
 use Rattle.sch_units.specs.Validity.{outcome_of}
 use Rattle.sch_locality_laws.specs.Locality.{GivenLetsAreLocal}
 use Rattle.edit_costs.specs.Units.{ValidationUnit, in_force, under, let_reads}
-use Rattle.cover_laws.specs.Covering.{has_touched}
+use Rattle.cover_laws.specs.Covering.{has_touched, has_touched_name, holds_touched, names_at}
+use Rattle.cover_laws.proofs.SetLemmas.{none_in}
 use Rattle.kept_state.specs.Kept.{Gave, IsTyped, IsUnit, Kept, LetsPass, let_gives, noted, reads_under}
 use Rattle.kept_state.specs.Steps.{SameGiven}
 use Rattle.kept_state.proofs.ReadLemmas.{each_of_set}
-use Rattle.kept_state.proofs.SetLemmas.{held_in}
 
 -- Nodes
 
@@ -50,14 +50,19 @@ module _ (T U : Table) where
     all_kept [] each = tt
     all_kept (x ∷ xs) each = (each.0, all_kept xs each.1)
 
-    -- where no cell of a set was touched, and its lets were kept, all was
-    pub reads_kept : (xs : List Read) → has_touched touched (noted xs).cells ≡ false →
+    -- where nothing that was read was touched, and the lets were kept, all was
+    pub reads_kept : (xs : List Read) → holds_touched T touched (noted xs) ≡ false →
         ((slot : ℕ) → contains (noted xs).lets slot ≡ true → ReadKept T U touched L M (variable slot)) → AllKept T U touched L M xs
     reads_kept xs untouched lets = all_kept xs (each_of_set (ReadKept T U touched L M) xs each)
       where
+        parts : (has_touched touched (noted xs).cells ≡ false) × (has_touched_name T touched (noted xs).names ≡ false)
+        parts = or_parts (has_touched touched (noted xs).cells) (has_touched_name T touched (noted xs).names) untouched
+
         each : (r : Read) → has_read (noted xs) r ≡ true → ReadKept T U touched L M r
-        each (cell c) there =
-            false_from_ne_true (touched c) (λ hit. false≢true (sym untouched ∙ held_in cell_cmp_total cell_cmp_antisymmetric touched (noted xs).cells c there hit))
+        each (cell c) there = none_in cell_cmp_total cell_cmp_antisymmetric touched (noted xs).cells c parts.0 there
+        each (names_along axis n) there =
+            none_in names_cmp_total names_cmp_antisymmetric (λ a. list_any touched (names_at T a)) (noted xs).names (record { axis = axis; node = n })
+            parts.1 there
         each (variable slot) there = lets slot there
 
 -- Units
@@ -92,7 +97,7 @@ module _ (local : GivenLetsAreLocal) (plan : Plan) (T U : Table) (touched : Cell
 
   -- a unit of both trees is the same in both where what it reads was kept
   pub unit_same : (unit : ValidationUnit) → length L ≤ length plan.lets → length M ≤ length plan.lets → IsUnit plan T unit → IsUnit plan U unit → IsTyped plan unit →
-      has_touched touched (noted (reads_under plan T L unit)).cells ≡ false →
+      holds_touched T touched (noted (reads_under plan T L unit)) ≡ false →
       ((slot : ℕ) → contains (noted (reads_under plan T L unit)).lets slot ≡ true → ReadKept T U touched L M (variable slot)) → SameUnit plan T U L M unit
   unit_same (in_force slot) few few_after old new typed untouched lets =
       let_same (slice_get plan.lets slot) (reads_kept T U touched L M (let_reads T L (slice_get plan.lets slot)) untouched lets)

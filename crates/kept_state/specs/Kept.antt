@@ -18,14 +18,14 @@ use Rattle.sch_units.specs.Units.{unit_let, unit_pair}
 use Rattle.sch_units.specs.Validity.{outcome_of}
 use Rattle.sch_locality_laws.specs.Locality.{RulesTyped}
 use Rattle.edit_costs.specs.Units.{ValidationUnit, in_force, under, let_reads}
-use Rattle.cover_laws.specs.Covering.{Alike}
+use Rattle.cover_laws.specs.Covering.{HeldAlike}
 
 pub record Kept : Type 0 where
   -- the outcome of each let in force, in its slot
   pub lets : Lets
   -- the outcome of a node under a pattern, by the numbers of the pattern and of the node
   pub outcomes : ℕ → ℕ → Option Outcome
-  -- the cells and lets that a unit read; of a stale unit nothing is kept
+  -- what is held of what a unit read; of a stale unit nothing is kept
   pub reads : ValidationUnit → Option Recorded
 
 -- a unit of the plan over the tree
@@ -56,11 +56,6 @@ noted reads = note_all nothing_read reads
 abbrev pub Gave : Plan → Table → Kept → ValidationUnit → Type 0
 Gave plan T kept (in_force slot) = in_slot kept.lets slot ≡ let_gives T kept.lets (slice_get plan.lets slot)
 Gave plan T kept (under p n) = kept.outcomes p n ≡ Some (outcome_of (unit_pair plan T kept.lets p n).answer)
-
--- the lets are those that were read, and the cells are alike: one that another covers may be left out
-pub record HeldAlike (T : Table) (held reads : Recorded) : Type 0 where
-  pub lets : held.lets ≡ reads.lets
-  pub cells : Alike T held.cells reads.cells
 
 -- where a slot holds a value, its nodes pass
 abbrev pub LetsPass : (ℕ → Type 0) → Lets → ℕ → Type 0

@@ -18,7 +18,7 @@ use Rattle.kept_state.specs.Steps.{LiveBelow, Marks, RunsLet, RunsPair}
 abbrev pub EditsKeep : Type 0
 EditsKeep =
     (plan : Plan) (T U : Table) (touched : Cell → Bool) (old new : Kept) → WellFormed T → Edits T U touched → Keeps plan T old →
-    Marks touched old new → Keeps plan U new
+    Marks T touched old new → Keeps plan U new
 
 abbrev pub PairsKeep : Type 0
 PairsKeep = (plan : Plan) (T : Table) (p n : ℕ) (old new : Kept) → n < length T → Keeps plan T old → RunsPair plan T p n old new → Keeps plan T new
@@ -39,14 +39,14 @@ KeptIsRight =
 abbrev pub DirtyAreRun : Type 0
 DirtyAreRun =
     (plan : Plan) (T U : Table) (touched : Cell → Bool) (old new : Kept) → IsSound plan → WellFormed T → Edits T U touched → IsFresh plan T old →
-    Marks touched old new → (unit : ValidationUnit) → IsUnit plan U unit → IsTyped plan unit →
+    Marks T touched old new → (unit : ValidationUnit) → IsUnit plan U unit → IsTyped plan unit →
     is_run plan U new unit ≡ is_dirty plan T U touched unit
 
 -- the same of all units, where the rules of each pattern are well typed
 abbrev pub DirtyUnitsAreRun : Type 0
 DirtyUnitsAreRun =
     (plan : Plan) (T U : Table) (touched : Cell → Bool) (old new : Kept) → IsSound plan → WellFormed T → Edits T U touched → IsFresh plan T old →
-    Marks touched old new → ((p : ℕ) → p < length plan.patterns → RulesTyped plan p) → to_run plan U new ≡ dirty_units plan T U touched
+    Marks T touched old new → ((p : ℕ) → p < length plan.patterns → RulesTyped plan p) → to_run plan U new ≡ dirty_units plan T U touched
 
 -- where nothing is kept, the state of any tree is, and all units are to be run
 abbrev pub NothingKeeps : Type 0

@@ -7,7 +7,8 @@ use Rattle.sch_compiled.specs.declared.plan.Plan.{Plan}
 use Rattle.sch_units.specs.Units.{lets_of}
 use Rattle.sch_units.specs.Validity.{pair_outcome}
 use Rattle.edit_costs.specs.Units.{ValidationUnit, in_force, under, reads_of, units_of}
-use Rattle.kept_state.specs.Kept.{HeldAlike, IsUnit, Keeps, Kept, noted}
+use Rattle.cover_laws.specs.Covering.{HeldAlike}
+use Rattle.kept_state.specs.Kept.{IsUnit, Keeps, Kept, noted}
 use Rattle.kept_state.specs.Steps.{StaysAs, differs, unless_changed}
 
 -- nothing is kept of what the unit read

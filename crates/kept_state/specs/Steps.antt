@@ -10,13 +10,13 @@ use Rattle.xp_meaning.specs.Evaluation.{Lets}
 use Rattle.sch_compiled.specs.declared.plan.Plan.{Plan}
 use Rattle.edit_costs.specs.SameOutcome.{same_outcome}
 use Rattle.edit_costs.specs.Units.{ValidationUnit, in_force, under}
-use Rattle.cover_laws.specs.Covering.{has_touched}
-use Rattle.kept_state.specs.Kept.{HeldAlike, Kept, LetsPass, Stands, let_gives, noted, reads_under}
+use Rattle.cover_laws.specs.Covering.{HeldAlike, holds_touched}
+use Rattle.kept_state.specs.Kept.{Kept, LetsPass, Stands, let_gives, noted, reads_under}
 
--- what is kept of a unit that read some cells, once cells were touched
-abbrev pub unless_touched : (Cell → Bool) → Option Recorded → Option Recorded
-unless_touched touched None = None
-unless_touched touched (Some held) = if has_touched touched held.cells then None else Some held
+-- what is kept of a unit, once cells of a tree were touched
+abbrev pub unless_touched : Table → (Cell → Bool) → Option Recorded → Option Recorded
+unless_touched T touched None = None
+unless_touched T touched (Some held) = if holds_touched T touched held then None else Some held
 
 -- what is kept of a unit that read some lets, once lets have changed
 abbrev pub unless_changed : (ℕ → Bool) → Option Recorded → Option Recorded
@@ -37,11 +37,11 @@ pub record StaysAs (old new : Kept) (unit : ValidationUnit) : Type 0 where
   pub given : SameGiven old new unit
   pub reads : new.reads unit ≡ old.reads unit
 
--- the units that read a touched cell are stale, and nothing else changes
-pub record Marks (touched : Cell → Bool) (old new : Kept) : Type 0 where
+-- the units that read what was touched of a tree are stale, and nothing else changes
+pub record Marks (T : Table) (touched : Cell → Bool) (old new : Kept) : Type 0 where
   pub lets : new.lets ≡ old.lets
   pub outcomes : (p n : ℕ) → new.outcomes p n ≡ old.outcomes p n
-  pub reads : (unit : ValidationUnit) → new.reads unit ≡ unless_touched touched (old.reads unit)
+  pub reads : (unit : ValidationUnit) → new.reads unit ≡ unless_touched T touched (old.reads unit)
 
 -- a let in force was run: it has its outcome under the kept lets, and what it read is kept, or it is stale; those that read a let whose
 -- outcome has changed are stale, and nothing else changes

@@ -3,7 +3,7 @@
 ghost use Rattle.kept_state.specs.Laws.{DirtyAreRun, DirtyUnitsAreRun, EditsKeep, KeptIsRight, LetsKeep, NothingKeeps, PairsKeep};
 ghost use Rattle.kept_state.specs.Refreshing.{RefreshesKeep};
 
-use cover_laws::{alike_stay, edits_touch_alike};
+use cover_laws::{edits_touch_held_alike, held_stays_alike, reads_are_touched};
 use edit_costs::{lets_need_those_before, same_outcomes_are_equal};
 use sch_locality_laws::{units_are_local, units_stand};
 use sch_units::lets_stand_in_order;
@@ -14,12 +14,12 @@ pub fn nothing_keeps()
     ensures { NothingKeeps }
 {}
 
-/// Edits keep the state, where those units are made stale that read a touched cell.
+/// Edits keep the state, where those units are made stale that read what was touched.
 pub fn edits_keep()
     ensures { EditsKeep }
 {
-    edits_touch_alike();
-    alike_stay();
+    edits_touch_held_alike();
+    held_stays_alike();
     units_read_live_cells();
     units_are_local();
     units_stand();
@@ -55,8 +55,9 @@ pub fn dirty_are_run()
     ensures each { DirtyAreRun }
     ensures all { DirtyUnitsAreRun }
 {
-    edits_touch_alike();
-    alike_stay();
+    edits_touch_held_alike();
+    held_stays_alike();
+    reads_are_touched();
     units_read_live_cells();
     lets_need_those_before();
     lets_stand_in_order();

@@ -18,7 +18,8 @@ use Rattle.edit_costs.specs.SameOutcome.{same_outcome}
 use Rattle.edit_costs.specs.Units.{ValidationUnit, in_force, under, let_units}
 use Rattle.edit_costs.proofs.LetLemmas.{lets_whole}
 use Rattle.edit_costs.proofs.RaisedLemmas.{spent_raised}
-use Rattle.kept_state.specs.Kept.{Gave, HeldAlike, IsUnit, Keeps, Kept, LetsLive, LetsPass, Stands, let_gives, noted, reads_under}
+use Rattle.cover_laws.specs.Covering.{HeldAlike}
+use Rattle.kept_state.specs.Kept.{Gave, IsUnit, Keeps, Kept, LetsLive, LetsPass, Stands, let_gives, noted, reads_under}
 use Rattle.kept_state.specs.Refreshing.{Reached, RefreshesGoOn}
 use Rattle.kept_state.specs.Running.{GivesHere, GoesOn, IsDone, is_run, is_stale}
 use Rattle.kept_state.specs.Steps.{SameGiven, StaysAs, differs, unless_changed}

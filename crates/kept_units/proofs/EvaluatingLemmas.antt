@@ -18,10 +18,9 @@ use Rattle.sch_compiled.specs.Findings.{OutcomeTable, Puts, outcome_at}
 use Rattle.sch_units.specs.Units.{unit_let, unit_pair}
 use Rattle.sch_units.specs.Validity.{outcome_of}
 use Rattle.xp_meaning.specs.Evaluation.{Lets}
-use Rattle.cover_laws.specs.Covering.{Alike}
 use Rattle.edit_costs.specs.Evaluating.{Took}
 use Rattle.state_run.proofs.LetLemmas.{let_answer, let_took}
-use Rattle.kept_state.specs.Kept.{HeldAlike, noted}
+use Rattle.kept_state.specs.Kept.{noted}
 use Rattle.kept_reads.specs.declared.kept_reads.KeptReads.{KeptReads}
 use Rattle.kept_reads.specs.KeptReads.{Empties, PutsReads}
 use Rattle.kept_reads.specs.Reads.{reads_at}
@@ -91,11 +90,6 @@ pub pair_noted : (m : Evaluation EvalFault Outcome) (outcome : Outcome) (now : R
 pair_noted m NoRule now before after ran = ran.computes.reads
 pair_noted m (Fired rule findings) now before after ran = ran.computes.reads
 pair_noted m (Fault f) now before after ran = ran.computes.reads
-
--- Reads without covered cells
-
-pub alike_held : (T : Table) (held reads : Recorded) → held.lets ≡ reads.lets → Alike T held.cells reads.cells → HeldAlike T held reads
-alike_held T held reads lets cells = record { lets = lets; cells = cells }
 
 -- Units that were evaluated
 

@@ -25,7 +25,8 @@ use Rattle.edit_costs.specs.Units.{ValidationUnit, in_force, under, let_reads, l
 use Rattle.edit_costs.proofs.LetLemmas.{let_there}
 use Rattle.edit_costs.proofs.RaisedLemmas.{raised_let, raised_none, spent_raised}
 use Rattle.edit_costs.proofs.UnitLemmas.{let_more}
-use Rattle.kept_state.specs.Kept.{HeldAlike, Keeps, let_gives, noted}
+use Rattle.cover_laws.specs.Covering.{HeldAlike}
+use Rattle.kept_state.specs.Kept.{Keeps, let_gives, noted}
 use Rattle.kept_state.specs.Refreshing.{Reached, RefreshesGoOn}
 use Rattle.kept_state.specs.Running.{GoesOn, is_run, is_stale}
 use Rattle.kept_state.specs.Steps.{differs, unless_changed}

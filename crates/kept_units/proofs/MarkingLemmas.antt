@@ -22,32 +22,34 @@ use Rattle.kept_units.specs.Keeping.{IsHeld, held_by, place_in, place_of, reads_
 
 -- Entries
 
--- what no touched cell is among stays
-stays_untouched : (touched : Cell → Bool) (entry : Option Recorded) → reads_touched touched entry ≡ false → entry ≡ unless_touched touched entry
-stays_untouched touched None clean = refl
-stays_untouched touched (Some held) clean = sym (ap (λ (b : Bool). if b then None else Some held) clean)
+-- what nothing touched is among stays
+stays_untouched : (T : Table) (touched : Cell → Bool) (entry : Option Recorded) → reads_touched T touched entry ≡ false →
+    entry ≡ unless_touched T touched entry
+stays_untouched T touched None clean = refl
+stays_untouched T touched (Some held) clean = sym (ap (λ (b : Bool). if b then None else Some held) clean)
 
-gone_touched : (touched : Cell → Bool) (entry : Option Recorded) → reads_touched touched entry ≡ true → None ≡ unless_touched touched entry
-gone_touched touched None hit = refl
-gone_touched touched (Some held) hit = sym (ap (λ (b : Bool). if b then None else Some held) hit)
+gone_touched : (T : Table) (touched : Cell → Bool) (entry : Option Recorded) → reads_touched T touched entry ≡ true →
+    None ≡ unless_touched T touched entry
+gone_touched T touched None hit = refl
+gone_touched T touched (Some held) hit = sym (ap (λ (b : Bool). if b then None else Some held) hit)
 
 -- what is dropped, told place by place
-dropped : (touched : Cell → Bool) (width : ℕ) (old new : KeptReads) → Marks touched width old new → (place : ℕ) →
-    reads_at new.entries place ≡ unless_touched touched (reads_at old.entries place)
-dropped touched width old new marks place =
+dropped : (T : Table) (touched : Cell → Bool) (width : ℕ) (old new : KeptReads) → Marks T touched width old new → (place : ℕ) →
+    reads_at new.entries place ≡ unless_touched T touched (reads_at old.entries place)
+dropped T touched width old new marks place =
     by new.stale_blocks.items (reads_at old.entries place) (reads_at new.entries place) (marks.thins.entries place) (marks.clean place)
   where
-    by : (blocks : List Bool) (before after : Option Recorded) → Thinned touched width place blocks before after →
-        reads_touched touched after ≡ false → after ≡ unless_touched touched before
-    by blocks before after (entry_stays same) clean = same ∙ stays_untouched touched before (ap (reads_touched touched) (sym same) ∙ clean)
-    by blocks before after (entry_dropped hit gone stale) clean = gone ∙ gone_touched touched before hit
+    by : (blocks : List Bool) (before after : Option Recorded) → Thinned T touched width place blocks before after →
+        reads_touched T touched after ≡ false → after ≡ unless_touched T touched before
+    by blocks before after (entry_stays same) clean = same ∙ stays_untouched T touched before (ap (reads_touched T touched) (sym same) ∙ clean)
+    by blocks before after (entry_dropped hit gone stale) clean = gone ∙ gone_touched T touched before hit
 
 -- what wasn't dropped is kept
-still_kept : (touched : Cell → Bool) (width place : ℕ) (blocks : List Bool) (before after : Option Recorded) →
-    Thinned touched width place blocks before after → 0 < width →
+still_kept : (T : Table) (touched : Cell → Bool) (width place : ℕ) (blocks : List Bool) (before after : Option Recorded) →
+    Thinned T touched width place blocks before after → 0 < width →
     may_be_stale blocks (place / width) ≡ false → is_none before ≡ false → is_none after ≡ false
-still_kept touched width place blocks before after (entry_stays same) wide clean had = ap is_none same ∙ had
-still_kept touched width place blocks before after (entry_dropped hit gone stale) wide clean had = absurd (true≢false (sym (stale wide) ∙ clean))
+still_kept T touched width place blocks before after (entry_stays same) wide clean had = ap is_none same ∙ had
+still_kept T touched width place blocks before after (entry_dropped hit gone stale) wide clean had = absurd (true≢false (sym (stale wide) ∙ clean))
 
 pub was_false : (a b : Bool) → (a ≡ true → b ≡ true) → b ≡ false → a ≡ false
 was_false true b on clean = absurd (true≢false (sym (on refl) ∙ clean))
@@ -55,24 +57,24 @@ was_false false b on clean = refl
 
 -- Units
 
-pub marks_seen : (touched : Cell → Bool) (old new : KeptUnits) (width : ℕ) → new.lets ≡ old.lets → new.found ≡ old.found →
-    Marks touched 1 old.let_reads new.let_reads →
-    Marks touched width old.reads new.reads → MarksSeen touched (seen_in old) (seen_in new)
-marks_seen touched old new width lets found let_marks marks = record {
+pub marks_seen : (T : Table) (touched : Cell → Bool) (old new : KeptUnits) (width : ℕ) → new.lets ≡ old.lets → new.found ≡ old.found →
+    Marks T touched 1 old.let_reads new.let_reads →
+    Marks T touched width old.reads new.reads → MarksSeen T touched (seen_in old) (seen_in new)
+marks_seen T touched old new width lets found let_marks marks = record {
   lets = lets;
   outcomes = λ p n. ap (λ (table : OutcomeTable). outcome_at table p n) found;
   reads = each;
 }
   where
-    each : (unit : ValidationUnit) → reads_in (held_by new) unit ≡ unless_touched touched (reads_in (held_by old) unit)
-    each (in_force slot) = dropped touched 1 old.let_reads new.let_reads let_marks slot
+    each : (unit : ValidationUnit) → reads_in (held_by new) unit ≡ unless_touched T touched (reads_in (held_by old) unit)
+    each (in_force slot) = dropped T touched 1 old.let_reads new.let_reads let_marks slot
     each (under p n) =
         ap (λ (table : OutcomeTable). if nat_lt p table.patterns then reads_at new.reads.entries (place_in table.patterns p n) else None) found
         ∙ by (nat_lt p old.found.patterns)
       where
         by : (b : Bool) → (if b then reads_at new.reads.entries (place_in old.found.patterns p n) else None) ≡
-            unless_touched touched (if b then reads_at old.reads.entries (place_in old.found.patterns p n) else None)
-        by true = dropped touched width old.reads new.reads marks (place_in old.found.patterns p n)
+            unless_touched T touched (if b then reads_at old.reads.entries (place_in old.found.patterns p n) else None)
+        by true = dropped T touched width old.reads new.reads marks (place_in old.found.patterns p n)
         by false = refl
 
 -- One edit more
@@ -91,7 +93,7 @@ new_past leave T U last n formed edit lives dead = elim (cases_lt n (length T)) 
 -- the places stay those of the tree that an edit makes
 pub held_marked : EditsLeave → (plan : Plan) (T U : Table) (touched last : Cell → Bool) (old new : KeptUnits) (width : ℕ) → WellFormed T →
     Edit T U last → new.found ≡ old.found → width ≡ old.found.patterns →
-    Marks touched 1 old.let_reads new.let_reads → Marks touched width old.reads new.reads → IsHeld plan T old → IsHeld plan U new
+    Marks U touched 1 old.let_reads new.let_reads → Marks U touched width old.reads new.reads → IsHeld plan T old → IsHeld plan U new
 held_marked leave plan T U touched last old new width formed edit found width_is let_marks marks held = record {
   patterns = ap (λ (table : OutcomeTable). table.patterns) found ∙ held.patterns;
   lets_short = omega (arith, let_marks.thins.places, held.lets_short);
@@ -108,7 +110,7 @@ held_marked leave plan T U touched last old new width formed edit found width_is
         is_none (reads_at new.reads.entries (place_of plan p n)) ≡ false
     by_passed p n active lives clean true lived =
         let row : place_of plan p n / width ≡ n = ap (λ (w : ℕ). place_of plan p n / w) wide ∙ div-mul-add n (length plan.patterns) p active in
-        still_kept touched width (place_of plan p n) new.reads.stale_blocks.items (reads_at old.reads.entries (place_of plan p n))
+        still_kept U touched width (place_of plan p n) new.reads.stale_blocks.items (reads_at old.reads.entries (place_of plan p n))
         (reads_at new.reads.entries (place_of plan p n))
         (marks.thins.entries (place_of plan p n)) (omega (arith, wide, active)) (ap (may_be_stale new.reads.stale_blocks.items) row ∙ clean)
         (held.passed p n active lived (was_false (may_be_stale old.reads.stale_blocks.items n) (may_be_stale new.reads.stale_blocks.items n)

@@ -19,7 +19,8 @@ use Rattle.edit_costs.specs.Evaluating.{SpentOn, nodes_below, patterns_below}
 use Rattle.edit_costs.specs.Units.{ValidationUnit, in_force, under, node_units}
 use Rattle.edit_costs.proofs.RaisedLemmas.{raised_none, raised_then, spent_raised}
 use Rattle.edit_costs.proofs.UnitLemmas.{number_more, pattern_more}
-use Rattle.kept_state.specs.Kept.{HeldAlike, Kept, Stands, noted}
+use Rattle.cover_laws.specs.Covering.{HeldAlike}
+use Rattle.kept_state.specs.Kept.{Kept, Stands, noted}
 use Rattle.kept_state.specs.Refreshing.{ComesBefore, PairsGoOn, Reached}
 use Rattle.kept_state.specs.Running.{is_run, is_stale}
 use Rattle.kept_state.specs.Steps.{StaysAs}

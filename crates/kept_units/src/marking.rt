@@ -17,11 +17,12 @@ use edit_commands::Touched;
 use kept_reads::Marking;
 
 impl KeptUnits {
-    /// Marks as stale the units that read a cell that a command touched. The tree is the one that the command left.
+    /// Marks as stale the units that read something that a command touched. The tree is the one that the command left.
     ///
-    /// Takes no memory. Goes to the units that have read each touched cell alone, so that it costs the way up from a node beside these.
+    /// Takes no memory. Goes to the units that have read each touched cell alone, so that it costs the way up from a node beside these; of a
+    /// rename also what `KeptReads::mark` says.
     pub fn mark(&mut self, tree: &Tree, touched: &Touched)
-        ensures marks { Marks (holds_cell tree.now.nodes touched.now) (seen_in self.old) (seen_in self.new) }
+        ensures marks { Marks tree.now.nodes (holds_cell tree.now.nodes touched.now) (seen_in self.old) (seen_in self.new) }
         ensures held { (plan : Plan) (T : Table) (last : Cell → Bool) → WellFormed T → Edit T tree.now.nodes last → IsHeld plan T self.old →
             IsHeld plan tree.now.nodes self.new }
     {

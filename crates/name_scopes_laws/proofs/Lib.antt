@@ -3,3 +3,4 @@ pub mod TreeSteps
 pub mod DocumentTrees
 pub mod PieceTrees
 pub mod ScopeLemmas
+pub mod RenamingScope

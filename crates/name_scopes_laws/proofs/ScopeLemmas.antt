@@ -28,7 +28,7 @@ use Rattle.name_scopes_laws.specs.Scopes.{AdditionsKeepScope, DeletionsKeepScope
 use Rattle.doc_edits.proofs.RemainderLemmas.{Stays, stays-cut, stays-both, said-live, said-parent, said-decls, before-new, gained-parent, gained-content, gained-new}
 
 -- the scope at a node: its declarations, and the scope at its parent
-scope-under : (T : Table) (B : Forest) → Whole T B → (n p : ℕ) → parent_of T n ≡ Some p → scope_at T n ≡ decls_of T n ++ scope_at T p
+pub scope-under : (T : Table) (B : Forest) → Whole T B → (n p : ℕ) → parent_of T n ≡ Some p → scope_at T n ≡ decls_of T n ++ scope_at T p
 scope-under T B w n p up = ap (λ l. decls_of T n ++ flat_map (decls_of T) l) (ancestors-up T B w n p up)
 
 scope-top : (T : Table) (n : ℕ) → parent_of T n ≡ None → scope_at T n ≡ decls_of T n
@@ -36,9 +36,9 @@ scope-top T n none =
     ap (λ l. decls_of T n ++ flat_map (decls_of T) l) (climb-none T (length T) (parent_of T n) none) ∙ append-nil (decls_of T n)
 
 -- a number keeps its parent and declarations
-record Keeps (T U : Table) (m : ℕ) : Type 0 where
-  parent : parent_of U m ≡ parent_of T m
-  decls : decls_of U m ≡ decls_of T m
+pub record Keeps (T U : Table) (m : ℕ) : Type 0 where
+  pub parent : parent_of U m ≡ parent_of T m
+  pub decls : decls_of U m ≡ decls_of T m
 
 module _ (T U : Table) (B G : Forest) (w : Whole T B) (v : Whole U G) (keeps : (m : ℕ) → is_live T m ≡ true → Keeps T U m) where
   scope-step : (m : ℕ) → is_live T m ≡ true → (o : Option ℕ) → parent_of T m ≡ o
@@ -55,11 +55,11 @@ module _ (T U : Table) (B G : Forest) (w : Whole T B) (v : Whole U G) (keeps : (
   scope-climb (suc k) m short live = scope-step m live (parent_of T m) refl (λ q s l. scope-climb k q (omega (arith, s, short)) l)
 
   -- where all do that live, the scopes stay
-  same-scope : (m : ℕ) → is_live T m ≡ true → scope_at U m ≡ scope_at T m
+  pub same-scope : (m : ℕ) → is_live T m ≡ true → scope_at U m ≡ scope_at T m
   same-scope m live = scope-climb (length (ancestors T m)) m (omega arith) live
 
 -- a node is in scope by its scope and its content
-placed : (U : Table) (m : ℕ) (scope : List Decl) (content : Option Content) → scope_at U m ≡ scope → content_of U m ≡ content → ContentInScope scope content → NodeInScope U m
+pub placed : (U : Table) (m : ℕ) (scope : List Decl) (content : Option Content) → scope_at U m ≡ scope → content_of U m ≡ content → ContentInScope scope content → NodeInScope U m
 placed U m scope content is holds h =
     subst (λ (s : List Decl). ContentInScope s (content_of U m)) (sym is) (subst (λ (o : Option Content). ContentInScope scope o) (sym holds) h)
 
@@ -79,7 +79,7 @@ living U m lives = by (is_live U m) refl
     by false dead = placed U m (scope_at U m) None refl (dead-content U m dead) tt
 
 -- a number with the content that it had stays in scope, where it keeps its scope or is dead
-kept-scoped : (T U : Table) (m : ℕ) → content_of U m ≡ content_of T m → (is_live T m ≡ true → scope_at U m ≡ scope_at T m) → NodeInScope T m → NodeInScope U m
+pub kept-scoped : (T U : Table) (m : ℕ) → content_of U m ≡ content_of T m → (is_live T m ≡ true → scope_at U m ≡ scope_at T m) → NodeInScope T m → NodeInScope U m
 kept-scoped T U m content same h = by (is_live T m) refl
   where
     by : (b : Bool) → is_live T m ≡ b → NodeInScope U m

@@ -3,9 +3,11 @@
 
 ghost use Rattle.name_scopes_laws.specs.Documents.{DocumentsComeBack, DocumentsHaveTrees};
 ghost use Rattle.name_scopes_laws.specs.Pieces.{FragmentsHavePieces};
-ghost use Rattle.name_scopes_laws.specs.Scopes.{AdditionsKeepScope, DeletionsKeepScope, SayingsKeepScope};
+ghost use Rattle.name_scopes_laws.specs.Scopes.{AdditionsKeepScope, DeletionsKeepScope, RenamesKeepScope, SayingsKeepScope};
 
-use doc_edits::{additions_keep_trees, deletions_keep_trees, sayings_keep_trees};
+use doc_edits::{
+    additions_keep_trees, deletions_keep_trees, renames_keep_trees, sayings_keep_trees,
+};
 use name_scopes::{text_comes_back, tree_comes_back};
 use pyx_core::events_nest;
 
@@ -33,10 +35,12 @@ pub fn fragments_have_pieces()
 /// A tree in scope stays in scope, where what comes is in scope at its place.
 pub fn edits_keep_scope()
     ensures sayings { SayingsKeepScope }
+    ensures renames { RenamesKeepScope }
     ensures deletions { DeletionsKeepScope }
     ensures additions { AdditionsKeepScope }
 {
     sayings_keep_trees();
+    renames_keep_trees();
     deletions_keep_trees();
     additions_keep_trees();
 }

@@ -7,7 +7,7 @@ use Rattle.std.specs.declared.cmp.Ordering.TheVariants.{Equal}
 use Rattle.std.specs.Cmp.{Equal-is, nat_cmp_total}
 use Rattle.std.specs.FinMap.{nat_cmp-IsAntisymmetric}
 use Rattle.std.specs.FinSet.{contains, contains-empty, contains-insert, contains-retain, empty, insert, retain, same_set}
-use Rattle.xp_outcome.specs.Evaluation.{Read, cell, variable, Evaluation}
+use Rattle.xp_outcome.specs.Evaluation.{Read, cell, names_along, variable, Evaluation}
 use Rattle.xp_outcome.specs.Recorded.{LetSet, Recorded, note, note_all, nothing_read, without_lets_from}
 use Rattle.xp_outcome.specs.Running.{Stop, faulted, no_memory, Answered, Faulted, CutShort, Ran}
 use Rattle.sch_units.specs.Units.{is_kept, keeping}
@@ -50,6 +50,10 @@ module _ (p : ℕ → Bool) where
       ∙ fails_first (eq_by_cmp nat_cmp q k) (contains s q) (p q) (λ tie. by_tie q k tie ∙ drops)
       ∙ sym (contains-retain s p q (alike q)))
 
+-- what was read but for the lets, which are others
+abbrev with_lets : Recorded → LetSet → Recorded
+with_lets held lets = record { cells = held.cells; names = held.names; lets = lets }
+
 module _ (count : ℕ) where
   -- one let more
   one_more : (held : Recorded) (slot : ℕ) (xs : List Read) →
@@ -59,18 +63,21 @@ module _ (count : ℕ) where
       elim (nat_lt slot count) as (λ b. nat_lt slot count ≡ b →
       note_all (without_lets_from count (note held (variable slot))) (filter (is_kept count) xs)
       ≡ note_all (without_lets_from count held) (cond b (variable slot ∷ filter (is_kept count) xs) (filter (is_kept count) xs))) [
-        | true ↦ λ keeps. ap (λ s. note_all (record { cells = held.cells; lets = s }) (filter (is_kept count) xs)) (retain_kept (λ s. nat_lt s count) held.lets slot keeps)
-        | false ↦ λ drops. ap (λ s. note_all (record { cells = held.cells; lets = s }) (filter (is_kept count) xs)) (retain_dropped (λ s. nat_lt s count) held.lets slot drops)
+        | true ↦ λ keeps.
+            ap (λ lets. note_all (with_lets held lets) (filter (is_kept count) xs)) (retain_kept (λ s. nat_lt s count) held.lets slot keeps)
+        | false ↦ λ drops.
+            ap (λ lets. note_all (with_lets held lets) (filter (is_kept count) xs)) (retain_dropped (λ s. nat_lt s count) held.lets slot drops)
       ] refl
 
   -- the reads without the lets of rules are those that are kept
   pub cut_reads : (held : Recorded) (xs : List Read) → without_lets_from count (note_all held xs) ≡ note_all (without_lets_from count held) (filter (is_kept count) xs)
   cut_reads held [] = refl
   cut_reads held (cell c ∷ xs) = cut_reads (note held (cell c)) xs
+  cut_reads held (names_along axis n ∷ xs) = cut_reads (note held (names_along axis n)) xs
   cut_reads held (variable slot ∷ xs) = cut_reads (note held (variable slot)) xs ∙ one_more held slot xs
 
   cut_nothing : without_lets_from count nothing_read ≡ nothing_read
-  cut_nothing = ap (λ s. record { cells = empty; lets = s }) (retain_empty (λ s. nat_lt s count))
+  cut_nothing = ap (with_lets nothing_read) (retain_empty (λ s. nat_lt s count))
 
   from_nothing : (now : Recorded) (xs : List Read) → now ≡ note_all nothing_read xs → without_lets_from count now ≡ note_all nothing_read (filter (is_kept count) xs)
   from_nothing now xs is =

@@ -1,11 +1,12 @@
 -- Texts of values, and texts that are joined.
-use Rattle.std.proofs.Common.{◌≡◌, ℕ, List, Result, Ok, Err, ◌+◌, sym, ◌∙◌, ap, subst, drop, length, get_or, ◌<◌, ◌≤◌}
+use Rattle.std.proofs.Common.{◌≡◌, ℕ, List, Option, Result, Ok, Err, ◌+◌, sym, ◌∙◌, ap, subst, drop, length, get_or, ◌<◌, ◌≤◌}
 use Rattle.std.specs.Result.{IsErrAnd}
-use Rattle.xp_outcome.specs.Evaluation.{Evaluation, done, given, bind}
+use Rattle.xp_outcome.specs.Evaluation.{Evaluation, done, given, all_reading, bind}
 use Rattle.xp_outcome.specs.Recorded.{Recorded}
 use Rattle.xp_outcome.specs.Running.{Ran}
-use Rattle.xp_outcome.proofs.Outcomes.{bind_assoc, bind_alike, bind-done, bind-right}
+use Rattle.xp_outcome.proofs.Outcomes.{bind_assoc, bind_alike, bind-all_reading, bind-done, bind-right}
 use Rattle.xp_outcome.proofs.Runs.{next_item, no_item}
+use Rattle.doc_tree.specs.QNames.{written_in}
 use Rattle.doc_tree.specs.Table.{Table}
 use Rattle.xp_values.specs.declared.values.Value.{Value}
 use Rattle.xp_values.specs.declared.values.Value.TheVariants.{Chars}
@@ -16,9 +17,11 @@ use Rattle.xp_meaning.specs.Conversions.{as_wanted, text_in}
 use Rattle.xp_meaning.specs.declared.want.Want.TheVariants.{AsText}
 use Rattle.xp_meaning.specs.Evaluation.{Lets}
 use Rattle.xp_meaning.specs.Functions.{text_of}
+use Rattle.xp_meaning.specs.Names.{name_at, of_name}
+use Rattle.xp_meaning.specs.Reads.{name_read}
 use Rattle.xp_meaning.specs.Results.{shown, stop_of}
 use Rattle.sch_compiled.specs.declared.parts.PlanPart.{PlanPart}
-use Rattle.sch_units.specs.Messages.{joined, part_text}
+use Rattle.sch_units.specs.Messages.{joined, part_text, written_name}
 use Rattle.rule_run.specs.inner.Joining.{with_text}
 
 -- the text that a value was converted to
@@ -28,9 +31,11 @@ text_taken T v =
     ∙ bind_alike (text_in T v) _ _ (λ s. bind-done {F = EvalFault} (Chars s) (λ w. done (text_of w)))
     ∙ bind-right (text_in T v))
 
--- the text of a value that is one
-pub chars_taken : (s : List ℕ) → done {F = EvalFault} s ≡ bind (done (Chars s)) (λ w. done (text_of w))
-chars_taken s = sym (bind-done {F = EvalFault} (Chars s) (λ w. done (text_of w)))
+-- the text of a value that is a name as it is written
+pub name_taken : (T : Table) (n : Option ℕ) → written_name T n ≡ bind (of_name T n (λ name. Chars (written_in name))) (λ w. done (text_of w))
+name_taken T n =
+    sym (bind-all_reading (name_read T n) (done (Chars (written_in (name_at T n)))) (λ w. done (text_of w))
+    ∙ ap (λ m. all_reading (name_read T n) m) (bind-done {F = EvalFault} (Chars (written_in (name_at T n))) (λ w. done (text_of w))))
 
 -- a loop that joins parts: the next part, and the end
 module _ (T : Table) (L : Lets) (n : ℕ) (parts : List PlanPart) (i : ℕ) (text : List ℕ) where

@@ -30,6 +30,11 @@ outcome_shown NoRule = Ok NoRule
 outcome_shown (Fired rule findings) = Ok (Fired rule findings)
 outcome_shown (Fault f) = Err (faulted f)
 
+-- the outcome of a node under a pattern as the end of a run, where it is kept alone
+abbrev pub outcome_told : Result Outcome AllocError → Result Outcome (Stop EvalFault)
+outcome_told (Ok outcome) = outcome_shown outcome
+outcome_told (Err _) = Err no_memory
+
 abbrev pub pair_shown : Result Kept AllocError → Result Outcome (Stop EvalFault)
 pair_shown (Ok kept) = outcome_shown kept.outcome
 pair_shown (Err _) = Err no_memory

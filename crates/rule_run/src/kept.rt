@@ -2,13 +2,13 @@
 
 ghost use Rattle.std.specs.Prelude.{◌≡◌, ℕ};
 ghost use Rattle.xp_outcome.specs.Evaluation.{Evaluation};
-ghost use Rattle.xp_outcome.specs.Recorded.{nothing_read};
+ghost use Rattle.xp_outcome.specs.Recorded.{Recorded, nothing_read};
 ghost use Rattle.xp_outcome.specs.Running.{Ran};
 ghost use Rattle.xp_values.specs.declared.values.Value.{Value};
 ghost use Rattle.xp_values.specs.declared.values.EvalFault.{EvalFault};
 ghost use Rattle.xp_meaning.specs.Results.{shown};
 ghost use Rattle.sch_compiled.specs.declared.findings.Outcome.{Outcome};
-ghost use Rattle.rule_run.specs.Kept.{let_reads, let_shown, pair_reads, pair_shown};
+ghost use Rattle.rule_run.specs.Kept.{let_reads, let_shown, outcome_told};
 ghost use Rattle.rule_run.specs.inner.Keeping.{GivesNoFault};
 
 use sch_compiled::Outcome;
@@ -52,21 +52,15 @@ pub(crate) fn keep_let(
     }
 }
 
-/// What is kept of a node under a pattern whose evaluation ended so.
-#[tactic(auto, using(crate::proofs::Keeps::ran_outcome, crate::proofs::Keeps::ran_forgets))]
-pub(crate) fn keep_pair(
-    outcome: Result<Outcome, EvalError>,
-    reads: Recorder,
-) -> Result<Kept, AllocError>
-    ensures { (m : Evaluation EvalFault Outcome) (before after : ℕ) → GivesNoFault m →
-        Ran m (shown outcome) nothing_read reads before after → Ran m (pair_shown result) nothing_read (pair_reads result) before after }
+/// The outcome that is kept of a node under a pattern whose evaluation ended so.
+#[tactic(auto, using(crate::proofs::Keeps::ran_outcome))]
+pub(crate) fn keep_outcome(outcome: Result<Outcome, EvalError>) -> Result<Outcome, AllocError>
+    ensures { (m : Evaluation EvalFault Outcome) (reads : Recorded) (before after : ℕ) → GivesNoFault m →
+        Ran m (shown outcome) nothing_read reads before after → Ran m (outcome_told result) nothing_read reads before after }
 {
     match outcome {
-        Ok(outcome) => Ok(Kept { outcome, reads }),
-        Err(EvalError::Fault(fault)) => Ok(Kept {
-            outcome: Outcome::Fault { kind: fault },
-            reads,
-        }),
+        Ok(outcome) => Ok(outcome),
+        Err(EvalError::Fault(fault)) => Ok(Outcome::Fault { kind: fault }),
         Err(EvalError::Memory) => Err(AllocError),
     }
 }

@@ -1,17 +1,15 @@
 //! The texts of messages, of diagnostics and of properties (ISO/IEC 19757-3, clauses 5.4 and 5.5).
 
 ghost use Rattle.std.specs.Prelude.{◌≡◌, Some, string_bytes};
-ghost use Rattle.doc_tree.specs.QNames.{written_in};
-ghost use Rattle.xp_outcome.specs.Evaluation.{bind, done, given};
+ghost use Rattle.xp_outcome.specs.Evaluation.{bind, given};
 ghost use Rattle.xp_outcome.specs.Running.{Ran};
 ghost use Rattle.xp_values.specs.Outcomes.{Gives};
 ghost use Rattle.xp_values.specs.Texts.{concat};
 ghost use Rattle.xp_meaning.specs.Conversions.{text_in};
 ghost use Rattle.xp_meaning.specs.Evaluation.{meaning};
 ghost use Rattle.xp_meaning.specs.Functions.{named_node, text_of};
-ghost use Rattle.xp_meaning.specs.Names.{name_at};
 ghost use Rattle.xp_meaning.specs.Results.{shown};
-ghost use Rattle.sch_units.specs.Messages.{alone, diagnostic_texts, message, name_text, part_text};
+ghost use Rattle.sch_units.specs.Messages.{alone, diagnostic_texts, message, name_text, part_text, written_name};
 ghost use Rattle.rule_run.specs.inner.Joining.{with_text};
 
 use crate::validator::{Validator, alone};
@@ -148,14 +146,14 @@ impl Validator<'_> {
         name
     }
 
-    /// What `name` gives at the node for an argument or none (XPath 1.0, section 4.1).
+    /// What `name` gives at the node for an argument or none, with the name that it reads (XPath 1.0, section 4.1).
     fn name_for<L: Ledger>(
         &self,
         args: &[Value],
         reads: &mut Recorder,
         steps: &mut Steps<L>,
     ) -> Result<Text, EvalError>
-        ensures { Ran (done (written_in (name_at self.now.caller.tree.now.nodes (named_node (alone self.now.node) args.now))))
+        ensures { Ran (written_name self.now.caller.tree.now.nodes (named_node (alone self.now.node) args.now))
             (shown result) reads.old reads.new steps.old steps.new }
     {
         let at = alone(self.node);

@@ -6,14 +6,14 @@ ghost use Rattle.xp_outcome.specs.Recorded.{nothing_read};
 ghost use Rattle.xp_outcome.specs.Running.{Ran};
 ghost use Rattle.sch_compiled.specs.Soundness.{IsCounted};
 ghost use Rattle.sch_units.specs.Units.{unit_pair};
-ghost use Rattle.rule_run.specs.Kept.{pair_reads, pair_shown};
+ghost use Rattle.rule_run.specs.Kept.{outcome_told, pair_reads, pair_shown};
 ghost use Rattle.rule_run.specs.KeptMatches.{AreKeptFor};
 
-use crate::kept::{Kept, keep_pair};
+use crate::kept::{Kept, keep_outcome};
 use crate::kept_matches::KeptMatches;
 use crate::validator::Validator;
 use doc_tree::{NodeId, Tree};
-use sch_compiled::Plan;
+use sch_compiled::{Outcome, Plan};
 use sch_units::first_match_fires;
 use std::alloc::{AllocError, Global};
 use std::sync::ledger::Ledger;
@@ -66,7 +66,6 @@ pub struct PlanRun<'r> {
 /// `run_pair`, with what is kept of the pattern's rules for the same tree and the same lets in force.
 ///
 /// A rule whose context has steps with positional predicates costs what `matches_with` does.
-#[tactic(auto, using(xp_outcome::proofs::SlotLemmas::kept_whole))]
 pub fn run_pair_with<L: Ledger>(
     run: &PlanRun<'_>,
     p: u32,
@@ -86,10 +85,38 @@ pub fn run_pair_with<L: Ledger>(
     ensures slots { lets.new ≡ lets.old }
     ensures kept { AreKeptFor run.now.plan.now run.now.caller.tree.now.nodes p lets.old kept.new }
 {
+    let mut reads = Recorder::new(run.caller.alloc);
+    let outcome = outcome_of_pair(run, p, n, kept, lets, &mut reads, steps)?;
+    Ok(Kept { outcome, reads })
+}
+
+/// The outcome that `run_pair_with` keeps, for a caller that lends the recorder: what it held is forgotten, and then it holds what is
+/// read for the outcome. So one recorder, with its memory, serves for many nodes.
+#[tactic(auto, using(xp_outcome::proofs::SlotLemmas::kept_whole))]
+pub fn outcome_of_pair<L: Ledger>(
+    run: &PlanRun<'_>,
+    p: u32,
+    n: NodeId,
+    kept: &mut KeptMatches,
+    lets: &mut Lets,
+    reads: &mut Recorder,
+    steps: &mut Steps<L>,
+) -> Result<Outcome, AllocError>
+    requires counted { IsCounted run.now.plan.now }
+    requires active { p < length run.now.plan.now.patterns }
+    requires live { is_live run.now.caller.tree.now.nodes n ≡ true }
+    requires room { length lets.old ≤ length run.now.plan.now.lets }
+    requires kept { AreKeptFor run.now.plan.now run.now.caller.tree.now.nodes p lets.old kept.old }
+    ensures ran { Ran (unit_pair run.now.plan.now run.now.caller.tree.now.nodes lets.old p n)
+        (outcome_told result) nothing_read reads.new steps.old steps.new }
+    ensures counted { steps.old < steps.new }
+    ensures slots { lets.new ≡ lets.old }
+    ensures kept { AreKeptFor run.now.plan.now run.now.caller.tree.now.nodes p lets.old kept.new }
+{
     first_match_fires();
     lets.laws();
     let plan = run.plan;
-    let mut reads = Recorder::new(run.caller.alloc);
+    reads.clear();
     steps.tick();
     let count = plan.let_count();
     let validator = Validator {
@@ -98,8 +125,8 @@ pub fn run_pair_with<L: Ledger>(
         count,
     };
     let pattern = &plan.patterns.as_slice()[p as usize];
-    let outcome = validator.first_rule(pattern.rules.as_slice(), kept, lets, &mut reads, steps);
+    let outcome = validator.first_rule(pattern.rules.as_slice(), kept, lets, reads, steps);
     lets.cut(count);
     reads.cut_lets(count);
-    keep_pair(outcome, reads)
+    keep_outcome(outcome)
 }

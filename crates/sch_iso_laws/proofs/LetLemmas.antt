@@ -2,7 +2,7 @@
 use Rattle.std.proofs.Common.{◌≡◌, ℕ, ◌+◌, ◌-◌, zero, suc, Bool, true, false, cond, List, [], ◌∷◌, ◌++◌, length, map, set, replicate, Result, Option, None, Some, refl, sym, ap, ◌∙◌}
 use Rattle.std.proofs.lemmas.List.{length-map, map-append, map-set}
 use Rattle.std.specs.Prelude.{filter, option_map}
-use Rattle.xp_outcome.specs.Evaluation.{Evaluation, Read, cell, variable}
+use Rattle.xp_outcome.specs.Evaluation.{Evaluation, Read, cell, names_along, variable}
 use Rattle.xp_outcome.specs.Slots.{reaching, with_slot}
 use Rattle.xp_values.specs.declared.values.EvalFault.{EvalFault}
 use Rattle.xp_values.specs.declared.values.Value.{Value}
@@ -32,6 +32,7 @@ next-moved f L o = sym (map-append (option_map (moved_outcome f)) L (Some o ∷ 
 -- whether a read is kept isn't a matter of numbers
 kept-read : (f : ℕ → ℕ) (count : ℕ) (x : Read) → is_kept count (moved_read f x) ≡ is_kept count x
 kept-read f count (cell c) = refl
+kept-read f count (names_along axis n) = refl
 kept-read f count (variable k) = refl
 
 kept-moved : (f : ℕ → ℕ) (count : ℕ) (xs : List Read) → filter (is_kept count) (map (moved_read f) xs) ≡ map (moved_read f) (filter (is_kept count) xs)

@@ -18,9 +18,11 @@ use Rattle.xp_values.specs.declared.values.Value.{Value}
 use Rattle.xp_meaning.specs.Conversions.{nodes_of, text_in}
 use Rattle.xp_meaning.specs.Evaluation.{Lets, meaning}
 use Rattle.xp_meaning.specs.Names.{name_at}
+use Rattle.xp_meaning.specs.Reads.{name_read}
 use Rattle.xp_iso_laws.specs.Moved.{answer_with, moved_lets, moved_value}
 use Rattle.xp_iso_laws.specs.Moves.{ExpressionsMove, Moves}
-use Rattle.xp_iso_laws.proofs.MoveLemmas.{moves-bind, moves-cond, moves-done, moves-equal, moves-made, moves-visit}
+use Rattle.xp_iso_laws.proofs.AxisLemmas.{name_read-moved}
+use Rattle.xp_iso_laws.proofs.MoveLemmas.{moves-all_reading, moves-bind, moves-cond, moves-done, moves-equal, moves-made, moves-visit}
 use Rattle.xp_iso_laws.proofs.ValueLemmas.{as_is, moves-text_in, name_at-moved, nodes-moved, plain_given, truth-moved}
 use Rattle.xslt_match.specs.Matching.{matching}
 use Rattle.xslt_iso_laws.specs.Moves.{PatternsMove}
@@ -37,7 +39,7 @@ use Rattle.sch_compiled.specs.declared.parts.PlanRule.{PlanRule}
 use Rattle.sch_compiled.specs.declared.plan.Plan.{Plan}
 use Rattle.sch_compiled.specs.Plan.{rules_of}
 use Rattle.sch_units.specs.Firing.{all_asserted, asserted, fired_by, first_rule, found, is_found, placed_at}
-use Rattle.sch_units.specs.Messages.{alone, diagnostic_texts, joined, message, name_text, part_text}
+use Rattle.sch_units.specs.Messages.{alone, diagnostic_texts, joined, message, name_text, part_text, written_name}
 use Rattle.sch_units.specs.Units.{lets_from, lets_of, unit_let, unit_pair}
 use Rattle.sch_units.specs.Validity.{outcome_of, pair_outcome}
 use Rattle.sch_units.proofs.FindingParts.{finding_of, with_message, with_properties, with_texts}
@@ -79,18 +81,22 @@ module _ (f : ℕ → ℕ) (T U : Table) (r : Renumbers f T U) (h : Hangs f T U)
     moves-value : (t : TypedTree) → Moves f (moved_value f) (meaning T L t (alone n)) (meaning U M t (alone (f n)))
     moves-value t = expressions f T U L t (alone n) one other r
 
-    first_name-moved : (v : Value) → name_at U (slice_get (nodes_of (moved_value f v)) 0) ≡ name_at T (slice_get (nodes_of v) 0)
-    first_name-moved v =
-        ap (λ (ns : List ℕ). name_at U (slice_get ns 0)) (nodes-moved f v)
-        ∙ (ap (name_at U) (slice_get-map f (nodes_of v) 0) ∙ name_at-moved f T U r h (slice_get (nodes_of v) 0))
+    moves-written : (o : Option ℕ) → Moves f {A = List ℕ} as_is (written_name T o) (written_name U (option_map f o))
+    moves-written o =
+        moves-all_reading f as_is (name_read T o) (name_read U (option_map f o)) _ _ (name_read-moved f T U r h o)
+        (moves-done f as_is (written_in (name_at T o)) (written_in (name_at U (option_map f o))) (ap written_in (name_at-moved f T U r h o)))
+
+    first_node-moved : (v : Value) → slice_get (nodes_of (moved_value f v)) 0 ≡ option_map f (slice_get (nodes_of v) 0)
+    first_node-moved v = ap (λ (ns : List ℕ). slice_get ns 0) (nodes-moved f v) ∙ slice_get-map f (nodes_of v) 0
 
     moves-name : (o : Option TypedTree) → Moves f {A = List ℕ} as_is (name_text T L n o) (name_text U M (f n) o)
-    moves-name None =
-        moves-done f as_is (written_in (name_at T (Some n))) (written_in (name_at U (Some (f n)))) (ap written_in (name_at-moved f T U r h (Some n)))
+    moves-name None = moves-written (Some n)
     moves-name (Some t) =
-        moves-made f (moved_value f) as_is (meaning T L t (alone n)) (meaning U M t (alone (f n)))
-        (λ v. written_in (name_at T (slice_get (nodes_of v) 0))) (λ v. written_in (name_at U (slice_get (nodes_of v) 0)))
-        (moves-value t) (λ v. ap written_in (first_name-moved v))
+        moves-bind f (moved_value f) as_is (meaning T L t (alone n)) (meaning U M t (alone (f n)))
+        (λ v. written_name T (slice_get (nodes_of v) 0)) (λ v. written_name U (slice_get (nodes_of v) 0)) (moves-value t)
+        (λ v. moves-equal f as_is (written_name T (slice_get (nodes_of v) 0)) (written_name U (option_map f (slice_get (nodes_of v) 0)))
+        (written_name U (slice_get (nodes_of (moved_value f v)) 0))
+        (ap (λ (o : Option ℕ). written_name U o) (sym (first_node-moved v))) (moves-written (slice_get (nodes_of v) 0)))
 
     moves-part : (part : PlanPart) → Moves f {A = List ℕ} as_is (part_text T L n part) (part_text U M (f n) part)
     moves-part (Chars characters) = moves-done f as_is characters characters refl

@@ -8,7 +8,7 @@ use xp_iso_laws::expressions_move;
 use xslt_iso_laws::patterns_move;
 
 /// Where a tree is another with its nodes renumbered, a unit gives the same in both but for the numbers of nodes, reads the same
-/// cells of the nodes to which these went, and costs the same. A unit is a let in force, or a node under a pattern; the lets are
+/// of the nodes to which these went, and costs the same. A unit is a let in force, or a node under a pattern; the lets are
 /// given ones that are renumbered too, or those in force of each tree.
 pub fn units_move()
     ensures given { GivenLetsMove }

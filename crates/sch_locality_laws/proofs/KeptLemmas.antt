@@ -6,7 +6,7 @@ use Rattle.std.proofs.lemmas.Bool.{eqb-false, ltb-false}
 use Rattle.doc_tree.specs.cell.Cell.{Cell}
 use Rattle.doc_tree.specs.Table.{Table}
 use Rattle.doc_edit_laws.specs.Agreement.{AllStay}
-use Rattle.xp_outcome.specs.Evaluation.{Read, cell, variable}
+use Rattle.xp_outcome.specs.Evaluation.{Read, cell, names_along, variable}
 use Rattle.xp_outcome.specs.Slots.{in_slot, with_slot}
 use Rattle.xp_outcome.proofs.SlotLemmas.{others_stay, put_there}
 use Rattle.xp_values.specs.declared.values.Value.{Value}
@@ -39,6 +39,7 @@ module _ (T U : Table) (touched : Cell → Bool) where
   -- so it is where a value whose nodes live in both trees is put into a slot of both
   pub fits_put : (P Q L M : Lets) (slot : ℕ) (v : Value) → AllStay T U (nodes_of v) → Fits P Q L M → Fits P Q (with_slot L slot (Ok v)) (with_slot M slot (Ok v))
   fits_put P Q L M slot v stay fits (cell c) h = h
+  fits_put P Q L M slot v stay fits (names_along axis n) h = h
   fits_put P Q L M slot v stay fits (variable other) h = by (eqb other slot) refl
     where
       by : (b : Bool) → eqb other slot ≡ b → Kept T U touched (with_slot L slot (Ok v)) (with_slot M slot (Ok v)) (variable other)
@@ -57,6 +58,7 @@ module _ (T U : Table) (touched : Cell → Bool) where
       AllKept T U touched L M (filter (is_kept count) xs) → AllKept T U touched L M xs
   kept_below L M count few few_after [] h = tt
   kept_below L M count few few_after (cell c ∷ xs) h = (h.0, kept_below L M count few few_after xs h.1)
+  kept_below L M count few few_after (names_along axis n ∷ xs) h = (h.0, kept_below L M count few few_after xs h.1)
   kept_below L M count few few_after (variable slot ∷ xs) h = by (nat_lt slot count) refl h (kept_below L M count few few_after xs)
     where
       by : (b : Bool) → nat_lt slot count ≡ b → AllKept T U touched L M (cond b (variable slot ∷ filter (is_kept count) xs) (filter (is_kept count) xs)) →

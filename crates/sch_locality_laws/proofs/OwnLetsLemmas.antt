@@ -10,7 +10,7 @@ use Rattle.doc_tree.specs.Lists.{mem}
 use Rattle.doc_tree.specs.Table.{Table, is_live}
 use Rattle.doc_tree.specs.Walks.{order}
 use Rattle.doc_edit_laws.proofs.Composing.{of-both}
-use Rattle.xp_outcome.specs.Evaluation.{Read, cell, variable}
+use Rattle.xp_outcome.specs.Evaluation.{Read, cell, names_along, variable}
 use Rattle.xp_outcome.specs.Slots.{in_slot}
 use Rattle.xp_values.specs.declared.values.Value.{Value}
 use Rattle.xp_values.specs.declared.values.Value.TheVariants.{NodeSet, Truth, Number, Chars}
@@ -102,6 +102,7 @@ module _ (T U : Table) (touched : Cell → Bool) (changed : Changed T U touched)
       (xs : List Read) → Each (Unchanged plan T U touched) xs → AllKept T U touched L M xs
   all_kept L M proper proper_after plan same [] h = tt
   all_kept L M proper proper_after plan same (cell c ∷ xs) h = (h.0, all_kept L M proper proper_after plan same xs h.1)
+  all_kept L M proper proper_after plan same (names_along axis n ∷ xs) h = (h.0, all_kept L M proper proper_after plan same xs h.1)
   all_kept L M proper proper_after plan same (variable slot ∷ xs) h =
       (kept_slot L M proper proper_after slot (same slot h.0), all_kept L M proper proper_after plan same xs h.1)
 

@@ -6,7 +6,7 @@ use Rattle.std.specs.Option.{option_or, option_to_list}
 use Rattle.doc_tree.specs.QNames.{written_in}
 use Rattle.doc_tree.specs.cell.Cell.{Cell}
 use Rattle.doc_tree.specs.Table.{Table}
-use Rattle.doc_edit_laws.specs.Agreement.{Stays}
+use Rattle.doc_edit_laws.specs.Agreement.{AllStay, Stays}
 use Rattle.xp_typed_tree.specs.TypedTree.{TypedTree}
 use Rattle.xp_outcome.specs.Evaluation.{Evaluation, bind, done, gather, given, visit}
 use Rattle.xp_outcome.specs.Slots.{with_slot}
@@ -15,11 +15,11 @@ use Rattle.xp_values.specs.Texts.{concat}
 use Rattle.xp_values.specs.declared.values.EvalFault.{EvalFault}
 use Rattle.xp_meaning.specs.Conversions.{nodes_of, text_in}
 use Rattle.xp_meaning.specs.Evaluation.{Lets, meaning}
-use Rattle.xp_meaning.specs.Names.{name_at}
 use Rattle.xp_locality_laws.specs.Locality.{AllKept, Changed, ExpressionsAreLocal}
 use Rattle.xp_locality_laws.proofs.AxisLemmas.{root-stays}
 use Rattle.xp_locality_laws.proofs.StandLemmas.{Same, no_nodes, same-bind, same-cond, same-done, same-given, same-made, same-visit}
-use Rattle.xp_locality_laws.proofs.ValueLemmas.{plain_done, same-first_name, same-name_at, same-text_in}
+use Rattle.xp_locality_laws.proofs.NameLemmas.{first-stays, same-of_name}
+use Rattle.xp_locality_laws.proofs.ValueLemmas.{same-text_in}
 use Rattle.xslt_match.specs.Matching.{matching}
 use Rattle.xslt_locality_laws.specs.Locality.{PatternsAreLocal}
 use Rattle.sch_compiled.specs.declared.findings.Finding.{Finding}
@@ -32,7 +32,7 @@ use Rattle.sch_compiled.specs.declared.parts.PlanPart.TheVariants.{Chars, Name, 
 use Rattle.sch_compiled.specs.declared.parts.PlanRule.{PlanRule}
 use Rattle.sch_compiled.specs.Plan.{rules_of}
 use Rattle.sch_units.specs.Firing.{all_asserted, asserted, fired_by, first_rule, found, is_found, placed_at}
-use Rattle.sch_units.specs.Messages.{alone, diagnostic_texts, joined, message, name_text, part_text}
+use Rattle.sch_units.specs.Messages.{alone, diagnostic_texts, joined, message, name_text, part_text, written_name}
 use Rattle.sch_units.specs.Units.{keeping}
 use Rattle.sch_units.proofs.FindingParts.{finding_of, with_message, with_properties, with_texts}
 use Rattle.sch_units.proofs.KeptReads.{keeping-reads}
@@ -62,14 +62,19 @@ module _ (T U : Table) (touched : Cell → Bool) (changed : Changed T U touched)
             (all-fit T U touched P Q L M fits (meaning T L t (alone n)).reads kept);
       }
 
+      -- the name of the first of some nodes, which is read
+      first_name-same : (ns : List ℕ) → AllStay T U ns →
+          Same T U touched P Q no_nodes (written_name T (slice_get ns 0)) (written_name U (slice_get ns 0))
+      first_name-same ns stay =
+          same-of_name T U touched P Q changed no_nodes (slice_get ns 0) (λ name. written_in name)
+          (first-stays T U touched P Q changed ns stay) (λ _. tt)
+
       name-same : (o : Option TypedTree) → Same T U touched P Q no_nodes (name_text T L n o) (name_text U M n o)
-      name-same None =
-          plain_done T U touched P Q changed (written_in (name_at T (Some n))) (written_in (name_at U (Some n)))
-          (ap written_in (same-name_at T U touched P Q changed n here))
+      name-same None = first_name-same (n ∷ []) (here, tt)
       name-same (Some t) =
-          same-made T U touched P Q nodes_of no_nodes (meaning T L t (alone n)) (meaning U M t (alone n))
-          (λ v. written_in (name_at T (slice_get (nodes_of v) 0))) (λ v. written_in (name_at U (slice_get (nodes_of v) 0)))
-          (value-same t) (λ v stay. (ap written_in (same-first_name T U touched P Q changed (nodes_of v) stay), tt))
+          same-bind T U touched P Q nodes_of no_nodes (meaning T L t (alone n)) (meaning U M t (alone n))
+          (λ v. written_name T (slice_get (nodes_of v) 0)) (λ v. written_name U (slice_get (nodes_of v) 0))
+          (value-same t) (λ v stay. first_name-same (nodes_of v) stay)
 
       part-same : (part : PlanPart) → Same T U touched P Q no_nodes (part_text T L n part) (part_text U M n part)
       part-same (Chars characters) = same-done T U touched P Q no_nodes characters tt

@@ -1,12 +1,13 @@
 -- What the units of a validation depend on: on what they read, and on nothing else (ISO/IEC 19757-3, clause 6).
 use Rattle.std.specs.Prelude.{◌≡◌, ℕ, ◌≤◌, Bool, false, length, take, All}
-use Rattle.std.specs.List.{AllByRecursion as Each}
+use Rattle.std.specs.List.{list_any, AllByRecursion as Each}
 use Rattle.doc_tree.specs.cell.Cell.{Cell}
 use Rattle.doc_tree.specs.Table.{Table}
 use Rattle.doc_edit_laws.specs.Agreement.{Stays}
 use Rattle.xp_typed_tree.specs.TypedTree.{TypedTree}
 use Rattle.xp_typed_tree.specs.WellTyped.{PathsTyped}
-use Rattle.xp_outcome.specs.Evaluation.{Read, cell, variable}
+use Rattle.xp_outcome.specs.Cells.{cells_of}
+use Rattle.xp_outcome.specs.Evaluation.{Read, cell, names_along, variable}
 use Rattle.xp_outcome.specs.Slots.{in_slot}
 use Rattle.xp_meaning.specs.Conversions.{nodes_of}
 use Rattle.xp_meaning.specs.Evaluation.{Lets}
@@ -34,9 +35,11 @@ pub record GivenLetsAreLocal : Type 0 where
       length L ≤ length plan.lets → length M ≤ length plan.lets →
       AllKept T U touched L M (unit_pair plan T L p n).reads → unit_pair plan U M p n ≡ unit_pair plan T L p n
 
--- what was read is unchanged: the cell wasn't touched, or the let in force has the same value or fault in both trees
+-- what was read is unchanged: the cell wasn't touched, none of the names along the axis was, or the let in force has the same value
+-- or fault in both trees
 abbrev pub Unchanged : Plan → Table → Table → (Cell → Bool) → Read → Type 0
 Unchanged plan T U touched (cell c) = touched c ≡ false
+Unchanged plan T U touched (names_along axis n) = list_any touched (cells_of T (names_along axis n)) ≡ false
 Unchanged plan T U touched (variable slot) = in_slot (lets_of plan T) slot ≡ in_slot (lets_of plan U) slot
 
 -- under the lets in force of each tree, where all is unchanged that a unit reads in the first tree, it gives, reads and costs

@@ -1,3 +1,4 @@
+pub mod NameLemmas
 pub mod MarkLemmas
 pub mod TurnLemmas
 pub mod BackLemmas

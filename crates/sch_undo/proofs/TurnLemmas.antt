@@ -1,5 +1,5 @@
 -- Commands done one after another: the next one is free, and one more was done.
-use Rattle.std.proofs.Common.{◌≡◌, ℕ, ◌+◌, ◌<◌, suc, false, ◌||◌, List, [], ◌∷◌, ◌++◌, length, take, drop, get_or, drop-cons, None, refl, sym, ap, ◌∙◌, subst}
+use Rattle.std.proofs.Common.{◌≡◌, ℕ, ◌+◌, ◌<◌, suc, false, ◌||◌, List, [], ◌∷◌, ◌++◌, ◌⊎◌, inl, inr, length, take, drop, get_or, drop-cons, None, refl, sym, ap, ◌∙◌, subst}
 use Rattle.std.proofs.lemmas.List.{take-append-drop, take_more}
 use Rattle.doc_tree.specs.Table.{Contents}
 use Rattle.doc_edit_laws.specs.Along.{Edit}
@@ -11,11 +11,14 @@ use Rattle.edit_commands.specs.Touched.{touched_by}
 use Rattle.edit_command_laws.specs.OneEdit.{OneEdit}
 use Rattle.edit_iso_laws.specs.CommandsMove.{DoneInTurn, none, then}
 use Rattle.history_laws.proofs.HistoryLemmas.{done-as}
+use Rattle.xp_outcome.specs.Recorded.{NamesSet}
+use Rattle.cover_laws.specs.Covering.{has_touched_name}
 use Rattle.kept_state.specs.Steps.{Marks}
 use Rattle.edit_session.specs.Standing.{Standing, seen_by}
 use Rattle.sch_undo.specs.InTurn as turn
-use Rattle.sch_undo.specs.inner.Doing.{Did}
-use Rattle.sch_undo.proofs.MarkLemmas.{marks-none, marks-then}
+use Rattle.sch_undo.specs.inner.Doing.{Did, KeepsNames}
+use Rattle.sch_undo.proofs.MarkLemmas.{marks-none, marks-then, names-none}
+use Rattle.sch_undo.proofs.NameLemmas.{no-name}
 
 -- the first of some commands that were done, and the others
 abbrev Begun : Contents → List Command → Contents → Type 0
@@ -59,24 +62,37 @@ did-none here = record {
   touched = λ _. false;
   in_turn = turn.none;
   edits = along.none;
-  marks = marks-none (seen_by here);
+  marks = marks-none here.tree.nodes (seen_by here);
   plan = refl;
   cap = refl;
   scope = λ scope. scope;
 }
 
+-- a command that keeps names touches as many before those that were done as after them, and so does the first one
+same-names : (old here : Contents) (commands : List Command) (command : Command) → DoneInTurn old commands here →
+    (commands ≡ []) ⊎ KeepsNames command → (names : NamesSet) →
+    has_touched_name here.nodes (touched_by here.nodes command) names ≡ has_touched_name old.nodes (touched_by here.nodes command) names
+same-names old here commands command done (inl empty) names =
+    let stays : old ≡ here = subst (λ (cs : List Command). Begun old cs here) empty (begun old here commands done) in
+    ap (λ (c : Contents). has_touched_name c.nodes (touched_by here.nodes command) names) (sym stays)
+same-names old here commands command done (inr keeps) names =
+    names-none here.nodes (touched_by here.nodes command) (no-name here.nodes command keeps) names
+    ∙ sym (names-none old.nodes (touched_by here.nodes command) (no-name here.nodes command keeps) names)
+
 -- one more was done
 pub did-more : (old here new : Standing) (commands : List Command) (command : Command) → Did old commands here →
+    (commands ≡ []) ⊎ KeepsNames command →
     command_refusal here.tree command ≡ None →
     IsEdited here.tree.nodes command new.tree.nodes → Edit here.tree.nodes new.tree.nodes (touched_by here.tree.nodes command) →
-    Marks (touched_by here.tree.nodes command) (seen_by here) (seen_by new) → new.plan ≡ here.plan → new.tree.pair_cap ≡ here.tree.pair_cap →
+    Marks here.tree.nodes (touched_by here.tree.nodes command) (seen_by here) (seen_by new) → new.plan ≡ here.plan → new.tree.pair_cap ≡ here.tree.pair_cap →
     (InScope here.tree.nodes → InScope new.tree.nodes) → Did old (commands ++ command ∷ []) new
-did-more old here new commands command did free edited edit marks plan cap scope = record {
+did-more old here new commands command did first free edited edit marks plan cap scope = record {
   done = done-more old.tree here.tree new.tree commands command did.done free edited cap;
   touched = λ c. did.touched c || touched_by here.tree.nodes command c;
   in_turn = (turn.then) commands command here.tree.nodes new.tree.nodes did.touched did.in_turn edited;
   edits = (along.then) here.tree.nodes new.tree.nodes did.touched (touched_by here.tree.nodes command) did.edits edit;
-  marks = marks-then did.touched (touched_by here.tree.nodes command) (seen_by old) (seen_by here) (seen_by new) did.marks marks;
+  marks = marks-then old.tree.nodes here.tree.nodes did.touched (touched_by here.tree.nodes command) (seen_by old) (seen_by here) (seen_by new)
+      (same-names old.tree here.tree commands command did.done first) did.marks marks;
   plan = plan ∙ did.plan;
   cap = cap ∙ did.cap;
   scope = λ s. scope (did.scope s);

@@ -68,7 +68,7 @@ pub record RunsDirty (old new : Remembered) : Type 0 where
   pub is : old.entries ≡ entry ∷ others
   pub touched : Cell → Bool
   pub in_turn : TouchesInTurn old.session.tree.nodes entry.commands new.session.tree.nodes touched
-  pub marks : Marks touched (seen_by old.session) (seen_by new.session)
+  pub marks : Marks old.session.tree.nodes touched (seen_by old.session) (seen_by new.session)
   pub run : IsFresh old.session.plan old.session.tree.nodes (seen_by old.session) →
       to_run old.session.plan new.session.tree.nodes (seen_by new.session) ≡
       dirty_units old.session.plan old.session.tree.nodes new.session.tree.nodes touched

@@ -20,7 +20,7 @@ ghost use Rattle.edit_session.specs.Wrote.{RoseBy, UnlessMemory, WroteState};
 ghost use Rattle.state_iso_laws.specs.States.{ShowTheSame};
 ghost use Rattle.sch_undo.specs.declared.history.TheConstants.{MAX_UNDO_DEPTH};
 ghost use Rattle.sch_undo.specs.Remembered.{GoesBackTo, LeavesUndo, RefusesEdit, RefusesUndo, Remembers, RunsDirty, Undone};
-ghost use Rattle.sch_undo.specs.inner.Doing.{Did, Stopped};
+ghost use Rattle.sch_undo.specs.inner.Doing.{Did, NamesFirst, Stopped};
 
 use crate::error::UndoError;
 use circular_buffer::HeapCircularBuffer;
@@ -131,7 +131,7 @@ impl History {
             to_run self.old.session.plan self.new.session.tree.nodes (seen_by self.new.session) ≡
             dirty_units self.old.session.plan self.old.session.tree.nodes self.new.session.tree.nodes
             (touched_by self.old.session.tree.nodes command.now)) }
-        ensures marked { OnOk result (Marks (touched_by self.old.session.tree.nodes command.now)
+        ensures marked { OnOk result (Marks self.old.session.tree.nodes (touched_by self.old.session.tree.nodes command.now)
             (seen_by self.old.session) (seen_by self.new.session)) }
         ensures remembered { OnOk result (Remembers self.old command.now self.new) }
         ensures kept { OnOk result ((trees : List Contents) → GoesBackTo self.old trees →
@@ -258,6 +258,7 @@ fn newest_numbers(entries: &HeapCircularBuffer<Entry>) -> Option<u32>
 fn do_all(session: &mut Session, commands: &[Command]) -> Result<(), AllocError>
     requires formed { All WellFormedCommand commands.now }
     requires free { (end : Contents) × DoneInTurn session.old.tree commands.now end }
+    requires names { NamesFirst commands.now }
     ensures done { OnOk result (Did session.old commands.now session.new) }
     ensures stopped { OnErr result (Stopped session.old commands.now session.new) }
 {

@@ -3,7 +3,7 @@ use Rattle.std.proofs.Common.{◌≡◌, ℕ, true, false, cond, List, [], ◌�
 use Rattle.std.specs.Prelude.{filter, nat_lt}
 use Rattle.std.specs.List.{AllByRecursion as Each}
 use Rattle.std.proofs.lemmas.Bool.{ltb-true}
-use Rattle.xp_outcome.specs.Evaluation.{Read, cell, variable, Evaluation, visit}
+use Rattle.xp_outcome.specs.Evaluation.{Read, cell, names_along, variable, Evaluation, visit}
 use Rattle.xp_meaning.proofs.Answers.{answer_visit}
 use Rattle.sch_units.specs.Units.{is_kept, keeping}
 use Rattle.sch_units.specs.Laws.{IsInForce}
@@ -11,6 +11,7 @@ use Rattle.sch_units.specs.Laws.{IsInForce}
 pub kept_in_force : (count : ℕ) (reads : List Read) → Each (IsInForce count) (filter (is_kept count) reads)
 kept_in_force count [] = tt
 kept_in_force count (cell c ∷ reads) = (tt, kept_in_force count reads)
+kept_in_force count (names_along axis n ∷ reads) = (tt, kept_in_force count reads)
 kept_in_force count (variable slot ∷ reads) =
     elim (nat_lt slot count) as (λ b. nat_lt slot count ≡ b → Each (IsInForce count) (cond b (variable slot ∷ filter (is_kept count) reads) (filter (is_kept count) reads))) [
       | true ↦ λ below. (ltb-true slot count below, kept_in_force count reads)

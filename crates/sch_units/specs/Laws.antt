@@ -2,7 +2,7 @@
 use Rattle.std.specs.Prelude.{◌≡◌, ℕ, ◌<◌, true, false, List, [], ◌∷◌, ◌++◌, length, take, All, Some, Result, Ok, slice_get}
 use Rattle.std.specs.List.{AllByRecursion as Each}
 use Rattle.doc_tree.specs.Table.{Table}
-use Rattle.xp_outcome.specs.Evaluation.{Read, cell, variable}
+use Rattle.xp_outcome.specs.Evaluation.{Read, cell, names_along, variable}
 use Rattle.xp_outcome.specs.Slots.{in_slot, with_slot}
 use Rattle.xp_values.specs.declared.values.Value.{Value}
 use Rattle.xp_values.specs.declared.values.EvalFault.{EvalFault}
@@ -36,6 +36,7 @@ pub record FirstMatchFires : Type 0 where
 -- a let that is read is in force: its slot is below the number of the lets in force
 abbrev pub IsInForce : ℕ → Read → Type 0
 IsInForce count (cell c) = Unit {0}
+IsInForce count (names_along axis n) = Unit {0}
 IsInForce count (variable slot) = slot < count
 
 -- what a node under a pattern reads names only lets in force

@@ -8,7 +8,7 @@ use Rattle.xp_values.specs.declared.values.EvalFault.{EvalFault}
 use Rattle.xp_values.specs.Texts.{concat}
 use Rattle.xp_meaning.specs.declared.context.Context.{Context}
 use Rattle.xp_meaning.specs.Conversions.{nodes_of, text_in}
-use Rattle.xp_meaning.specs.Names.{name_at}
+use Rattle.xp_meaning.specs.Names.{of_name}
 use Rattle.xp_meaning.specs.Evaluation.{Lets, meaning}
 use Rattle.sch_compiled.specs.declared.parts.PlanPart.{PlanPart}
 use Rattle.sch_compiled.specs.declared.parts.PlanPart.TheVariants.{Chars, ValueOf, Name}
@@ -18,10 +18,14 @@ use Rattle.sch_compiled.specs.declared.parts.PlanDiagnostic.{PlanDiagnostic}
 abbrev pub alone : ℕ → Context
 alone n = record { node = n; position = 1; size = 1; current = n }
 
--- the name of a path's first node as it is written, empty where there is none; of the node itself where there is no path
+-- the name of a node as it is written, which is read; empty for no node, and for a node without a name
+abbrev pub written_name : Table → Option ℕ → Evaluation EvalFault (List ℕ)
+written_name T n = of_name T n (λ name. written_in name)
+
+-- the name of a path's first node; of the node itself where there is no path
 abbrev pub name_text : Table → Lets → ℕ → Option TypedTree → Evaluation EvalFault (List ℕ)
-name_text T L n None = done (written_in (name_at T (Some n)))
-name_text T L n (Some path) = bind (meaning T L path (alone n)) (λ v. done (written_in (name_at T (slice_get (nodes_of v) 0))))
+name_text T L n None = written_name T (Some n)
+name_text T L n (Some path) = bind (meaning T L path (alone n)) (λ v. written_name T (slice_get (nodes_of v) 0))
 
 -- what a part of a message says of a node: characters as they are written, the text of a value, or a name
 abbrev pub part_text : Table → Lets → ℕ → PlanPart → Evaluation EvalFault (List ℕ)

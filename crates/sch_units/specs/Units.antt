@@ -3,7 +3,7 @@
 use Rattle.std.specs.Prelude.{ℕ, Bool, true, nat_lt, List, [], ◌∷◌, ◌++◌, length, filter, Some}
 use Rattle.doc_tree.specs.Table.{Table}
 use Rattle.xp_typed_tree.specs.TypedTree.{TypedTree}
-use Rattle.xp_outcome.specs.Evaluation.{Read, cell, variable, Evaluation, visit}
+use Rattle.xp_outcome.specs.Evaluation.{Read, cell, names_along, variable, Evaluation, visit}
 use Rattle.xp_values.specs.declared.values.Value.{Value}
 use Rattle.xp_values.specs.declared.values.EvalFault.{EvalFault}
 use Rattle.xp_meaning.specs.Evaluation.{Lets, meaning}
@@ -14,9 +14,10 @@ use Rattle.sch_compiled.specs.declared.findings.Outcome.{Outcome}
 use Rattle.sch_units.specs.Messages.{alone}
 use Rattle.sch_units.specs.Firing.{first_rule}
 
--- whether a unit keeps a read: a cell, or a let in force, whose slot is below their number
+-- whether a unit keeps a read: a cell, names, or a let in force, whose slot is below their number
 abbrev pub is_kept : ℕ → Read → Bool
 is_kept count (cell c) = true
+is_kept count (names_along axis n) = true
 is_kept count (variable slot) = nat_lt slot count
 
 -- an evaluation that keeps only such reads

@@ -14,7 +14,7 @@ ghost use Rattle.state_run.specs.Outcomes.{Holds, LetsHold};
 ghost use Rattle.state_run.specs.inner.Running.{HoldsTo, under_node};
 
 use doc_tree::{NodeId, Tree};
-use rule_run::{Caller, KeptMatches, Lets, PlanRun, run_let, run_pair_with};
+use rule_run::{Caller, KeptMatches, Lets, PlanRun, Recorder, outcome_of_pair, run_let};
 use sch_compiled::{Findings, Plan};
 use sch_units::lets_stand_in_order;
 use std::alloc::{AllocError, Global};
@@ -185,17 +185,21 @@ impl Outcomes {
         ensures spent { SpentOn at.now.run.plan.now at.now.run.caller.tree.now.nodes
             (node_units at.now.run.caller.tree.now.nodes at.now.pattern) steps.old steps.new }
     {
-        let mut matches = KeptMatches::new(at.run.caller.alloc);
-        let done = self.run_numbers(at, &mut matches, steps);
+        let alloc = at.run.caller.alloc;
+        let mut matches = KeptMatches::new(alloc);
+        let mut reads = Recorder::new(alloc);
+        let done = self.run_numbers(at, &mut matches, &mut reads, steps);
+        drop(reads);
         drop(matches);
         done
     }
 
-    /// The same with what is kept of the pattern's rules.
+    /// The same with what is kept of the pattern's rules, and a recorder that is lent to each evaluation.
     fn run_numbers<L: Ledger>(
         &mut self,
         at: &PatternRun<'_>,
         matches: &mut KeptMatches,
+        reads: &mut Recorder,
         steps: &mut Steps<L>,
     ) -> Result<(), AllocError>
         requires counted { IsCounted at.now.run.plan.now }
@@ -212,7 +216,7 @@ impl Outcomes {
     {
         at.run.caller.tree.laws();
         for number in 0..at.run.caller.tree.numbers_made() {
-            self.run_node(at, NodeId::from_number(number), matches, steps)?;
+            self.run_node(at, NodeId::from_number(number), matches, reads, steps)?;
         }
         Ok(())
     }
@@ -223,6 +227,7 @@ impl Outcomes {
         at: &PatternRun<'_>,
         n: NodeId,
         matches: &mut KeptMatches,
+        reads: &mut Recorder,
         steps: &mut Steps<L>,
     ) -> Result<(), AllocError>
         requires counted { IsCounted at.now.run.plan.now }
@@ -239,7 +244,7 @@ impl Outcomes {
             (under_node at.now.run.caller.tree.now.nodes at.now.pattern n) steps.old steps.new }
     {
         if at.run.caller.tree.contains(n) {
-            return self.put_pair(at, n, matches, steps);
+            return self.put_pair(at, n, matches, reads, steps);
         }
         Ok(())
     }
@@ -250,6 +255,7 @@ impl Outcomes {
         at: &PatternRun<'_>,
         n: NodeId,
         matches: &mut KeptMatches,
+        reads: &mut Recorder,
         steps: &mut Steps<L>,
     ) -> Result<(), AllocError>
         requires counted { IsCounted at.now.run.plan.now }
@@ -267,7 +273,15 @@ impl Outcomes {
         ensures spent { SpentOn at.now.run.plan.now at.now.run.caller.tree.now.nodes (under at.now.pattern n ∷ []) steps.old steps.new }
     {
         lets_stand_in_order();
-        let kept = run_pair_with(&at.run, at.pattern, n, matches, &mut self.lets, steps)?;
-        self.found.put(at.pattern, n, kept.outcome)
+        let outcome = outcome_of_pair(
+            &at.run,
+            at.pattern,
+            n,
+            matches,
+            &mut self.lets,
+            reads,
+            steps,
+        )?;
+        self.found.put(at.pattern, n, outcome)
     }
 }

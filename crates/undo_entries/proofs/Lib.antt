@@ -1,4 +1,3 @@
 pub mod EventLemmas
-pub mod MeetingFound
 pub mod PlaceLemmas
 pub mod TreeLemmas

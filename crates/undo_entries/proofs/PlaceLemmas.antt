@@ -6,12 +6,12 @@ use Rattle.std.proofs.lemmas.List.Sums.{sum_by-cons}
 use Rattle.doc_table.proofs.ListLemmas.{eq_or}
 use Rattle.doc_table.specs.Lists.{place_in}
 use Rattle.doc_edits.proofs.NumberingLemmas.{place-head, place-tail}
-use Rattle.undo_entries.proofs.MeetingFound.{number-there}
+use Rattle.edit_commands.proofs.MeetingLemmas.{kid-there}
 
 module _ (n : ℕ) (ns : List ℕ) (i m : ℕ) (less : i < length ns) (is : m ≡ slice_index_or ns i m)
     (so_far : i + place_in n (drop i ns) ≡ place_in n ns) where
   there : drop i ns ≡ m ∷ drop (suc i) ns
-  there = drop-cons ns i 0 less ∙ ap (λ k. k ∷ drop (suc i) ns) (sym (number-there ns i m less is))
+  there = drop-cons ns i 0 less ∙ ap (λ k. k ∷ drop (suc i) ns) (sym (kid-there ns i m less is))
 
   -- the number stands here
   pub place-here : eqb n m ≡ true → i ≡ place_in n ns

@@ -3,9 +3,10 @@
 ghost use Rattle.std.specs.Prelude.{◌≡◌, ◌≤◌, suc, true, [], ◌∷◌, ◌++◌, length, map, Some, IfOk, OnOk};
 ghost use Rattle.doc_tree.specs.Changes.{meeting};
 ghost use Rattle.doc_tree.specs.limits.TheConstants.{MAX_NODE_NUMBERS};
-ghost use Rattle.doc_tree.specs.Table.{is_live, kids_above, parent_of, value_of};
+ghost use Rattle.doc_tree.specs.QNames.{written_in};
+ghost use Rattle.doc_tree.specs.Table.{is_live, kids_above, name_of, parent_of, value_of};
 ghost use Rattle.edit_script.specs.WellFormed.{WellFormedCommand};
-ghost use Rattle.edit_script.specs.declared.command.Command.TheVariants.{Delete, SetAttr, SetText, UnsetAttr};
+ghost use Rattle.edit_script.specs.declared.command.Command.TheVariants.{Delete, Rename, RenameAttr, SetAttr, SetText, UnsetAttr};
 ghost use Rattle.edit_commands.specs.Commands.{top_kind};
 ghost use Rattle.edit_paths.specs.Entries.{attribute_comes, attribute_goes, comes_again, deletion_undone, numbers_met, step_under, undoing, undoing_at, undoing_numbers};
 ghost use Rattle.undo_entries.specs.inner.Parts.{behind_undone, entry_at, entry_of, meeting_of, said_again};
@@ -62,6 +63,10 @@ fn entry_at(alloc: Global, tree: &Tree, n: NodeId, command: &Command) -> Result<
         } => undo_set(alloc, tree, n, path.as_slice(), name.as_str()),
         Command::UnsetAttr { path, name } => {
             undo_unset(alloc, tree, n, path.as_slice(), name.as_str())
+        }
+        Command::Rename { path, name: _ } => undo_rename(alloc, tree, n, path.as_slice()),
+        Command::RenameAttr { path, old, name } => {
+            undo_attribute_rename(alloc, tree, n, path.as_slice(), old.as_str(), name.as_str())
         }
     }
 }
@@ -283,6 +288,57 @@ fn push_coming(
     let name = written_name(alloc, tree, a)?;
     let command = set_command(alloc, path, name, tree.value(a))?;
     commands.push(command)
+}
+
+/// An element has its name again.
+fn undo_rename(
+    alloc: Global,
+    tree: &Tree,
+    n: NodeId,
+    path: &[PathStep],
+) -> Result<Entry, AllocError>
+    ensures { IfOk result (λ entry. entry ≡ entry_of (Rename path.now (written_in (name_of tree.now.nodes n)) ∷ []) 0) }
+{
+    let name = written_name(alloc, tree, n)?;
+    let path = ItemList::copy_of(alloc, path)?;
+    entry_of(alloc, Command::Rename { path, name })
+}
+
+/// An attribute has its name again, in place of the new one.
+fn undo_attribute_rename(
+    alloc: Global,
+    tree: &Tree,
+    n: NodeId,
+    path: &[PathStep],
+    old: &str,
+    name: &str,
+) -> Result<Entry, AllocError>
+    ensures { IfOk result (λ entry. entry ≡ entry_at tree.now.nodes (RenameAttr path.now old.now name.now) n) }
+{
+    let qname = split(old);
+    match tree.attribute_at(n, qname.prefix, qname.local) {
+        Some(a) => attribute_rename_undone(alloc, tree, path, a, name),
+        None => Ok(Entry {
+            commands: ItemList::new(alloc),
+            numbers: 0,
+        }),
+    }
+}
+
+/// The attribute with the new name has its name again.
+fn attribute_rename_undone(
+    alloc: Global,
+    tree: &Tree,
+    path: &[PathStep],
+    a: NodeId,
+    name: &str,
+) -> Result<Entry, AllocError>
+    ensures { IfOk result (λ entry. entry ≡ entry_of (RenameAttr path.now name.now (written_in (name_of tree.now.nodes a)) ∷ []) 0) }
+{
+    let old = Text::copy(alloc, name)?;
+    let name = written_name(alloc, tree, a)?;
+    let path = ItemList::copy_of(alloc, path)?;
+    entry_of(alloc, Command::RenameAttr { path, old, name })
 }
 
 /// A node that goes comes again; of two texts that meet the left one says its own text again, and the right one comes.

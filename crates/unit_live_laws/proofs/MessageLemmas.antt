@@ -1,11 +1,13 @@
 -- The texts of messages and the findings of assertions are told by cells of live nodes.
-use Rattle.std.proofs.Common.{◌≡◌, ℕ, cond, List, [], ◌∷◌, ◌++◌, Option, None, Some, Result, Ok, Err, refl, ap, subst}
+use Rattle.std.proofs.Common.{◌≡◌, ℕ, Bool, true, false, cond, List, [], ◌∷◌, ◌++◌, Option, None, Some, Result, Ok, Err, refl, ap, subst}
 use Rattle.std.specs.Prelude.{map, slice_get, slice_index_or}
 use Rattle.std.specs.Option.{option_or, option_to_list}
 use Rattle.std.specs.List.{AllByRecursion as Each}
 use Rattle.doc_tree.specs.Laws.{HasWaysUp, Ordered}
 use Rattle.doc_tree.specs.QNames.{written_in}
-use Rattle.doc_tree.specs.Table.{Table}
+use Rattle.doc_tree.specs.cell.Cell.TheVariants.{Name as NameOf}
+use Rattle.doc_tree.specs.Kinds.{has_own_name}
+use Rattle.doc_tree.specs.Table.{Table, kind_of}
 use Rattle.xp_typed_tree.specs.TypedTree.{TypedTree}
 use Rattle.xp_outcome.specs.Evaluation.{Evaluation, all_reading, behind, bind, done, fault, given, visits}
 use Rattle.xp_values.specs.Conversions.{to_number, to_truth}
@@ -15,12 +17,12 @@ use Rattle.xp_values.specs.declared.values.Value.{Value}
 use Rattle.xp_meaning.specs.Conversions.{first_of, nodes_of, number_in, text_in}
 use Rattle.xp_meaning.specs.Evaluation.{Lets, meaning}
 use Rattle.xp_meaning.specs.Names.{name_at}
-use Rattle.xp_meaning.specs.Reads.{taking, text_read}
+use Rattle.xp_meaning.specs.Reads.{name_read, read_if, taking, text_read}
 use Rattle.xp_meaning_laws.specs.KnownReads.{IsLiveRead, LetsAreLive}
 use Rattle.xp_meaning_laws.proofs.EachLemmas.{each-all}
 use Rattle.xp_meaning_laws.proofs.Knowing.{live_closed}
 use Rattle.xp_meaning_laws.proofs.Parts.{Any, number_sound}
-use Rattle.xp_meaning_laws.proofs.Sound.{Sound, sound_bind, sound_cond, sound_done, sound_gather, sound_given}
+use Rattle.xp_meaning_laws.proofs.Sound.{Sound, sound_behind, sound_bind, sound_cond, sound_done, sound_gather, sound_given}
 use Rattle.sch_compiled.specs.declared.findings.Finding.{Finding}
 use Rattle.sch_compiled.specs.declared.parts.PlanAssert.{PlanAssert}
 use Rattle.sch_compiled.specs.declared.parts.PlanDiagnostic.{PlanDiagnostic}
@@ -28,7 +30,7 @@ use Rattle.sch_compiled.specs.declared.parts.PlanPart.{PlanPart}
 use Rattle.sch_compiled.specs.declared.parts.PlanPart.TheVariants.{Chars, Name, ValueOf}
 use Rattle.sch_compiled.specs.Findings.{IsAtLiveNode}
 use Rattle.sch_units.specs.Firing.{all_asserted, asserted, found, is_found, placed_at}
-use Rattle.sch_units.specs.Messages.{alone, diagnostic_texts, joined, message, name_text, part_text}
+use Rattle.sch_units.specs.Messages.{alone, diagnostic_texts, joined, message, name_text, part_text, written_name}
 use Rattle.sch_units.proofs.FindingParts.{finding_of, with_message, with_properties, with_texts}
 use Rattle.unit_live_laws.proofs.MatchingLemmas.{Lives, value-good}
 
@@ -56,10 +58,25 @@ module _ (T : Table) (ord : Ordered T) (up : HasWaysUp T) where
         ((v : Value) → Each (Lives T) (nodes_of v) → Sound (IsLiveRead T) Q (next v)) → Sound (IsLiveRead T) Q (bind (meaning T L t (alone n)) next)
     value-then Q t next more = sound_bind (IsLiveRead T) (λ v. Each (Lives T) (nodes_of v)) Q (meaning T L t (alone n)) next (value-good T ord up L lets t (alone n) here here) more
 
+    -- the name of the first of some nodes, which is read
+    first-read : (ns : List ℕ) → Each (Lives T) ns → Each (IsLiveRead T) (name_read T (slice_get ns 0))
+    first-read [] live = tt
+    first-read (m ∷ ms) live = by (has_own_name (kind_of T m))
+      where
+        by : (b : Bool) → Each (IsLiveRead T) (read_if b (NameOf m))
+        by true = (live.0, tt)
+        by false = tt
+
+    written-sound : (ns : List ℕ) → Each (Lives T) ns → Sound (IsLiveRead T) Any (written_name T (slice_get ns 0))
+    unfolding all_reading
+    written-sound ns live =
+        sound_behind (IsLiveRead T) Any (name_read T (slice_get ns 0)) 0 (done (written_in (name_at T (slice_get ns 0))))
+        (first-read ns live) (sound_done (IsLiveRead T) Any (written_in (name_at T (slice_get ns 0))) tt)
+
     name-sound : (o : Option TypedTree) → Sound (IsLiveRead T) Any (name_text T L n o)
-    name-sound None = sound_done (IsLiveRead T) Any (written_in (name_at T (Some n))) tt
+    name-sound None = written-sound (n ∷ []) (here, tt)
     name-sound (Some t) =
-        value-then Any t (λ v. done (written_in (name_at T (slice_get (nodes_of v) 0)))) (λ v _. sound_done (IsLiveRead T) Any (written_in (name_at T (slice_get (nodes_of v) 0))) tt)
+        value-then Any t (λ v. written_name T (slice_get (nodes_of v) 0)) (λ v live. written-sound (nodes_of v) live)
 
     part-sound : (part : PlanPart) → Sound (IsLiveRead T) Any (part_text T L n part)
     part-sound (Chars characters) = sound_done (IsLiveRead T) Any characters tt

@@ -14,7 +14,7 @@ use Rattle.sch_compiled.specs.Findings.{FindsAtLiveNodes}
 use Rattle.sch_units.specs.Units.{unit_let, unit_pair}
 use Rattle.sch_units.specs.Validity.{pair_outcome}
 
--- where the nodes of the lets' values live, the cells that a unit reads are of live nodes
+-- where the nodes of the lets' values live, a unit reads cells of live nodes, and names along axes from live nodes
 pub record UnitsReadLiveCells : Type 0 where
   pub lets : (T : Table) (L : Lets) (expr : TypedTree) → Ordered T → HasWaysUp T → LetsAreLive T L → Each (IsLiveRead T) (unit_let T L expr).reads
   pub pairs : (plan : Plan) (T : Table) (L : Lets) (p n : ℕ) → Ordered T → HasWaysUp T → LetsAreLive T L → is_live T n ≡ true →

@@ -3,8 +3,8 @@
 
 ghost use Rattle.unit_live_laws.specs.LiveReads.{LetsGiveLiveNodes, PairsFindAtLiveNodes, UnitsReadLiveCells};
 
-/// The cells that a let in force reads, or a live node under a pattern, are of live nodes, where the nodes of the lets' values
-/// live; so are the nodes of the value that a let in force gives, and those that the findings at a live node are at.
+/// Where the nodes of the lets' values live, a let in force reads cells of live nodes and names along axes from live nodes, and
+/// so does a live node under a pattern. The nodes of a let's value are live nodes, and so are those that the findings at one are at.
 pub fn units_read_live_cells()
     ensures reads { UnitsReadLiveCells }
     ensures answers { LetsGiveLiveNodes }

@@ -7,22 +7,23 @@ use Rattle.std.proofs.lemmas.Slice.Eq.{bytes_eq-Decides}
 use Rattle.std.proofs.lemmas.Bool.Decides.{leb_tells}
 use Rattle.std.proofs.lemmas.List.{take_all, drop_all}
 use Rattle.doc_tree.specs.cell.Cell.TheVariants.{Attrs}
+use Rattle.doc_tree.specs.declared.axes.Axis.TheVariants.{Attribute}
 use Rattle.doc_tree.specs.Kinds.{is_element}
 use Rattle.doc_tree.specs.Laws.{HasWaysUp}
 use Rattle.doc_tree.specs.Table.{Table, attrs_of, kind_of, parent_of}
 use Rattle.doc_tree.specs.Walks.{ancestors}
-use Rattle.xp_outcome.specs.Evaluation.{done, bind, reading, cell}
+use Rattle.xp_outcome.specs.Evaluation.{done, bind, reading, cell, names_along}
 use Rattle.xp_meaning.specs.Language.{decided_by, ends_or_goes_on, in_language, is_language, lang_among, language_along, or_else, own_language}
 
 module _ (T : Table) (wanted : List ℕ) (n : ℕ) where
   pub not_element : is_element (kind_of T n) ≡ false → own_language T wanted n ≡ done None
-  not_element other = ap (λ b. cond b (reading (cell (Attrs n)) (decided_by T wanted (lang_among T (attrs_of T n)))) (done None)) other
+  not_element other = ap (λ b. cond b (reading (cell (Attrs n)) (reading (names_along Attribute n) (decided_by T wanted (lang_among T (attrs_of T n))))) (done None)) other
 
   pub of_element : (o : Option ℕ) → is_element (kind_of T n) ≡ true → o ≡ lang_among T (attrs_of T n) →
-      own_language T wanted n ≡ reading (cell (Attrs n)) (decided_by T wanted o)
+      own_language T wanted n ≡ reading (cell (Attrs n)) (reading (names_along Attribute n) (decided_by T wanted o))
   of_element o element is =
-      ap (λ b. cond b (reading (cell (Attrs n)) (decided_by T wanted (lang_among T (attrs_of T n)))) (done None)) element
-      ∙ ap (λ a. reading (cell (Attrs n)) (decided_by T wanted a)) (sym is)
+      ap (λ b. cond b (reading (cell (Attrs n)) (reading (names_along Attribute n) (decided_by T wanted (lang_among T (attrs_of T n))))) (done None)) element
+      ∙ ap (λ a. reading (cell (Attrs n)) (reading (names_along Attribute n) (decided_by T wanted a))) (sym is)
 
   -- the node's own attribute, and then the ways up
   pub language_at : HasWaysUp T → (p : ℕ) → parent_of T n ≡ Some p →

@@ -1,7 +1,8 @@
 pub mod Takings
 pub mod Comparing
 pub mod Summing
-pub mod Negations
+pub mod NameParts
+mod Negations
 pub mod JoinedTexts
 pub mod Languages
 pub mod FirstArgument

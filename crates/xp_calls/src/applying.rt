@@ -114,9 +114,9 @@ impl Caller<'_> {
         ensures { Ran (applied self.now.tree.now.nodes function at.now args.now) (shown result) reads.old reads.new steps.old steps.new }
     {
         match function {
-            Function::LocalName => self.local_name(at, args),
-            Function::NamespaceUri => self.namespace_uri(at, args),
-            Function::Name => self.name(at, args),
+            Function::LocalName => self.local_name(at, args, reads),
+            Function::NamespaceUri => self.namespace_uri(at, args, reads),
+            Function::Name => self.name(at, args, reads),
             Function::String => self.string(at, args, reads, steps),
             Function::Concat => concat(self.alloc, args),
             Function::SubstringBefore => substring_before(self.alloc, args),

@@ -5,12 +5,13 @@ ghost use Rattle.xp_outcome.specs.Running.{Ran};
 ghost use Rattle.xp_meaning.specs.Results.{shown_alloc};
 ghost use Rattle.xp_meaning.specs.Language.{ends_or_goes_on, is_language, is_lang, lang_among, own_language, in_language};
 
-use doc_tree::{Cell, NodeId, Tree, xml_namespace};
+use doc_tree::{Axis, Cell, NodeId, Tree, xml_namespace};
 use std::alloc::AllocError;
 use xp_outcome::Recorder;
 
 /// Whether the node is in a language: the nearest attribute `xml:lang` of the node and its ancestors names it or a
-/// sublanguage, ASCII case apart. The attributes of each element on the way up are read, and the value of the one found.
+/// sublanguage, ASCII case apart. The attributes of each element on the way up are read, their names, and the value of the one
+/// found.
 ///
 /// Costs the way up and the attributes on it.
 pub(crate) fn in_language(
@@ -44,6 +45,7 @@ fn own_language(
         return Ok(None);
     }
     reads.add(Cell::Attrs(n))?;
+    reads.add_names(Axis::Attribute, n)?;
     match lang_among(tree, tree.attrs(n)) {
         Some(attribute) => {
             reads.add(Cell::Value(attribute))?;

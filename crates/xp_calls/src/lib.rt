@@ -1,6 +1,6 @@
 //! The functions and operators of XPath 1.0 on values that are evaluated already (sections 3.4, 3.5 and 4), and the
-//! conversions and steps along axes under them: these record the cells that they look at and the string-values that
-//! they take, and count a step for each string-value.
+//! conversions and steps along axes under them: these record the cells and names that they look at and the string-values
+//! that they take, and count a step for each string-value.
 #![tactic(auto)]
 
 mod applying;
@@ -18,4 +18,4 @@ pub use arguments::wanted;
 pub use caller::Caller;
 pub use converting::nodes_of;
 pub use operators::negate;
-pub use reading::read_axis;
+pub use reading::{read_axis, read_name, read_names};

@@ -1,42 +1,66 @@
-//! The names of nodes (XPath 1.0, section 4.1).
+//! The names of nodes (XPath 1.0, section 4.1), which are read.
 
-ghost use Rattle.std.specs.Prelude.{◌≡◌, ◌<◌, length, option_map, IfSome, IfOk, Ok};
+ghost use Rattle.std.specs.Prelude.{◌≡◌, ◌<◌, ℕ, length, option_map, IfSome, IfOk};
 ghost use Rattle.doc_tree.specs.Table.{Name, name_of, numbered};
 ghost use Rattle.doc_tree.specs.QNames.{spelled_name, written_in};
 ghost use Rattle.xp_meaning.specs.Functions.{named_node};
-ghost use Rattle.xp_meaning.specs.Names.{local_in, uri_in, name_at};
-ghost use Rattle.xp_values.specs.Outcomes.{Gives};
+ghost use Rattle.xp_outcome.specs.Running.{Ran};
+ghost use Rattle.xp_meaning.specs.Names.{local_in, uri_in, name_at, of_name};
+ghost use Rattle.xp_meaning.specs.Results.{shown};
 ghost use Rattle.xp_values.specs.declared.values.Value.TheVariants as values;
 
 use crate::arguments::named_node;
 use crate::caller::Caller;
+use crate::reading::read_name;
 use crate::text_functions::as_chars;
 use doc_tree::{NameId, NodeId, Tree};
 use sch_base::Text;
 use std::alloc::{AllocError, Global};
 use xp_meaning::Context;
+use xp_outcome::Recorder;
 use xp_values::{EvalError, Value};
 
 impl Caller<'_> {
     /// `local-name`: the local part of the name, empty where there is none.
-    pub(crate) fn local_name(&self, at: &Context, args: &[Value]) -> Result<Value, EvalError>
-        ensures { Gives result (Ok (values.Chars (local_in (name_at self.now.tree.now.nodes (named_node at.now args.now))))) }
+    pub(crate) fn local_name(
+        &self,
+        at: &Context,
+        args: &[Value],
+        reads: &mut Recorder,
+    ) -> Result<Value, EvalError>
+        ensures { (count : ℕ) → Ran (of_name self.now.tree.now.nodes (named_node at.now args.now) (λ name. values.Chars (local_in name))) (shown result) reads.old reads.new count count }
     {
-        as_chars(self.local_part(named_node(at, args)))
+        let named = named_node(at, args);
+        read_name(self.tree, &named, reads)?;
+        as_chars(self.local_part(named))
     }
 
     /// `namespace-uri`: the namespace of the name, empty where there is none.
-    pub(crate) fn namespace_uri(&self, at: &Context, args: &[Value]) -> Result<Value, EvalError>
-        ensures { Gives result (Ok (values.Chars (uri_in (name_at self.now.tree.now.nodes (named_node at.now args.now))))) }
+    pub(crate) fn namespace_uri(
+        &self,
+        at: &Context,
+        args: &[Value],
+        reads: &mut Recorder,
+    ) -> Result<Value, EvalError>
+        ensures { (count : ℕ) → Ran (of_name self.now.tree.now.nodes (named_node at.now args.now) (λ name. values.Chars (uri_in name))) (shown result) reads.old reads.new count count }
     {
-        as_chars(self.namespace_of(named_node(at, args)))
+        let named = named_node(at, args);
+        read_name(self.tree, &named, reads)?;
+        as_chars(self.namespace_of(named))
     }
 
     /// `name`: the name as it is written, empty where there is none.
-    pub(crate) fn name(&self, at: &Context, args: &[Value]) -> Result<Value, EvalError>
-        ensures { Gives result (Ok (values.Chars (written_in (name_at self.now.tree.now.nodes (named_node at.now args.now))))) }
+    pub(crate) fn name(
+        &self,
+        at: &Context,
+        args: &[Value],
+        reads: &mut Recorder,
+    ) -> Result<Value, EvalError>
+        ensures { (count : ℕ) → Ran (of_name self.now.tree.now.nodes (named_node at.now args.now) (λ name. values.Chars (written_in name))) (shown result) reads.old reads.new count count }
     {
-        as_chars(self.written_name(named_node(at, args)))
+        let named = named_node(at, args);
+        read_name(self.tree, &named, reads)?;
+        as_chars(self.written_name(named))
     }
 
     /// The local part of the node's name, empty where there is none.

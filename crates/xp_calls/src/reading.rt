@@ -3,14 +3,14 @@
 ghost use Rattle.std.specs.Prelude.{◌≡◌, OnOk, OnErr, option_map};
 ghost use Rattle.std.specs.Option.{option_to_list};
 ghost use Rattle.doc_tree.specs.Table.{kind_of};
-ghost use Rattle.doc_tree.specs.Kinds.{holds_kids};
+ghost use Rattle.doc_tree.specs.Kinds.{has_own_name, holds_kids};
 ghost use Rattle.xp_outcome.specs.Evaluation.{cell, done};
 ghost use Rattle.xp_outcome.specs.Recorded.{note_all};
 ghost use Rattle.xp_outcome.specs.Running.{Ran};
-ghost use Rattle.xp_meaning.specs.Reads.{axis_reads, sibling_reads, text_read, taking};
+ghost use Rattle.xp_meaning.specs.Reads.{axis_reads, is_by_name, name_read, names_tested, sibling_reads, text_read, taking};
 ghost use Rattle.xp_meaning.specs.Results.{shown_alloc};
 
-use doc_tree::{Axis, Cell, Kind, NodeId, Tree};
+use doc_tree::{Axis, Cell, Kind, NodeId, NodeTest, Tree};
 use std::alloc::AllocError;
 use std::sync::ledger::Ledger;
 use xp_outcome::{Recorder, Steps};
@@ -54,6 +54,59 @@ pub fn read_axis(tree: &Tree, axis: Axis, n: NodeId, reads: &mut Recorder) -> Re
     ensures unchanged { OnErr result (reads.new ≡ reads.old) }
 {
     match axis_cell(tree, axis, n) {
+        Some(cell) => reads.add(cell),
+        None => Ok(()),
+    }
+}
+
+/// Whether a node test looks at names; the target of an instruction is none (XPath 1.0, section 2.3).
+fn is_by_name(test: &NodeTest) -> bool
+    ensures { result ≡ is_by_name test.now }
+{
+    matches!(test, NodeTest::InNamespace { .. } | NodeTest::Named { .. })
+}
+
+/// Records the names along an axis from a node, where a step's test looks at names. They are one item, however many nodes stand
+/// on the axis.
+pub fn read_names(
+    axis: Axis,
+    test: &NodeTest,
+    n: NodeId,
+    reads: &mut Recorder,
+) -> Result<(), AllocError>
+    ensures read { OnOk result (reads.new ≡ note_all reads.old (names_tested axis test.now n)) }
+    ensures unchanged { OnErr result (reads.new ≡ reads.old) }
+{
+    if is_by_name(test) {
+        reads.add_names(axis, n)
+    } else {
+        Ok(())
+    }
+}
+
+/// Whether the node is of a kind that has a name: an element or an attribute.
+fn has_own_name(tree: &Tree, n: NodeId) -> bool
+    ensures { result ≡ has_own_name (kind_of tree.now.nodes n) }
+{
+    matches!(tree.kind_of(n), Some(Kind::Element | Kind::Attribute))
+}
+
+/// The cell of a node's name, where there is a node whose kind has a name.
+fn name_cell(tree: &Tree, n: &Option<NodeId>) -> Option<Cell>
+    ensures { option_to_list (option_map cell result) ≡ name_read tree.now.nodes n.now }
+{
+    match n {
+        Some(n) => has_own_name(tree, *n).then_some(Cell::Name(*n)),
+        None => None,
+    }
+}
+
+/// Records the name of a node, where there is a node whose kind has a name.
+pub fn read_name(tree: &Tree, n: &Option<NodeId>, reads: &mut Recorder) -> Result<(), AllocError>
+    ensures read { OnOk result (reads.new ≡ note_all reads.old (name_read tree.now.nodes n.now)) }
+    ensures unchanged { OnErr result (reads.new ≡ reads.old) }
+{
+    match name_cell(tree, n) {
         Some(cell) => reads.add(cell),
         None => Ok(()),
     }

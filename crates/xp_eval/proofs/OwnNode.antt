@@ -52,7 +52,8 @@ module _ (T : Table) (L : Lets) where
     own_candidates : candidates T SelfNode Any n ≡ visits 2 (done (n ∷ []))
     unfolding candidates all_reading visits
     own_candidates =
-        behind-nothing (visits (1 + length (axis_nodes T SelfNode n)) (done (filter (passes T SelfNode Any) (axis_nodes T SelfNode n))))
+        behind-nothing (all_reading [] (visits (1 + length (axis_nodes T SelfNode n)) (done (filter (passes T SelfNode Any) (axis_nodes T SelfNode n)))))
+        ∙ behind-nothing (visits (1 + length (axis_nodes T SelfNode n)) (done (filter (passes T SelfNode Any) (axis_nodes T SelfNode n))))
         ∙ ap (λ ns. visits (1 + length ns) (done (filter (passes T SelfNode Any) ns))) (cells.self n live)
 
     own_selected : (current : ℕ) → step_from T own_step current (n ∷ []) ≡ visits 2 (done (n ∷ []))

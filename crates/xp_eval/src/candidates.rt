@@ -16,7 +16,7 @@ use doc_tree::{Axis, NodeId, NodeList, Tree};
 use sch_base::ItemList;
 use std::alloc::{AllocError, Global};
 use std::sync::ledger::Ledger;
-use xp_calls::{Caller, read_axis};
+use xp_calls::{Caller, read_axis, read_names};
 use xp_outcome::{Recorder, Steps};
 use xp_typed_tree::TypedStep;
 use xp_values::EvalError;
@@ -56,7 +56,7 @@ impl Evaluator<'_> {
     }
 
     /// Puts the nodes on the axis from a node that pass the test at the end of the list, in the axis's own order. Records
-    /// what the axis looks at, and counts a step for the node and one for each node on its axis.
+    /// what the axis and the test look at, and counts a step for the node and one for each node on its axis.
     fn push_candidates<L: Ledger>(
         &self,
         step: &TypedStep,
@@ -70,6 +70,7 @@ impl Evaluator<'_> {
     {
         let Caller { alloc, tree } = self.caller;
         read_axis(tree, step.axis, n, reads)?;
+        read_names(step.axis, &step.test, n, reads)?;
         let count = push_found(alloc, tree, step, n, list)?;
         steps.tick();
         steps.tick_times(count);

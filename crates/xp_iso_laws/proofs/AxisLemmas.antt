@@ -9,7 +9,7 @@ use Rattle.doc_tree.specs.declared.axes.Axis.{Axis}
 use Rattle.doc_tree.specs.declared.axes.Axis.TheVariants.{Ancestor, AncestorOrSelf, Attribute, Child, Descendant, DescendantOrSelf, Following, FollowingSibling, Parent, Preceding, PrecedingSibling, SelfNode}
 use Rattle.doc_tree.specs.declared.axes.NodeTest.{NodeTest}
 use Rattle.doc_tree.specs.declared.axes.NodeTest.TheVariants as tests
-use Rattle.doc_tree.specs.Kinds.{holds_kids, is_element, is_text}
+use Rattle.doc_tree.specs.Kinds.{has_own_name, holds_kids, is_element, is_text}
 use Rattle.doc_tree.specs.Lists.{mem}
 use Rattle.doc_tree.specs.Order.{after}
 use Rattle.doc_tree.specs.Table.{Name, Table, attrs_of, kids_above, kids_of, kind_at, kind_of, name_at, name_of, parent_of, value_at, value_of}
@@ -19,8 +19,9 @@ use Rattle.doc_axes.specs.NodeTests.{is_comment, is_instruction, is_principal, n
 use Rattle.doc_axes.specs.Sets.{in_order}
 use Rattle.tree_iso.specs.Renumbering.{Hangs, Renumbers}
 use Rattle.tree_iso.proofs.NumberLemmas.{after-moved, eqb-moved, filter-moved, mem-moved}
-use Rattle.xp_outcome.specs.Evaluation.{cell}
-use Rattle.xp_meaning.specs.Reads.{axis_reads, kids_of_parent, read_if, sibling_reads}
+use Rattle.xp_outcome.specs.Cells.{cells_of, names_on}
+use Rattle.xp_outcome.specs.Evaluation.{Read, cell, names_along, variable}
+use Rattle.xp_meaning.specs.Reads.{axis_reads, kids_of_parent, name_read, read_if, sibling_reads}
 use Rattle.xp_iso_laws.specs.Moved.{moved_cell, moved_read}
 
 backwards-moved : (f : ℕ → ℕ) (ns : List ℕ) → backwards (map f ns) ≡ map f (backwards ns)
@@ -123,6 +124,12 @@ module _ (f : ℕ → ℕ) (T U : Table) (r : Renumbers f T U) (h : Hangs f T U)
   read_if-moved true other c d e g = ap₂ (λ (b : Bool) (x : Cell). read_if b x) e g
   read_if-moved false other c d e g = ap (λ (b : Bool). read_if b d) e
 
+  pub name_read-moved : (o : Option ℕ) → name_read U (option_map f o) ≡ map (moved_read f) (name_read T o)
+  name_read-moved None = refl
+  name_read-moved (Some n) =
+      read_if-moved (has_own_name (kind_of T n)) (has_own_name (kind_of U (f n))) (cells.Name n) (cells.Name (f n))
+      (ap has_own_name (kind-moved n)) refl
+
   siblings-read : (n : ℕ) → sibling_reads U (f n) ≡ map (moved_read f) (sibling_reads T n)
   siblings-read n =
       ap₂ (λ (b : Bool) (o : Option ℕ). cond b [] (kids_of_parent o)) (is_attribute-moved n) (r.parent n) ∙ by (is_attribute T n) (parent_of T n)
@@ -148,3 +155,19 @@ module _ (f : ℕ → ℕ) (T U : Table) (r : Renumbers f T U) (h : Hangs f T U)
   axis_reads-moved Preceding n = whole-read
   axis_reads-moved PrecedingSibling n = siblings-read n
   axis_reads-moved SelfNode n = refl
+
+  -- the cells that reads stand for
+  names-named : (ns : List ℕ) → map cells.Name (map f ns) ≡ map (moved_cell f) (map cells.Name ns)
+  names-named [] = refl
+  names-named (n ∷ ns) = ap (λ (rest : List Cell). cells.Name (f n) ∷ rest) (names-named ns)
+
+  names_on-moved : (axis : Axis) (ns : List ℕ) → names_on U axis (map f ns) ≡ map (moved_cell f) (names_on T axis ns)
+  names_on-moved axis ns =
+      let is_named : Table → ℕ → Bool = λ V n. is_principal axis (kind_of V n) in
+      ap (map cells.Name) (filter-moved f (is_named T) (is_named U) (λ n. ap (is_principal axis) (kind-moved n)) ns)
+      ∙ names-named (filter (is_named T) ns)
+
+  pub cells_of-moved : (x : Read) → cells_of U (moved_read f x) ≡ map (moved_cell f) (cells_of T x)
+  cells_of-moved (cell c) = refl
+  cells_of-moved (names_along axis n) = ap (names_on U axis) (axis_nodes-moved axis n) ∙ names_on-moved axis (axis_nodes T axis n)
+  cells_of-moved (variable slot) = refl

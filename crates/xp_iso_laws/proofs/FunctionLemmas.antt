@@ -9,12 +9,13 @@ use Rattle.doc_tree.specs.kind.Kind.{Kind}
 use Rattle.doc_tree.specs.Kinds.{is_element}
 use Rattle.doc_tree.specs.NameTests.{named}
 use Rattle.doc_tree.specs.Scope.{xml_namespace}
+use Rattle.doc_tree.specs.declared.axes.Axis.TheVariants.{Attribute}
 use Rattle.doc_tree.specs.Table.{Name, Table, attrs_of, kind_of, value_of}
 use Rattle.doc_tree.specs.Walks.{above}
 use Rattle.tree_iso.specs.Renumbering.{Hangs, Renumbers}
 use Rattle.xp_typed_tree.specs.declared.function.Function.{Function}
 use Rattle.xp_typed_tree.specs.declared.function.Function.TheVariants as functions
-use Rattle.xp_outcome.specs.Evaluation.{Evaluation, bind, cell, done, given, reading}
+use Rattle.xp_outcome.specs.Evaluation.{Evaluation, bind, cell, done, given, names_along, reading}
 use Rattle.xp_values.specs.declared.numbers.Num.{Num}
 use Rattle.xp_values.specs.declared.values.EvalFault.{EvalFault}
 use Rattle.xp_values.specs.declared.values.Value.{Value}
@@ -25,11 +26,12 @@ use Rattle.xp_meaning.specs.declared.context.Context.{Context}
 use Rattle.xp_meaning.specs.Conversions.{nodes_of, sum_in}
 use Rattle.xp_meaning.specs.Functions.{applied, argument, as_chars, counted, in_place, length_in, named_node, nodes_at, number_at, number_of, number_or_own, text_at, text_of, text_or_own}
 use Rattle.xp_meaning.specs.Language.{decided_by, in_language, is_lang, is_language, lang_among, language_along, or_else, own_language}
-use Rattle.xp_meaning.specs.Names.{local_in, name_at, uri_in}
+use Rattle.xp_meaning.specs.Names.{local_in, name_at, of_name, uri_in}
+use Rattle.xp_meaning.specs.Reads.{name_read}
 use Rattle.xp_iso_laws.specs.Moved.{moved_context, moved_value}
 use Rattle.xp_iso_laws.specs.Moves.{Moves}
-use Rattle.xp_iso_laws.proofs.AxisLemmas.{kind-moved, name-moved, value-moved}
-use Rattle.xp_iso_laws.proofs.MoveLemmas.{moves-bind, moves-cond, moves-done, moves-equal, moves-given, moves-made, moves-reading}
+use Rattle.xp_iso_laws.proofs.AxisLemmas.{kind-moved, name-moved, name_read-moved, value-moved}
+use Rattle.xp_iso_laws.proofs.MoveLemmas.{moves-all_reading, moves-bind, moves-cond, moves-done, moves-equal, moves-given, moves-made, moves-reading}
 use Rattle.xp_iso_laws.proofs.ValueLemmas.{as_is, moves-number_in, moves-sum_in, moves-text_in, name_at-moved, nodes-moved, truth-moved}
 
 -- the first that passes, among numbers and among their images
@@ -111,11 +113,18 @@ module _ (f : ℕ → ℕ) (T U : Table) (r : Renumbers f T U) (h : Hangs f T U)
   moves-own_language wanted n =
       let before : Evaluation EvalFault (Option Bool) = decided_by T wanted (lang_among T (attrs_of T n)) in
       let after : Evaluation EvalFault (Option Bool) = decided_by U wanted (option_map f (lang_among T (attrs_of T n))) in
-      let same : cond (is_element (kind_of T n)) (reading (cell (Attrs (f n))) after) (done None) ≡ own_language U wanted (f n) =
-      ap₂ (λ (kind : Option Kind) (o : Option ℕ). cond (is_element kind) (reading (cell (Attrs (f n))) (decided_by U wanted o)) (done None)) (sym (kind-moved f T U r h n)) (sym (lang_among-moved n)) in
-      moves-equal f as_is (own_language T wanted n) (cond (is_element (kind_of T n)) (reading (cell (Attrs (f n))) after) (done None)) (own_language U wanted (f n)) same
-      (moves-cond f as_is (is_element (kind_of T n)) (reading (cell (Attrs n)) before) (done None) (reading (cell (Attrs (f n))) after) (done None)
-      (moves-reading f as_is (cell (Attrs n)) (cell (Attrs (f n))) before after refl (moves-decided_by wanted (lang_among T (attrs_of T n))))
+      let read : ℕ → Evaluation EvalFault (Option Bool) → Evaluation EvalFault (Option Bool) =
+      λ m rest. reading (cell (Attrs m)) (reading (names_along Attribute m) rest) in
+      let same : cond (is_element (kind_of T n)) (read (f n) after) (done None) ≡ own_language U wanted (f n) =
+      ap₂ (λ (kind : Option Kind) (o : Option ℕ). cond (is_element kind) (read (f n) (decided_by U wanted o)) (done None))
+      (sym (kind-moved f T U r h n)) (sym (lang_among-moved n)) in
+      moves-equal f as_is (own_language T wanted n) (cond (is_element (kind_of T n)) (read (f n) after) (done None))
+      (own_language U wanted (f n)) same
+      (moves-cond f as_is (is_element (kind_of T n)) (read n before) (done None) (read (f n) after) (done None)
+      (moves-reading f as_is (cell (Attrs n)) (cell (Attrs (f n))) (reading (names_along Attribute n) before)
+      (reading (names_along Attribute (f n)) after) refl
+      (moves-reading f as_is (names_along Attribute n) (names_along Attribute (f n)) before after refl
+      (moves-decided_by wanted (lang_among T (attrs_of T n)))))
       (plain_done None None refl))
 
   moves-or_else : (found : Option Bool) (before after : Evaluation EvalFault Bool) → Moves f {A = Bool} as_is before after → Moves f {A = Bool} as_is (or_else found before) (or_else found after)
@@ -154,8 +163,18 @@ module _ (f : ℕ → ℕ) (T U : Table) (r : Renumbers f T U) (h : Hangs f T U)
   moves-number_or_own c [] = moves-number_in f T U r h (NodeSet (c.node ∷ []))
   moves-number_or_own c (v ∷ vs) = plain_done (number_of v) (number_of (moved_value f v)) (number_of-moved f v)
 
-  named-moved : (c : Context) (vs : List Value) → name_at U (named_node (moved_context f c) (map (moved_value f) vs)) ≡ name_at T (named_node c vs)
-  named-moved c vs = ap (name_at U) (named_node-moved f c vs) ∙ name_at-moved f T U r h (named_node c vs)
+  -- a part of the name of the node that is asked for
+  moves-named : (part : Option Name → List ℕ) (c : Context) (vs : List Value) →
+      Moves f (moved_value f) (of_name T (named_node c vs) (λ name. Chars (part name)))
+      (of_name U (named_node (moved_context f c) (map (moved_value f) vs)) (λ name. Chars (part name)))
+  moves-named part c vs =
+      moves-equal f (moved_value f) (of_name T (named_node c vs) (λ name. Chars (part name)))
+      (of_name U (option_map f (named_node c vs)) (λ name. Chars (part name))) _
+      (ap (λ o. of_name U o (λ name. Chars (part name))) (sym (named_node-moved f c vs)))
+      (moves-all_reading f (moved_value f) (name_read T (named_node c vs)) (name_read U (option_map f (named_node c vs))) _ _
+      (name_read-moved f T U r h (named_node c vs))
+      (value_done (Chars (part (name_at T (named_node c vs)))) (Chars (part (name_at U (option_map f (named_node c vs)))))
+      (ap (λ name. Chars (part name)) (name_at-moved f T U r h (named_node c vs)))))
 
   -- an answer made of one that holds no nodes
   made : {A : Type 0} (p : A → Value) → ((v : A) → p v ≡ moved_value f (p v)) → (before after : Evaluation EvalFault A) → Moves f {A = A} as_is before after →
@@ -173,9 +192,9 @@ module _ (f : ℕ → ℕ) (T U : Table) (r : Renumbers f T U) (h : Hangs f T U)
       made (λ n. Number n) (λ n. refl) (sum_in T (nodes_at vs 0)) (sum_in U (nodes_at (map (moved_value f) vs) 0))
       (moves-equal f as_is (sum_in T (nodes_at vs 0)) (sum_in U (map f (nodes_at vs 0))) (sum_in U (nodes_at (map (moved_value f) vs) 0))
       (ap (sum_in U) (sym (nodes_at-moved f vs 0))) (moves-sum_in f T U r h (nodes_at vs 0)))
-  moves-applied functions.LocalName c vs = value_done (Chars _) (Chars _) (ap (λ name. Chars (local_in name)) (named-moved c vs))
-  moves-applied functions.NamespaceUri c vs = value_done (Chars _) (Chars _) (ap (λ name. Chars (uri_in name)) (named-moved c vs))
-  moves-applied functions.Name c vs = value_done (Chars _) (Chars _) (ap (λ name. Chars (written_in name)) (named-moved c vs))
+  moves-applied functions.LocalName c vs = moves-named (λ name. local_in name) c vs
+  moves-applied functions.NamespaceUri c vs = moves-named (λ name. uri_in name) c vs
+  moves-applied functions.Name c vs = moves-named (λ name. written_in name) c vs
   moves-applied functions.String c vs = made (λ s. Chars s) (λ s. refl) _ _ (moves-text_or_own c vs)
   moves-applied functions.Number c vs = made (λ n. Number n) (λ n. refl) _ _ (moves-number_or_own c vs)
   moves-applied functions.Boolean c vs = value_done (Truth _) (Truth _) (ap (λ b. Truth b) (ap to_truth (argument-moved f vs 0) ∙ truth-moved f (argument vs 0)))

@@ -10,13 +10,13 @@ use Rattle.doc_axes.specs.NodeTests.{passes}
 use Rattle.doc_axes.specs.Sets.{in_order}
 use Rattle.tree_iso.specs.Renumbering.{Hangs, Renumbers}
 use Rattle.tree_iso.proofs.NumberLemmas.{filter-moved}
-use Rattle.xp_outcome.specs.Evaluation.{gather}
+use Rattle.xp_outcome.specs.Evaluation.{gather, names_along}
 use Rattle.xp_values.specs.declared.values.Value.{Value}
 use Rattle.xp_values.specs.declared.values.Value.TheVariants.{NodeSet, Truth, Number, Chars}
 use Rattle.xp_meaning.specs.declared.context.Context.{Context}
 use Rattle.xp_meaning.specs.Paths.{Meaning, Step, candidates, chosen, filtered, holds_at, kept, placed, step_at, step_from}
-use Rattle.xp_meaning.specs.Reads.{axis_reads}
-use Rattle.xp_iso_laws.specs.Moved.{moved_context, moved_value}
+use Rattle.xp_meaning.specs.Reads.{axis_reads, is_by_name, names_tested}
+use Rattle.xp_iso_laws.specs.Moved.{moved_context, moved_read, moved_value}
 use Rattle.xp_iso_laws.specs.Moves.{Moves}
 use Rattle.xp_iso_laws.proofs.AxisLemmas.{axis_nodes-moved, axis_reads-moved, in_order-moved, passes-moved}
 use Rattle.xp_iso_laws.proofs.MoveLemmas.{moves-all_reading, moves-bind, moves-done, moves-equal, moves-gather, moves-made, moves-visits}
@@ -62,15 +62,24 @@ module _ (f : ℕ → ℕ) where
       (moves-kept m w current ns h.0) (λ left. moves-filtered ms ws current left h.1)
 
 module _ (f : ℕ → ℕ) (T U : Table) (r : Renumbers f T U) (h : Hangs f T U) where
+  names-moved : (axis : Axis) (node_test : NodeTest) (n : ℕ) → names_tested axis node_test (f n) ≡ map (moved_read f) (names_tested axis node_test n)
+  names-moved axis node_test n = by (is_by_name node_test)
+    where
+      by : (b : Bool) → cond b (names_along axis (f n) ∷ []) [] ≡ map (moved_read f) (cond b (names_along axis n ∷ []) [])
+      by true = refl
+      by false = refl
+
   moves-candidates : (axis : Axis) (node_test : NodeTest) (n : ℕ) → Moves f (map f) (candidates T axis node_test n) (candidates U axis node_test (f n))
   unfolding candidates
   moves-candidates axis node_test n =
       let nodes : axis_nodes U axis (f n) ≡ map f (axis_nodes T axis n) = axis_nodes-moved f T U r h axis n in
       moves-all_reading f (map f) (axis_reads T axis n) (axis_reads U axis (f n)) _ _ (axis_reads-moved f T U r h axis n)
+      (moves-all_reading f (map f) (names_tested axis node_test n) (names_tested axis node_test (f n)) _ _ (names-moved axis node_test n)
       (moves-visits f (map f) (1 + length (axis_nodes T axis n)) (1 + length (axis_nodes U axis (f n))) _ _
       (ap (λ k. 1 + k) (ap length nodes ∙ length-map (axis_nodes T axis n) f))
       (moves-done f (map f) (filter (passes T axis node_test) (axis_nodes T axis n)) (filter (passes U axis node_test) (axis_nodes U axis (f n)))
-      (ap (filter (passes U axis node_test)) nodes ∙ filter-moved f (passes T axis node_test) (passes U axis node_test) (passes-moved f T U r h axis node_test) (axis_nodes T axis n))))
+      (ap (filter (passes U axis node_test)) nodes
+      ∙ filter-moved f (passes T axis node_test) (passes U axis node_test) (passes-moved f T U r h axis node_test) (axis_nodes T axis n)))))
 
   -- a step at a node, and from some nodes
   module _ (axis : Axis) (node_test : NodeTest) (ms ws : List Meaning) (all : AllMove f ms ws) where

@@ -2,7 +2,7 @@
 use Rattle.std.specs.Prelude.{ℕ, map, Result, Ok, Err, option_map}
 use Rattle.doc_tree.specs.cell.Cell.{Cell}
 use Rattle.doc_tree.specs.cell.Cell.TheVariants as cells
-use Rattle.xp_outcome.specs.Evaluation.{Read, cell, variable}
+use Rattle.xp_outcome.specs.Evaluation.{Read, cell, names_along, variable}
 use Rattle.xp_values.specs.declared.values.EvalFault.{EvalFault}
 use Rattle.xp_values.specs.declared.values.Value.{Value}
 use Rattle.xp_values.specs.declared.values.Value.TheVariants.{NodeSet, Truth, Number, Chars}
@@ -30,6 +30,7 @@ moved_cell f (cells.Name n) = cells.Name (f n)
 
 abbrev pub moved_read : (ℕ → ℕ) → Read → Read
 moved_read f (cell c) = cell (moved_cell f c)
+moved_read f (names_along axis n) = names_along axis (f n)
 moved_read f (variable slot) = variable slot
 
 abbrev pub moved_context : (ℕ → ℕ) → Context → Context

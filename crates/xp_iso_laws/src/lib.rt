@@ -1,7 +1,7 @@
 //! What an expression gives where the nodes of a tree are renumbered: the same, with the numbers changed.
 #![tactic(auto)]
 
-ghost use Rattle.xp_iso_laws.specs.Moves.{ExpressionsMove, PredicatesMove, StepsMove};
+ghost use Rattle.xp_iso_laws.specs.Moves.{CellsMove, ExpressionsMove, PredicatesMove, StepsMove};
 
 use tree_iso::renumbered_trees_hang;
 
@@ -11,6 +11,7 @@ pub fn expressions_move()
     ensures expressions { ExpressionsMove }
     ensures steps { StepsMove }
     ensures predicates { PredicatesMove }
+    ensures cells { CellsMove }
 {
     renumbered_trees_hang();
 }

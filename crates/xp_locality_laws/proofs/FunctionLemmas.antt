@@ -1,5 +1,6 @@
 -- A function gives the same in both trees, where the nodes of its arguments and of the context live in both.
 use Rattle.std.proofs.Common.{◌≡◌, ℕ, Bool, true, false, not, cond, ◌&&◌, List, [], ◌∷◌, ◌++◌, length, Option, None, Some, Result, Ok, Err, refl, sym, ap, ◌∙◌, subst}
+use Rattle.std.specs.List.{list_any}
 use Rattle.std.specs.Prelude.{bytes_eq, codes, find, flat_map}
 use Rattle.doc_tree.specs.QNames.{written_in}
 use Rattle.doc_tree.specs.cell.Cell.{Cell}
@@ -8,13 +9,16 @@ use Rattle.doc_tree.specs.Kinds.{is_element}
 use Rattle.doc_tree.specs.Lists.{mem}
 use Rattle.doc_tree.specs.NameTests.{named}
 use Rattle.doc_tree.specs.Scope.{xml_namespace}
-use Rattle.doc_tree.specs.Table.{Table, attrs_of, is_live, kind_of, parent_of, value_of}
-use Rattle.doc_tree.specs.Walks.{above, ancestors}
+use Rattle.doc_tree.specs.declared.axes.Axis.TheVariants.{Attribute}
+use Rattle.doc_tree.specs.Table.{Name, Table, attrs_of, is_live, kind_of, parent_of, value_of}
+use Rattle.doc_tree.specs.Walks.{above, ancestors, order}
+use Rattle.doc_axes.specs.Axes.{axis_nodes, is_attribute_kind}
 use Rattle.doc_tree.proofs.ListLemmas.{mem-head, mem-tail}
 use Rattle.doc_edit_laws.specs.Agreement.{AllStay, Stays}
 use Rattle.xp_typed_tree.specs.declared.function.Function.{Function}
 use Rattle.xp_typed_tree.specs.declared.function.Function.TheVariants as functions
-use Rattle.xp_outcome.specs.Evaluation.{Evaluation, bind, cell, done, given, reading}
+use Rattle.xp_outcome.specs.Evaluation.{Evaluation, bind, cell, done, given, names_along, reading}
+use Rattle.xp_outcome.specs.Cells.{names_on}
 use Rattle.xp_values.specs.declared.values.EvalFault.{EvalFault}
 use Rattle.xp_values.specs.declared.values.Value.{Value}
 use Rattle.xp_values.specs.declared.values.Value.TheVariants.{NodeSet, Truth, Number, Chars}
@@ -25,10 +29,12 @@ use Rattle.xp_meaning.specs.Conversions.{nodes_of, sum_in}
 use Rattle.xp_meaning.specs.Evaluation.{Lets}
 use Rattle.xp_meaning.specs.Functions.{applied, argument, as_chars, counted, length_in, named_node, nodes_at, number_at, number_of, number_or_own, text_at, text_of, text_or_own}
 use Rattle.xp_meaning.specs.Language.{decided_by, in_language, is_lang, is_language, lang_among, language_along, or_else, own_language}
-use Rattle.xp_meaning.specs.Names.{local_in, name_at, uri_in}
+use Rattle.xp_meaning.specs.Names.{local_in, of_name, uri_in}
 use Rattle.xp_locality_laws.specs.Locality.{Changed, ContextStays}
 use Rattle.xp_locality_laws.proofs.StandLemmas.{Same, no_nodes, same-bind, same-cond, same-done, same-equal, same-fault, same-made, same-reading}
-use Rattle.xp_locality_laws.proofs.ValueLemmas.{plain_done, same-first_name, same-name_at, same-number_in, same-sum_in, same-text_in}
+use Rattle.xp_locality_laws.proofs.ValueLemmas.{plain_done, same-number_in, same-sum_in, same-text_in}
+use Rattle.xp_locality_laws.proofs.NameLemmas.{first-stays, name-kept, same-name, same-of_name}
+use Rattle.xp_locality_laws.proofs.TestLemmas.{mem-filter}
 
 -- the first that passes two tests that agree on a list
 same-found : (test other : ℕ → Bool) (xs : List ℕ) → ((x : ℕ) → mem x xs ≡ true → test x ≡ other x) → find test xs ≡ find other xs
@@ -95,10 +101,20 @@ module _ (T U : Table) (touched : Cell → Bool) (L M : Lets) (changed : Changed
       both-live a (changed.before.ways_up.attribute_live n a is)
       (changed.after.ways_up.attribute_live n a (subst (λ attributes. mem a attributes ≡ true) (changed.agree.attributes n h k) is))
 
-  same-lang_among : (n : ℕ) → Stays T U n → touched (Attrs n) ≡ false → lang_among T (attrs_of T n) ≡ lang_among U (attrs_of U n)
-  same-lang_among n h k =
+  -- an attribute stands on the attribute axis
+  on-attribute_axis : (n a : ℕ) → mem a (attrs_of T n) ≡ true → mem a (axis_nodes T Attribute n) ≡ true
+  on-attribute_axis n a is =
+      mem-filter (λ m. mem m (attrs_of T n)) a is (order T)
+      ∙ sym (changed.before.ordered.live_in_order a) ∙ changed.before.ways_up.attribute_live n a is
+
+  same-lang_among : (n : ℕ) → Stays T U n → touched (Attrs n) ≡ false → list_any touched (names_on T Attribute (axis_nodes T Attribute n)) ≡ false →
+      lang_among T (attrs_of T n) ≡ lang_among U (attrs_of U n)
+  same-lang_among n h k names =
       same-found (is_lang T) (is_lang U) (attrs_of T n)
-      (λ a is. ap (λ name. named name (λ given. bytes_eq given.uri xml_namespace && bytes_eq given.local (codes "lang"))) (changed.agree.name a (attribute-stays n h k a is)))
+      (λ a is. ap (λ name. named name (λ given. bytes_eq given.uri xml_namespace && bytes_eq given.local (codes "lang")))
+      (same-name T U touched L M changed a (attribute-stays n h k a is)
+      (λ _. name-kept T touched Attribute (axis_nodes T Attribute n) names a (on-attribute_axis n a is)
+      (ap is_attribute_kind (changed.before.well_formed.attribute_kind n a is)))))
       ∙ ap (lang_among U) (changed.agree.attributes n h k)
 
   -- what decides the language of a node
@@ -113,12 +129,17 @@ module _ (T U : Table) (touched : Cell → Bool) (L M : Lets) (changed : Changed
   same-own_language wanted n h =
       let before : Evaluation EvalFault (Option Bool) = decided_by T wanted (lang_among T (attrs_of T n)) in
       let after : Evaluation EvalFault (Option Bool) = decided_by U wanted (lang_among U (attrs_of U n)) in
-      same-equal T U touched L M no_nodes (own_language T wanted n) (cond (is_element (kind_of T n)) (reading (cell (Attrs n)) after) (done None)) (own_language U wanted n)
-      (ap (λ kind. cond (is_element kind) (reading (cell (Attrs n)) after) (done None)) (changed.agree.kind n h))
-      (same-cond T U touched L M no_nodes (is_element (kind_of T n)) (reading (cell (Attrs n)) before) (done None) (reading (cell (Attrs n)) after) (done None)
-      (same-reading T U touched L M no_nodes (cell (Attrs n)) before after
-      (λ k. same-equal T U touched L M no_nodes before (decided_by U wanted (lang_among T (attrs_of T n))) after (ap (decided_by U wanted) (same-lang_among n h k))
-      (same-decided_by wanted (lang_among T (attrs_of T n)) (λ a is. attribute-stays n h k a (found-listed (is_lang T) (attrs_of T n) a is)))))
+      let read : Evaluation EvalFault (Option Bool) → Evaluation EvalFault (Option Bool) =
+      λ m. reading (cell (Attrs n)) (reading (names_along Attribute n) m) in
+      same-equal T U touched L M no_nodes (own_language T wanted n)
+      (cond (is_element (kind_of T n)) (read after) (done None)) (own_language U wanted n)
+      (ap (λ kind. cond (is_element kind) (read after) (done None)) (changed.agree.kind n h))
+      (same-cond T U touched L M no_nodes (is_element (kind_of T n)) (read before) (done None) (read after) (done None)
+      (same-reading T U touched L M no_nodes (cell (Attrs n)) (reading (names_along Attribute n) before) (reading (names_along Attribute n) after)
+      (λ k. same-reading T U touched L M no_nodes (names_along Attribute n) before after
+      (λ names. same-equal T U touched L M no_nodes before (decided_by U wanted (lang_among T (attrs_of T n))) after
+      (ap (decided_by U wanted) (same-lang_among n h k names))
+      (same-decided_by wanted (lang_among T (attrs_of T n)) (λ a is. attribute-stays n h k a (found-listed (is_lang T) (attrs_of T n) a is))))))
       (same-done T U touched L M no_nodes None tt))
 
   same-or_else : (found : Option Bool) (before after : Evaluation EvalFault Bool) → Same T U touched L M no_nodes before after →
@@ -141,10 +162,6 @@ module _ (T U : Table) (touched : Cell → Bool) (L M : Lets) (changed : Changed
       same-equal T U touched L M no_nodes (language_along T wanted (above T n)) (language_along U wanted (above T n)) (language_along U wanted (above U n))
       (ap (λ ns. language_along U wanted (n ∷ ns)) up.0) (same-language_along wanted (above T n) (h, up.1))
 
-  -- an answer whose nodes live in both trees
-  value_done : (v w : Value) → v ≡ w → AllStay T U (nodes_of v) → Same T U touched L M {F = EvalFault} nodes_of (done v) (done w)
-  value_done v w e h = same-equal T U touched L M nodes_of (done v) (done v) (done w) (ap done e) (same-done T U touched L M nodes_of v h)
-
   -- an answer that looks at no tree
   plain : (v : Value) → nodes_of v ≡ [] → Same T U touched L M {F = EvalFault} nodes_of (done v) (done v)
   plain v e = same-done T U touched L M nodes_of v (subst (λ ns. AllStay T U ns) (sym e) tt)
@@ -162,9 +179,17 @@ module _ (T U : Table) (touched : Cell → Bool) (L M : Lets) (changed : Changed
   same-number_or_own c [] h = same-number_in T U touched L M changed (NodeSet (c.node ∷ [])) (h.node, tt)
   same-number_or_own c (v ∷ vs) h = same-done T U touched L M no_nodes (number_of v) tt
 
-  same-named : (c : Context) (vs : List Value) → ContextStays T U c → AllStay T U (flat_map nodes_of vs) → name_at T (named_node c vs) ≡ name_at U (named_node c vs)
-  same-named c [] h k = same-name_at T U touched L M changed c.node h.node
-  same-named c (v ∷ vs) h k = same-first_name T U touched L M changed (nodes_of v) (stay-front T U (nodes_of v) (flat_map nodes_of vs) k)
+  -- the node whose name is asked for
+  named-stays : (c : Context) (vs : List Value) → ContextStays T U c → AllStay T U (flat_map nodes_of vs) →
+      (m : ℕ) → named_node c vs ≡ Some m → Stays T U m
+  named-stays c [] h k m e = let same : c.node ≡ m = cc in subst (λ n. Stays T U n) same h.node
+  named-stays c (v ∷ vs) h k m e = first-stays T U touched L M changed (nodes_of v) (stay-front T U (nodes_of v) (flat_map nodes_of vs) k) m e
+
+  same-named : (part : Option Name → List ℕ) (c : Context) (vs : List Value) → ContextStays T U c → AllStay T U (flat_map nodes_of vs) →
+      Same T U touched L M nodes_of (of_name T (named_node c vs) (λ name. Chars (part name)))
+      (of_name U (named_node c vs) (λ name. Chars (part name)))
+  same-named part c vs h k =
+      same-of_name T U touched L M changed nodes_of (named_node c vs) (λ name. Chars (part name)) (named-stays c vs h k) (λ _. tt)
 
   -- an answer made of one that holds no nodes, in the same way in both trees
   made : {A : Type 0} (f : A → Value) → ((v : A) → nodes_of (f v) ≡ []) → (before after : Evaluation EvalFault A) → Same T U touched L M no_nodes before after →
@@ -180,12 +205,9 @@ module _ (T U : Table) (touched : Cell → Bool) (L M : Lets) (changed : Changed
   same-applied functions.Sum c vs h k =
       made (λ n. Number n) (λ n. refl) (sum_in T (nodes_at vs 0)) (sum_in U (nodes_at vs 0))
       (same-sum_in T U touched L M changed (nodes_at vs 0) (first-nodes_stay T U vs k))
-  same-applied functions.LocalName c vs h k =
-      value_done (Chars (local_in (name_at T (named_node c vs)))) (Chars (local_in (name_at U (named_node c vs)))) (ap (λ name. Chars (local_in name)) (same-named c vs h k)) tt
-  same-applied functions.NamespaceUri c vs h k =
-      value_done (Chars (uri_in (name_at T (named_node c vs)))) (Chars (uri_in (name_at U (named_node c vs)))) (ap (λ name. Chars (uri_in name)) (same-named c vs h k)) tt
-  same-applied functions.Name c vs h k =
-      value_done (Chars (written_in (name_at T (named_node c vs)))) (Chars (written_in (name_at U (named_node c vs)))) (ap (λ name. Chars (written_in name)) (same-named c vs h k)) tt
+  same-applied functions.LocalName c vs h k = same-named (λ name. local_in name) c vs h k
+  same-applied functions.NamespaceUri c vs h k = same-named (λ name. uri_in name) c vs h k
+  same-applied functions.Name c vs h k = same-named (λ name. written_in name) c vs h k
   same-applied functions.String c vs h k = made (λ s. Chars s) (λ s. refl) (text_or_own T c vs) (text_or_own U c vs) (same-text_or_own c vs h)
   same-applied functions.Number c vs h k = made (λ n. Number n) (λ n. refl) (number_or_own T c vs) (number_or_own U c vs) (same-number_or_own c vs h)
   same-applied functions.Boolean c vs h k = plain (Truth (to_truth (argument vs 0))) refl

@@ -1,7 +1,8 @@
 pub mod StandLemmas
+pub mod TestLemmas
+pub mod NameLemmas
 pub mod ValueLemmas
 pub mod FunctionLemmas
-pub mod TestLemmas
 pub mod AxisLemmas
 pub mod PathLemmas
 pub mod MeaningLemmas

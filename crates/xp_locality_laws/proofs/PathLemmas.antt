@@ -1,27 +1,28 @@
 -- Steps and predicates stand where their reads were kept: candidates, what predicates leave of them, and what a step from a node-set selects.
-use Rattle.std.proofs.Common.{◌≡◌, ℕ, ◌+◌, Bool, true, false, cond, ◌&&◌, List, [], ◌∷◌, length, refl, ap, ◌∙◌}
-use Rattle.std.specs.Prelude.{filter, bytes_eq}
+use Rattle.std.proofs.Common.{◌≡◌, ℕ, ◌+◌, Bool, true, false, cond, List, [], ◌∷◌, length, sym, ap, ◌∙◌, true≢false}
+use Rattle.std.specs.List.{list_any}
+use Rattle.std.specs.Prelude.{filter}
 use Rattle.doc_tree.specs.cell.Cell.{Cell}
 use Rattle.doc_tree.specs.declared.axes.Axis.{Axis}
 use Rattle.doc_tree.specs.declared.axes.NodeTest.{NodeTest}
-use Rattle.doc_tree.specs.declared.axes.NodeTest.TheVariants.{Any, Star, InNamespace, Named, Text, Comment, Pi, PiNamed}
-use Rattle.doc_tree.specs.Kinds.{is_text}
 use Rattle.doc_tree.specs.Table.{Table}
 use Rattle.doc_axes.specs.Axes.{axis_nodes}
-use Rattle.doc_axes.specs.NodeTests.{is_comment, is_instruction, is_principal, named, passes}
+use Rattle.doc_axes.specs.NodeTests.{passes}
 use Rattle.doc_axes.specs.Sets.{in_order}
 use Rattle.doc_edit_laws.specs.Agreement.{AllStay, Stays}
-use Rattle.xp_outcome.specs.Evaluation.{Evaluation, all_reading, done, gather, visits}
+use Rattle.xp_outcome.specs.Evaluation.{Evaluation, all_reading, done, gather, names_along, visits}
+use Rattle.xp_outcome.specs.Cells.{names_on}
 use Rattle.xp_values.specs.declared.values.EvalFault.{EvalFault}
 use Rattle.xp_values.specs.declared.values.Value.{Value}
 use Rattle.xp_meaning.specs.Conversions.{nodes_of}
 use Rattle.xp_meaning.specs.declared.context.Context.{Context}
 use Rattle.xp_meaning.specs.Evaluation.{Lets}
 use Rattle.xp_meaning.specs.Paths.{Meaning, Step, candidates, chosen, filtered, holds_at, kept, placed, step_at, step_from}
-use Rattle.xp_meaning.specs.Reads.{axis_reads}
-use Rattle.xp_locality_laws.specs.Locality.{Changed, ContextStays}
+use Rattle.xp_meaning.specs.Reads.{axis_reads, is_by_name, names_tested}
+use Rattle.xp_locality_laws.specs.Locality.{AllKept, Changed, ContextStays}
 use Rattle.xp_locality_laws.proofs.AxisLemmas.{same-axis, same-in_order, same-reads}
 use Rattle.xp_locality_laws.proofs.StandLemmas.{Same, same-all_reading, same-bind, same-done, same-equal, same-gather, same-made, same-visits}
+use Rattle.xp_locality_laws.proofs.NameLemmas.{name-kept, same-test}
 use Rattle.xp_locality_laws.proofs.TestLemmas.{filter-alike, stay-filter}
 
 -- meanings that stand in each context whose nodes live in both trees
@@ -35,37 +36,34 @@ AllLocal T U touched L M (m ∷ ms) [] = ⊥
 AllLocal T U touched L M (m ∷ ms) (n ∷ ns) = Local T U touched L M m n × AllLocal T U touched L M ms ns
 
 module _ (T U : Table) (touched : Cell → Bool) (L M : Lets) (changed : Changed T U touched) where
-  pub same-passes : (axis : Axis) (node_test : NodeTest) (n : ℕ) → Stays T U n → passes T axis node_test n ≡ passes U axis node_test n
-  same-passes axis Any n stays = refl
-  same-passes axis Star n stays = ap (is_principal axis) (changed.agree.kind n stays)
-  same-passes axis (InNamespace uri) n stays =
-      let kind = changed.agree.kind n stays in let name = changed.agree.name n stays in
-      λ i. is_principal axis (kind i) && named (name i) (λ held. bytes_eq held.uri uri)
-  same-passes axis (Named uri local) n stays =
-      let kind = changed.agree.kind n stays in let name = changed.agree.name n stays in
-      λ i. is_principal axis (kind i) && named (name i) (λ held. bytes_eq held.uri uri && bytes_eq held.local local)
-  same-passes axis Text n stays = ap is_text (changed.agree.kind n stays)
-  same-passes axis Comment n stays = ap is_comment (changed.agree.kind n stays)
-  same-passes axis Pi n stays = ap is_instruction (changed.agree.kind n stays)
-  same-passes axis (PiNamed target) n stays =
-      let kind = changed.agree.kind n stays in let name = changed.agree.name n stays in
-      λ i. is_instruction (kind i) && named (name i) (λ held. bytes_eq held.local target)
+  -- names along an axis that a test looks at
+  tested-kept : (b : Bool) (axis : Axis) (n : ℕ) → AllKept T U touched L M (cond b (names_along axis n ∷ []) []) → b ≡ true →
+      list_any touched (names_on T axis (axis_nodes T axis n)) ≡ false
+  tested-kept true axis n k e = k.0
+  tested-kept false axis n k e = absurd (true≢false (sym e))
 
   same-candidates : (axis : Axis) (node_test : NodeTest) (n : ℕ) → Stays T U n →
       Same T U touched L M (λ ns. ns) (candidates T axis node_test n) (candidates U axis node_test n)
   unfolding candidates
   same-candidates axis node_test n stays =
-      let found : Table → Evaluation EvalFault (List ℕ) =
+      let visited : Table → Evaluation EvalFault (List ℕ) =
       λ V. visits (1 + length (axis_nodes V axis n)) (done (filter (passes V axis node_test) (axis_nodes V axis n))) in
+      let found : Table → Evaluation EvalFault (List ℕ) = λ V. all_reading (names_tested axis node_test n) (visited V) in
       same-equal T U touched L M (λ ns. ns) _ (all_reading (axis_reads T axis n) (found U)) _ (ap (λ reads. all_reading reads (found U)) (same-reads T U touched L M changed axis n stays))
       (same-all_reading T U touched L M (λ ns. ns) (axis_reads T axis n) (found T) (found U) (λ k.
+      same-all_reading T U touched L M (λ ns. ns) (names_tested axis node_test n) (visited T) (visited U) (λ names.
       let s = same-axis T U touched L M changed axis n stays k in
       let nodes = s.0 in
       let left : filter (passes T axis node_test) (axis_nodes T axis n) ≡ filter (passes U axis node_test) (axis_nodes U axis n) =
-      filter-alike T U (passes T axis node_test) (passes U axis node_test) (same-passes axis node_test) (axis_nodes T axis n) s.1 ∙ ap (filter (passes U axis node_test)) nodes in
-      same-equal T U touched L M (λ ns. ns) (found T) (found T) (found U) (λ i. visits (1 + length (nodes i)) (done (left i)))
+      filter-alike T U (passes T axis node_test) (passes U axis node_test) (axis_nodes T axis n)
+      (λ m here stay. same-test T U touched L M changed axis node_test m stay
+      (λ by_name principal. name-kept T touched axis (axis_nodes T axis n)
+      (tested-kept (is_by_name node_test) axis n names by_name) m here principal)) s.1
+      ∙ ap (filter (passes U axis node_test)) nodes in
+      same-equal T U touched L M (λ ns. ns) (visited T) (visited T) (visited U) (λ i. visits (1 + length (nodes i)) (done (left i)))
       (same-visits T U touched L M (λ ns. ns) (1 + length (axis_nodes T axis n)) _ _
-      (same-done T U touched L M (λ ns. ns) (filter (passes T axis node_test) (axis_nodes T axis n)) (stay-filter T U (passes T axis node_test) (axis_nodes T axis n) s.1)))))
+      (same-done T U touched L M (λ ns. ns) (filter (passes T axis node_test) (axis_nodes T axis n))
+      (stay-filter T U (passes T axis node_test) (axis_nodes T axis n) s.1))))))
 
   -- predicates
   chosen-stay : (position n : ℕ) (v : Value) → Stays T U n → AllStay T U (chosen position n v)

@@ -89,23 +89,31 @@ module _ (T U : Table) (touched : Cell → Bool) (L M : Lets) {F : Type 0} where
   same-cond nodes true m n other last h k = h
   same-cond nodes false m n other last h k = k
 
-  -- one and then the next
-  pub same-bind : {A B : Type 0} (held : A → List ℕ) (nodes : B → List ℕ) (before after : Evaluation F A) (next then : A → Evaluation F B) →
-      Same T U touched L M held before after → ((v : A) → AllStay T U (held v) → Same T U touched L M nodes (next v) (then v)) →
+  -- one and then the next, of which it is known what the first gave
+  pub same-bind-answered : {A B : Type 0} (held : A → List ℕ) (nodes : B → List ℕ) (before after : Evaluation F A) (next then : A → Evaluation F B) →
+      Same T U touched L M held before after →
+      ((v : A) → before.answer ≡ Ok v → AllStay T U (held v) → Same T U touched L M nodes (next v) (then v)) →
       Same T U touched L M nodes (bind before next) (bind after then)
   unfolding bind behind
-  same-bind {A} {B} held nodes before after next then h k = record {
+  same-bind-answered {A} {B} held nodes before after next then h k = record {
     go = λ reads.
         let first : Stands T U held before after = h.go (kept_front T U touched L M before.reads (follow before.answer next).reads reads) in
         let rest : Stands T U nodes (follow before.answer next) (follow before.answer then) =
-        by before.answer first.stay (kept_back T U touched L M before.reads (follow before.answer next).reads reads) in
+        by before.answer refl first.stay (kept_back T U touched L M before.reads (follow before.answer next).reads reads) in
         subst (λ m. Stands T U nodes (bind before next) (bind m then)) (sym first.same)
         (stand_behind T U nodes before.reads before.work (follow before.answer next) (follow before.answer then) rest);
   }
     where
-      by : (a : Result A F) → ((v : A) → a ≡ Ok v → AllStay T U (held v)) → AllKept T U touched L M (follow a next).reads → Stands T U nodes (follow a next) (follow a then)
-      by (Ok v) stay reads = (k v (stay v refl)).go reads
-      by (Err f) stay reads = stand_fault T U nodes f
+      by : (a : Result A F) → before.answer ≡ a → ((v : A) → a ≡ Ok v → AllStay T U (held v)) → AllKept T U touched L M (follow a next).reads →
+          Stands T U nodes (follow a next) (follow a then)
+      by (Ok v) is stay reads = (k v is (stay v refl)).go reads
+      by (Err f) is stay reads = stand_fault T U nodes f
+
+  -- one and then the next
+  pub same-bind : {A B : Type 0} (held : A → List ℕ) (nodes : B → List ℕ) (before after : Evaluation F A) (next then : A → Evaluation F B) →
+      Same T U touched L M held before after → ((v : A) → AllStay T U (held v) → Same T U touched L M nodes (next v) (then v)) →
+      Same T U touched L M nodes (bind before next) (bind after then)
+  same-bind held nodes before after next then h k = same-bind-answered held nodes before after next then h (λ v _ stay. k v stay)
 
   -- an answer made of the answer
   pub same-made : {A B : Type 0} (held : A → List ℕ) (nodes : B → List ℕ) (before after : Evaluation F A) (f g : A → B) →

@@ -26,7 +26,7 @@ after-filter p n h (m ∷ ns) = by (eqb n m) (p m) refl refl (after-filter p n h
     by false true e g more = rw e more
     by false false e g more = more
 
-mem-filter : (p : ℕ → Bool) (m : ℕ) → p m ≡ true → (ns : List ℕ) → mem m (filter p ns) ≡ mem m ns
+pub mem-filter : (p : ℕ → Bool) (m : ℕ) → p m ≡ true → (ns : List ℕ) → mem m (filter p ns) ≡ mem m ns
 mem-filter p m h [] = refl
 mem-filter p m h (n ∷ ns) = by (p n) (eqb m n) refl refl (mem-filter p m h ns)
   where
@@ -63,9 +63,14 @@ module _ (T U : Table) where
       by true more = (h.0, more)
       by false more = more
 
-  pub filter-alike : (p q : ℕ → Bool) → ((n : ℕ) → Stays T U n → p n ≡ q n) → (ns : List ℕ) → AllStay T U ns → filter p ns ≡ filter q ns
-  filter-alike p q agree [] h = refl
-  filter-alike p q agree (n ∷ ns) h = let here = agree n h.0 in let more = filter-alike p q agree ns h.1 in λ i. cond (here i) (n ∷ more i) (more i)
+  -- tests that come out alike at each of some nodes
+  pub filter-alike : (p q : ℕ → Bool) (ns : List ℕ) → ((n : ℕ) → mem n ns ≡ true → Stays T U n → p n ≡ q n) → AllStay T U ns →
+      filter p ns ≡ filter q ns
+  filter-alike p q [] agree h = refl
+  filter-alike p q (n ∷ ns) agree h =
+      let here = agree n (mem-head n ns) h.0 in
+      let more = filter-alike p q ns (λ m is. agree m (mem-tail m n ns is)) h.1 in
+      λ i. cond (here i) (n ∷ more i) (more i)
 
   pub alike-mem : (xs ys : List ℕ) → xs ≡ ys → AllStay T U xs → Alike T U (λ m. mem m xs) (λ m. mem m ys)
   alike-mem xs ys e h = subst (λ l. Alike T U (λ m. mem m xs) (λ m. mem m l)) e

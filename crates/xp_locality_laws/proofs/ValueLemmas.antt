@@ -1,6 +1,6 @@
 -- What nodes that live in both trees have in common, and what conversions make of it.
 use Rattle.std.proofs.Common.{◌≡◌, ℕ, Bool, true, false, cond, List, [], ◌∷◌, ◌++◌, map, length, Result, Ok, Option, None, Some, refl, sym, ap, ◌∙◌}
-use Rattle.std.specs.Prelude.{pos, slice_get}
+use Rattle.std.specs.Prelude.{pos}
 use Rattle.doc_tree.specs.cell.Cell.{Cell}
 use Rattle.doc_tree.specs.cell.Cell.TheVariants.{Text as TextOf, Value as ValueOf}
 use Rattle.doc_tree.specs.Kinds.{holds_kids}
@@ -24,7 +24,6 @@ use Rattle.xp_meaning.specs.declared.want.Want.{Want}
 use Rattle.xp_meaning.specs.declared.want.Want.TheVariants.{AsItIs, AsText, AsNumber}
 use Rattle.xp_meaning.specs.Conversions.{nodes_of, first_of, text_in, number_in, compared_nodes, compare_in, sum_from, sum_in, as_wanted}
 use Rattle.xp_meaning.specs.Evaluation.{Lets}
-use Rattle.xp_meaning.specs.Names.{name_at}
 use Rattle.xp_meaning.specs.Reads.{text_read, taking}
 use Rattle.xp_locality_laws.specs.Locality.{AllKept, Changed, Kept}
 use Rattle.xp_locality_laws.proofs.StandLemmas.{Same, no_nodes, same-all_reading, same-done, same-equal, same-given, same-made, same-visits, stay-append}
@@ -136,13 +135,6 @@ module _ (T U : Table) (touched : Cell → Bool) (L M : Lets) (changed : Changed
       by : (b : Bool) → holds_kids (kind_of T n) ≡ b → touched (cond b (TextOf n) (ValueOf n)) ≡ false → cond b (joined_text T n) (value_of T n) ≡ cond b (joined_text U n) (value_of U n)
       by true holds k = changed.agree.text n stays holds k
       by false holds k = changed.agree.value n stays k
-
-  pub same-name_at : (n : ℕ) → Stays T U n → name_at T (Some n) ≡ name_at U (Some n)
-  same-name_at n h = changed.agree.name n h
-
-  pub same-first_name : (ns : List ℕ) → AllStay T U ns → name_at T (slice_get ns 0) ≡ name_at U (slice_get ns 0)
-  same-first_name [] h = refl
-  same-first_name (n ∷ ns) h = same-name_at n h.0
 
   same-text_reads : (ns : List ℕ) → AllStay T U ns → map (text_read T) ns ≡ map (text_read U) ns
   same-text_reads [] h = refl

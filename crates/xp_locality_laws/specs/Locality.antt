@@ -1,4 +1,5 @@
 -- What evaluation depends on: on what it reads, and on nothing else (XPath 1.0, sections 2 to 4).
+use Rattle.std.specs.List.{list_any}
 use Rattle.std.specs.Prelude.{◌≡◌, ℕ, Bool, false, List, [], ◌∷◌, Some, Ok}
 use Rattle.doc_tree.specs.cell.Cell.{Cell}
 use Rattle.doc_tree.specs.declared.axes.Axis.{Axis}
@@ -6,7 +7,8 @@ use Rattle.doc_tree.specs.declared.axes.NodeTest.{NodeTest}
 use Rattle.doc_tree.specs.Table.{Table}
 use Rattle.doc_edit_laws.specs.Agreement.{Agree, AllStay, IsTree, Stays}
 use Rattle.xp_typed_tree.specs.TypedTree.{TypedTree, TypedTrees}
-use Rattle.xp_outcome.specs.Evaluation.{Evaluation, Read, cell, variable}
+use Rattle.xp_outcome.specs.Cells.{cells_of}
+use Rattle.xp_outcome.specs.Evaluation.{Evaluation, Read, cell, names_along, variable}
 use Rattle.xp_outcome.specs.Slots.{in_slot}
 use Rattle.xp_values.specs.declared.values.Value.{Value}
 use Rattle.xp_meaning.specs.declared.context.Context.{Context}
@@ -14,9 +16,11 @@ use Rattle.xp_meaning.specs.Conversions.{nodes_of}
 use Rattle.xp_meaning.specs.Evaluation.{Lets, all_true, meaning, meanings}
 use Rattle.xp_meaning.specs.Paths.{step_at}
 
--- what was read stands: the cell wasn't touched, or the let has the same value or fault, whose nodes live in both trees
+-- what was read stands: the cell wasn't touched, none of the names along the axis was, or the let has the same value or fault, whose
+-- nodes live in both trees
 abbrev pub Kept : Table → Table → (Cell → Bool) → Lets → Lets → Read → Type 0
 Kept T U touched L M (cell c) = touched c ≡ false
+Kept T U touched L M (names_along axis n) = list_any touched (cells_of T (names_along axis n)) ≡ false
 Kept T U touched L M (variable slot) = (in_slot L slot ≡ in_slot M slot) × ((v : Value) → in_slot L slot ≡ Some (Ok v) → AllStay T U (nodes_of v))
 
 abbrev pub AllKept : Table → Table → (Cell → Bool) → Lets → Lets → List Read → Type 0

@@ -3,7 +3,8 @@ use Rattle.std.proofs.Common.{◌≡◌, ℕ, true, List, [], ◌∷◌, Option,
 use Rattle.std.specs.Prelude.{flat_map}
 use Rattle.doc_tree.specs.Laws.{Ordered}
 use Rattle.doc_tree.specs.Lists.{mem}
-use Rattle.doc_tree.specs.Table.{Table, is_live}
+use Rattle.doc_tree.specs.QNames.{written_in}
+use Rattle.doc_tree.specs.Table.{Name, Table, is_live}
 use Rattle.doc_tree.specs.Walks.{order}
 use Rattle.doc_tree.proofs.ListLemmas.{mem-In}
 use Rattle.doc_axes.specs.Sets.{in_order, IsNodeSet}
@@ -13,7 +14,7 @@ use Rattle.xp_tree.specs.declared.operators.Comparison.{Comparison}
 use Rattle.xp_typed_tree.specs.declared.function.Function.{Function}
 use Rattle.xp_typed_tree.specs.declared.function.Function.TheVariants as functions
 use Rattle.xp_typed_tree.specs.TypedTree.{TypedTree, TypedPlace, disjunction, conjunction, comparison, arithmetic, negation, union, location, selection, slot, text, whole, application, at_root, at_context, at_nodes}
-use Rattle.xp_outcome.specs.Evaluation.{Evaluation, done, given, fault, bind, behind, visit, reading, gather}
+use Rattle.xp_outcome.specs.Evaluation.{Evaluation, done, given, fault, bind, behind, visit, reading, all_reading, gather}
 use Rattle.xp_outcome.specs.Slots.{in_slot}
 use Rattle.xp_values.specs.declared.values.Value.{Value}
 use Rattle.xp_values.specs.declared.values.Value.TheVariants.{NodeSet, Truth, Number, Chars}
@@ -25,8 +26,9 @@ use Rattle.xp_meaning.specs.Conversions.{nodes_of, number_in, compare_in, sum_in
 use Rattle.xp_meaning.specs.declared.context.Context.{Context}
 use Rattle.xp_meaning.specs.Operators.{negated}
 use Rattle.xp_meaning.specs.Paths.{Step, filtered, path, step_at, step_from}
-use Rattle.xp_meaning.specs.Functions.{applied, as_chars, nodes_at, text_at, text_of, text_or_own, number_or_own, wanted}
+use Rattle.xp_meaning.specs.Functions.{applied, as_chars, named_node, nodes_at, text_at, text_of, text_or_own, number_or_own, wanted}
 use Rattle.xp_meaning.specs.Language.{in_language}
+use Rattle.xp_meaning.specs.Names.{local_in, name_at, of_name, uri_in}
 use Rattle.xp_meaning.specs.Evaluation.{Lets, Operand, meaning, meanings, some_true, all_true, compared, combined, values, slot_value, start_nodes, steps_meant, comparands_meant, combinands_meant}
 use Rattle.xp_meaning.specs.Laws.{IsProper, LetsAreProper, ValuesAreProper}
 use Rattle.xp_meaning.proofs.Choices.{came_before, same_ok, filter-keeps, filtered-sub, sub-trans}
@@ -67,15 +69,20 @@ module _ (T : Table) (ord : Ordered T) where
   chars_proper (Ok s) v is = subst (IsProper T) (same_ok {F = EvalFault} (Chars s) v is) tt
   chars_proper (Err f) v is = cc
 
+  -- an answer that is a part of a name
+  name_proper : (n : Option ℕ) (part : Option Name → List ℕ) (v : Value) → (of_name T n (λ name. Chars (part name))).answer ≡ Ok v → IsProper T v
+  unfolding all_reading behind done
+  name_proper n part v is = subst (IsProper T) (same_ok {F = EvalFault} (Chars (part (name_at T n))) v is) tt
+
   function_proper : (f : Function) (c : Context) (vs : List Value) (v : Value) → is_live T c.current ≡ true → (applied T f c vs).answer ≡ Ok v → IsProper T v
   function_proper functions.Last c vs v live is = done_proper _ v tt is
   function_proper functions.Position c vs v live is = done_proper _ v tt is
   function_proper functions.Current c vs v live is = done_proper _ v (alone c.current live) is
   function_proper functions.Count c vs v live is = done_proper _ v tt is
   function_proper functions.Sum c vs v live is = made_proper (sum_in T (nodes_at vs 0)) (λ n. Number n) v (λ n. tt) is
-  function_proper functions.LocalName c vs v live is = done_proper _ v tt is
-  function_proper functions.NamespaceUri c vs v live is = done_proper _ v tt is
-  function_proper functions.Name c vs v live is = done_proper _ v tt is
+  function_proper functions.LocalName c vs v live is = name_proper (named_node c vs) (λ name. local_in name) v is
+  function_proper functions.NamespaceUri c vs v live is = name_proper (named_node c vs) (λ name. uri_in name) v is
+  function_proper functions.Name c vs v live is = name_proper (named_node c vs) (λ name. written_in name) v is
   function_proper functions.String c vs v live is = made_proper (text_or_own T c vs) (λ s. Chars s) v (λ s. tt) is
   function_proper functions.Number c vs v live is = made_proper (number_or_own T c vs) (λ n. Number n) v (λ n. tt) is
   function_proper functions.Boolean c vs v live is = done_proper _ v tt is

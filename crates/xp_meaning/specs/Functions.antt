@@ -17,7 +17,7 @@ use Rattle.xp_meaning.specs.declared.want.Want.{Want}
 use Rattle.xp_meaning.specs.declared.want.Want.TheVariants.{AsItIs, AsText, AsNumber}
 use Rattle.xp_meaning.specs.Conversions.{nodes_of, text_in, number_in, sum_in}
 use Rattle.xp_meaning.specs.declared.context.Context.{Context}
-use Rattle.xp_meaning.specs.Names.{name_at, local_in, uri_in}
+use Rattle.xp_meaning.specs.Names.{local_in, of_name, uri_in}
 use Rattle.xp_meaning.specs.Language.{in_language}
 
 -- what the first argument of `substring` is wanted as, and what the others are
@@ -129,9 +129,9 @@ applied T functions.Position c vs = done (counted c.position)
 applied T functions.Current c vs = done (NodeSet (c.current ∷ []))
 applied T functions.Count c vs = done (counted (length (nodes_at vs 0)))
 applied T functions.Sum c vs = as_number (sum_in T (nodes_at vs 0))
-applied T functions.LocalName c vs = done (Chars (local_in (name_at T (named_node c vs))))
-applied T functions.NamespaceUri c vs = done (Chars (uri_in (name_at T (named_node c vs))))
-applied T functions.Name c vs = done (Chars (written_in (name_at T (named_node c vs))))
+applied T functions.LocalName c vs = of_name T (named_node c vs) (λ name. Chars (local_in name))
+applied T functions.NamespaceUri c vs = of_name T (named_node c vs) (λ name. Chars (uri_in name))
+applied T functions.Name c vs = of_name T (named_node c vs) (λ name. Chars (written_in name))
 applied T functions.String c vs = as_text (text_or_own T c vs)
 applied T functions.Number c vs = as_number (number_or_own T c vs)
 applied T functions.Boolean c vs = done (Truth (to_truth (argument vs 0)))

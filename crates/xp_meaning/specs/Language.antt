@@ -2,12 +2,13 @@
 use Rattle.std.specs.Prelude.{ℕ, ◌==◌, Bool, true, false, ◌&&◌, List, [], ◌∷◌, length, take, drop, find, codes, Option, None, Some, if◌then◌else◌}
 use Rattle.std.specs.Str.{str_eq_ignore_ascii_case}
 use Rattle.doc_tree.specs.cell.Cell.TheVariants.{Attrs, Value}
+use Rattle.doc_tree.specs.declared.axes.Axis.TheVariants.{Attribute}
 use Rattle.doc_tree.specs.Table.{Table, attrs_of, kind_of, value_of}
 use Rattle.doc_tree.specs.Kinds.{is_element}
 use Rattle.doc_tree.specs.NameTests.{has_name}
 use Rattle.doc_tree.specs.Scope.{xml_namespace}
 use Rattle.doc_tree.specs.Walks.{above}
-use Rattle.xp_outcome.specs.Evaluation.{Evaluation, done, bind, reading, cell}
+use Rattle.xp_outcome.specs.Evaluation.{Evaluation, done, bind, reading, cell, names_along}
 use Rattle.xp_values.specs.declared.values.EvalFault.{EvalFault}
 
 -- a tag ends, or goes on after a hyphen
@@ -32,10 +33,10 @@ abbrev pub decided_by : Table → List ℕ → Option ℕ → Evaluation EvalFau
 decided_by T wanted None = done None
 decided_by T wanted (Some a) = reading (cell (Value a)) (done (Some (is_language (value_of T a) wanted)))
 
--- what a node's own attribute `xml:lang` decides; the attributes of an element are read, and the value of the one found
+-- what a node's own attribute `xml:lang` decides; the attributes of an element are read, their names, and the value of the one found
 abbrev pub own_language : Table → List ℕ → ℕ → Evaluation EvalFault (Option Bool)
 own_language T wanted n =
-    if is_element (kind_of T n) then reading (cell (Attrs n)) (decided_by T wanted (lang_among T (attrs_of T n))) else done None
+    if is_element (kind_of T n) then reading (cell (Attrs n)) (reading (names_along Attribute n) (decided_by T wanted (lang_among T (attrs_of T n)))) else done None
 
 abbrev pub or_else : Option Bool → Evaluation EvalFault Bool → Evaluation EvalFault Bool
 or_else None rest = rest

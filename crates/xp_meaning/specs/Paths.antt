@@ -14,7 +14,7 @@ use Rattle.xp_tree.specs.declared.operators.Comparison.TheVariants.{Eq}
 use Rattle.xp_values.specs.declared.numbers.Num.TheVariants.{Whole}
 use Rattle.xp_values.specs.Comparisons.{number_test}
 use Rattle.xp_values.specs.Conversions.{to_truth}
-use Rattle.xp_meaning.specs.Reads.{axis_reads}
+use Rattle.xp_meaning.specs.Reads.{axis_reads, names_tested}
 use Rattle.xp_meaning.specs.declared.context.Context.{Context}
 
 -- what an expression gives in a context
@@ -52,11 +52,12 @@ abbrev pub filtered : List Meaning → ℕ → List ℕ → Evaluation EvalFault
 filtered [] current ns = done ns
 filtered (p ∷ ps) current ns = bind (kept p current ns) (λ ms. filtered ps current ms)
 
--- the candidates of a step at a node: the nodes on its axis, in the axis's own order, that pass its test; the node is
--- visited, and so is each node on the axis (sections 2.2 and 2.3)
+-- the candidates of a step at a node: the nodes on its axis, in the axis's own order, that pass its test; the names that it
+-- looks at are read, the node is visited, and so is each node on the axis (sections 2.2 and 2.3)
 unfoldable pub candidates : Table → Axis → NodeTest → ℕ → Evaluation EvalFault (List ℕ)
 candidates T axis node_test n =
-    all_reading (axis_reads T axis n) (visits (1 + length (axis_nodes T axis n)) (done (filter (passes T axis node_test) (axis_nodes T axis n))))
+    all_reading (axis_reads T axis n) (all_reading (names_tested axis node_test n)
+    (visits (1 + length (axis_nodes T axis n)) (done (filter (passes T axis node_test) (axis_nodes T axis n)))))
 
 -- a step at a node: its candidates, filtered by its predicates (section 2.1)
 abbrev pub step_at : Table → Step → ℕ → ℕ → Evaluation EvalFault (List ℕ)

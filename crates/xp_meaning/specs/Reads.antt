@@ -1,13 +1,15 @@
 -- What evaluation reads of nodes: the cells that a step looks at, and the string-values that conversions take.
 use Rattle.std.specs.Prelude.{ℕ, Bool, true, false, List, [], ◌∷◌, map, length, Option, None, Some, if◌then◌else◌}
 use Rattle.doc_tree.specs.cell.Cell.{Cell}
-use Rattle.doc_tree.specs.cell.Cell.TheVariants.{Kids, Shape, Attrs, Value, Text}
+use Rattle.doc_tree.specs.cell.Cell.TheVariants.{Kids, Shape, Attrs, Value, Text, Name}
 use Rattle.doc_tree.specs.declared.axes.Axis.{Axis}
 use Rattle.doc_tree.specs.declared.axes.Axis.TheVariants.{Ancestor, AncestorOrSelf, Attribute, Child, Descendant, DescendantOrSelf, Following, FollowingSibling, Parent, Preceding, PrecedingSibling, SelfNode}
+use Rattle.doc_tree.specs.declared.axes.NodeTest.{NodeTest}
+use Rattle.doc_tree.specs.declared.axes.NodeTest.TheVariants.{Any, Star, InNamespace, Named, Text as TextTest, Comment, Pi, PiNamed}
 use Rattle.doc_tree.specs.Table.{Table, kind_of, parent_of}
-use Rattle.doc_tree.specs.Kinds.{holds_kids, is_element}
+use Rattle.doc_tree.specs.Kinds.{has_own_name, holds_kids, is_element}
 use Rattle.doc_axes.specs.Axes.{is_attribute}
-use Rattle.xp_outcome.specs.Evaluation.{Read, cell, Evaluation, all_reading, visits}
+use Rattle.xp_outcome.specs.Evaluation.{Read, cell, names_along, Evaluation, all_reading, visits}
 
 -- a cell, where the node's kind has it
 abbrev pub read_if : Bool → Cell → List Read
@@ -36,6 +38,26 @@ axis_reads T Parent n = []
 axis_reads T Preceding n = cell (Shape 0) ∷ []
 axis_reads T PrecedingSibling n = sibling_reads T n
 axis_reads T SelfNode n = []
+
+-- whether a test looks at names, which are cells; the target of an instruction is none (section 2.3)
+abbrev pub is_by_name : NodeTest → Bool
+is_by_name Any = false
+is_by_name Star = false
+is_by_name (InNamespace uri) = true
+is_by_name (Named uri local) = true
+is_by_name TextTest = false
+is_by_name Comment = false
+is_by_name Pi = false
+is_by_name (PiNamed target) = false
+
+-- a test that looks at names reads those along the step's axis
+abbrev pub names_tested : Axis → NodeTest → ℕ → List Read
+names_tested axis node_test n = if is_by_name node_test then names_along axis n ∷ [] else []
+
+-- the name of a node, where there is one whose kind has a name
+abbrev pub name_read : Table → Option ℕ → List Read
+name_read T None = []
+name_read T (Some n) = read_if (has_own_name (kind_of T n)) (Name n)
 
 -- where a string-value is read (XPath 1.0, section 5): of the root and elements in Text, of the other kinds in Value
 abbrev pub text_read : Table → ℕ → Read

@@ -14,7 +14,7 @@ use Rattle.xp_typed_tree.specs.declared.function.Function.{Function}
 use Rattle.xp_typed_tree.specs.declared.function.Function.TheVariants as functions
 use Rattle.xp_typed_tree.specs.TypedTree.{TypedTree, TypedPlace, TypedTrees, disjunction, conjunction, comparison, arithmetic, negation, union, location, selection, slot, text, whole, application, at_root, at_context, at_nodes, no_typed, typed}
 use Rattle.xp_typed_tree.specs.WellTyped.{WellTyped, PlaceTyped, AllTyped, wants_nodes}
-use Rattle.xp_outcome.specs.Evaluation.{Evaluation, done, given, bind, variable}
+use Rattle.xp_outcome.specs.Evaluation.{Evaluation, done, given, bind, all_reading, variable}
 use Rattle.xp_outcome.specs.Slots.{in_slot}
 use Rattle.xp_values.specs.declared.values.Value.{Value}
 use Rattle.xp_values.specs.declared.values.Value.TheVariants.{NodeSet, Truth, Number, Chars}
@@ -26,16 +26,17 @@ use Rattle.xp_meaning.specs.declared.want.Want.TheVariants.{AsItIs}
 use Rattle.xp_meaning.specs.declared.context.Context.{Context}
 use Rattle.xp_meaning.specs.Conversions.{nodes_of, number_in, sum_in}
 use Rattle.xp_meaning.specs.Operators.{negated}
-use Rattle.xp_meaning.specs.Names.{name_at, local_in, uri_in}
+use Rattle.xp_meaning.specs.Names.{name_at, local_in, of_name, uri_in}
+use Rattle.xp_meaning.specs.Reads.{name_read}
 use Rattle.xp_meaning.specs.Paths.{filtered, path}
 use Rattle.xp_meaning.specs.Functions.{applied, as_chars, in_place, argument, nodes_at, text_at, text_of, number_at, number_of, length_in, named_node, text_or_own, number_or_own, wanted}
 use Rattle.xp_meaning.specs.Language.{in_language}
 use Rattle.xp_meaning.specs.Evaluation.{Lets, meaning, meanings, some_true, all_true, compared, combined, values, slot_value, start_nodes, steps_meant, comparands_meant, combinands_meant}
 use Rattle.xp_meaning.specs.Laws.{IsProper}
 use Rattle.xp_meaning_laws.specs.Bounds.{IsText, literals_in, literals_in_all, literals_in_place, literals_in_steps, literals_in_comparands, literals_in_combinands, NamesFit, IsPlacedInRange, ValuesAreBounded}
-use Rattle.xp_meaning_laws.proofs.EachLemmas.{each-front, each-back}
+use Rattle.xp_meaning_laws.proofs.EachLemmas.{each-all, each-back, each-front}
 use Rattle.xp_meaning_laws.proofs.Parts.{Any}
-use Rattle.xp_meaning_laws.proofs.Sound.{Sound, sound_done, sound_given, sound_visit, sound_reading, sound_bind}
+use Rattle.xp_meaning_laws.proofs.Sound.{Sound, sound_done, sound_given, sound_behind, sound_visit, sound_reading, sound_bind}
 use Rattle.xp_meaning_laws.proofs.StringLengths.{string-le}
 use Rattle.xp_meaning_laws.proofs.TextBounds.{no_text, few_chars, substring_text, normalized_text, before_text, after_text, limited_text, translated_text}
 use Rattle.xp_meaning_laws.proofs.Bounding.{StringsFit, AnyRead, by_answer, Few, Small, bounded, small, few_nodes, filter-shorter, negated-ranged, text_fits, number_fits, sum_fits, filtered_few, path_few, Fit, compared_fits, combined_fits, values_fit}
@@ -107,6 +108,12 @@ module _ (T : Table) (strings : StringsFit T) (names : NamesFit T) (some : 1 ≤
   uri_at-fits None = no_text
   uri_at-fits (Some n) = uri_fits (name_of T n) (λ name e. (names n name e).1)
 
+  name_fits : (n : Option ℕ) (part : Option Name → List ℕ) → IsText (part (name_at T n)) → Sound AnyRead Held (of_name T n (λ name. Chars (part name)))
+  unfolding all_reading
+  name_fits n part h =
+      sound_behind AnyRead Held (name_read T n) 0 (done (Chars (part (name_at T n)))) (each-all AnyRead (λ r. tt) (name_read T n))
+      (sound_done AnyRead Held (Chars (part (name_at T n))) h)
+
   -- the functions
   own_text_fits : (c : Context) (vs : List Value) → Each Held vs → Sound AnyRead IsText (text_or_own T c vs)
   own_text_fits c [] h = text_fits T strings some (NodeSet (c.node ∷ [])) some
@@ -136,9 +143,9 @@ module _ (T : Table) (strings : StringsFit T) (names : NamesFit T) (some : 1 ≤
   function_fits functions.Current c vs at e = sound_done AnyRead Held _ some
   function_fits functions.Count c vs at e = sound_done AnyRead Held _ (count_fits vs e)
   function_fits functions.Sum c vs at e = made_fits InRange (sum_in T (nodes_at vs 0)) (λ n. Number n) (sum_fits T strings some (nodes_at vs 0)) (λ n h. h)
-  function_fits functions.LocalName c vs at e = sound_done AnyRead Held _ (local_at-fits (named_node c vs))
-  function_fits functions.NamespaceUri c vs at e = sound_done AnyRead Held _ (uri_at-fits (named_node c vs))
-  function_fits functions.Name c vs at e = sound_done AnyRead Held _ (written_fits (named_node c vs))
+  function_fits functions.LocalName c vs at e = name_fits (named_node c vs) (λ name. local_in name) (local_at-fits (named_node c vs))
+  function_fits functions.NamespaceUri c vs at e = name_fits (named_node c vs) (λ name. uri_in name) (uri_at-fits (named_node c vs))
+  function_fits functions.Name c vs at e = name_fits (named_node c vs) (λ name. written_in name) (written_fits (named_node c vs))
   function_fits functions.String c vs at e = made_fits IsText (text_or_own T c vs) (λ s. Chars s) (own_text_fits c vs e) (λ s h. h)
   function_fits functions.Number c vs at e = made_fits InRange (number_or_own T c vs) (λ n. Number n) (own_number_fits c vs e) (λ n h. h)
   function_fits functions.Boolean c vs at e = sound_done AnyRead Held _ tt

@@ -137,6 +137,7 @@ all_closed T slots =
       parent = λ n p e. tt;
       attributes = λ n. each-all AnyNode (λ a. tt) (attrs_of T n);
       may_read = λ c h. tt;
+      may_name = λ axis n h. tt;
     }
 
 later-named : (place : ℕ) (b : Bool) (more : Bool) → more ≡ true → (b || more) ≡ true
@@ -167,6 +168,7 @@ live_closed T ord up =
       parent = λ n p e. up.parent_live n p e;
       attributes = λ n. each-listed (λ a. is_live T a ≡ true) (attrs_of T n) (λ a h. up.attribute_live n a h);
       may_read = λ c h. h;
+      may_name = λ axis n h. h;
     }
 
 pub cells_read_are_live : (T : Table) → Ordered T → HasWaysUp T → CellsReadAreLive T

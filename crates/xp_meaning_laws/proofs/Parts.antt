@@ -1,16 +1,17 @@
 -- The parts of meanings read only what may be read: steps, predicates, conversions and functions, where the nodes that
 -- they begin with belong to a set of nodes that is closed.
 use Rattle.std.proofs.Common.{◌≡◌, ℕ, zero, suc, ◌+◌, Bool, true, false, cond, List, [], ◌∷◌, ◌++◌, length, Option, None, Some, Result, Ok, Err, refl}
-use Rattle.std.specs.Prelude.{filter, find, map, flat_map, pos, if◌then◌else◌}
+use Rattle.std.specs.Prelude.{filter, find, map, flat_map, pos, slice_get, if◌then◌else◌}
 use Rattle.std.specs.List.{AllByRecursion as Each}
 use Rattle.doc_tree.specs.cell.Cell.{Cell}
 use Rattle.doc_tree.specs.cell.Cell.TheVariants as cells
 use Rattle.doc_tree.specs.declared.axes.Axis.{Axis}
 use Rattle.doc_tree.specs.declared.axes.Axis.TheVariants as axes
 use Rattle.doc_tree.specs.declared.axes.NodeTest.{NodeTest}
-use Rattle.doc_tree.specs.Kinds.{holds_kids, is_element}
+use Rattle.doc_tree.specs.Kinds.{has_own_name, holds_kids, is_element}
 use Rattle.doc_tree.specs.Lists.{mem}
-use Rattle.doc_tree.specs.Table.{Table, parent_of, attrs_of, kind_of}
+use Rattle.doc_tree.specs.QNames.{written_in}
+use Rattle.doc_tree.specs.Table.{Name, Table, parent_of, attrs_of, kind_of}
 use Rattle.doc_tree.specs.Walks.{order, above, climb}
 use Rattle.doc_axes.specs.Axes.{on_axis, is_reverse, axis_order, axis_nodes, is_attribute, backwards}
 use Rattle.doc_axes.specs.NodeTests.{passes}
@@ -19,7 +20,7 @@ use Rattle.xp_tree.specs.declared.operators.Comparison.{Comparison}
 use Rattle.xp_tree.specs.declared.operators.ArithOp.{ArithOp}
 use Rattle.xp_typed_tree.specs.declared.function.Function.{Function}
 use Rattle.xp_typed_tree.specs.declared.function.Function.TheVariants as functions
-use Rattle.xp_outcome.specs.Evaluation.{Read, cell, Evaluation, done, given, bind, visits, reading, all_reading, gather}
+use Rattle.xp_outcome.specs.Evaluation.{Read, cell, names_along, Evaluation, done, given, bind, visits, reading, all_reading, gather}
 use Rattle.xp_outcome.specs.Recorded.{node_of}
 use Rattle.xp_values.specs.declared.values.Value.{Value}
 use Rattle.xp_values.specs.declared.values.Value.TheVariants.{NodeSet, Truth, Number, Chars}
@@ -33,22 +34,24 @@ use Rattle.xp_values.specs.Texts.{limited, string_length, normalize_space, trans
 use Rattle.xp_meaning.specs.declared.want.Want.{Want}
 use Rattle.xp_meaning.specs.declared.want.Want.TheVariants.{AsItIs, AsText, AsNumber}
 use Rattle.xp_meaning.specs.declared.context.Context.{Context}
-use Rattle.xp_meaning.specs.Reads.{read_if, kids_of_parent, sibling_reads, axis_reads, text_read, taking}
+use Rattle.xp_meaning.specs.Reads.{read_if, kids_of_parent, sibling_reads, axis_reads, is_by_name, names_tested, name_read, text_read, taking}
 use Rattle.xp_meaning.specs.Conversions.{nodes_of, first_of, text_in, number_in, compared_nodes, compare_in, sum_from, sum_in, as_wanted}
 use Rattle.xp_meaning.specs.Paths.{Meaning, Step, holds_at, chosen, placed, kept, filtered, candidates, step_at, step_from, path}
-use Rattle.xp_meaning.specs.Functions.{applied, as_chars, nodes_at, text_at, text_of, text_or_own, number_or_own}
+use Rattle.xp_meaning.specs.Functions.{applied, as_chars, named_node, nodes_at, text_at, text_of, text_or_own, number_or_own}
+use Rattle.xp_meaning.specs.Names.{local_in, name_at, of_name, uri_in}
 use Rattle.xp_meaning.specs.Language.{is_lang, lang_among, decided_by, own_language, or_else, language_along, in_language}
 use Rattle.xp_meaning.specs.Evaluation.{Operand, some_true, all_true, compared, combined, values}
 use Rattle.xp_meaning_laws.proofs.EachLemmas.{each-append, each-cond, each-filter, each-backwards}
 use Rattle.xp_meaning_laws.proofs.Sound.{Sound, sound_done, sound_given, sound_behind, sound_reading, sound_bind, sound_cond, sound_gather}
 
--- nodes from which no axis leads away, and whose cells may be read
+-- nodes from which no axis leads away, and from which cells and names may be read
 pub record Closed (T : Table) (G : ℕ → Type 0) (may : Read → Type 0) : Type 0 where
   pub root : G 0
   pub whole : Each G (order T)
   pub parent : (n p : ℕ) → parent_of T n ≡ Some p → G p
   pub attributes : (n : ℕ) → Each G (attrs_of T n)
   pub may_read : (c : Cell) → G (node_of c) → may (cell c)
+  pub may_name : (axis : Axis) (n : ℕ) → G n → may (names_along axis n)
 
 -- of some answers nothing needs to be known
 abbrev pub Any : {A : Type 0} → A → Type 0
@@ -93,6 +96,9 @@ module _ (T : Table) (G : ℕ → Type 0) (may : Read → Type 0) (closed : Clos
   axis_may axes.PrecedingSibling n h = sibling_may n
   axis_may axes.SelfNode n h = tt
 
+  names_may : (axis : Axis) (node_test : NodeTest) (n : ℕ) → G n → Each may (names_tested axis node_test n)
+  names_may axis node_test n h = each-cond may (is_by_name node_test) (names_along axis n ∷ []) [] (closed.may_name axis n h, tt) tt
+
   axis_good : (axis : Axis) (n : ℕ) → Each G (axis_nodes T axis n)
   axis_good axis n =
       let all : Each G (axis_order T axis n) = each-filter G (on_axis T axis n) (order T) closed.whole in
@@ -102,9 +108,10 @@ module _ (T : Table) (G : ℕ → Type 0) (may : Read → Type 0) (closed : Clos
   unfolding candidates all_reading visits
   candidates_sound axis node_test n h =
       let found : List ℕ = filter (passes T axis node_test) (axis_nodes T axis n) in
-      sound_behind may (Each G) (axis_reads T axis n) 0 (visits (1 + length (axis_nodes T axis n)) (done found)) (axis_may axis n h)
+      sound_behind may (Each G) (axis_reads T axis n) 0 (all_reading (names_tested axis node_test n) (visits (1 + length (axis_nodes T axis n)) (done found))) (axis_may axis n h)
+      (sound_behind may (Each G) (names_tested axis node_test n) 0 (visits (1 + length (axis_nodes T axis n)) (done found)) (names_may axis node_test n h)
       (sound_behind may (Each G) [] (1 + length (axis_nodes T axis n)) (done found) tt
-      (sound_done may (Each G) found (each-filter G (passes T axis node_test) (axis_nodes T axis n) (axis_good axis n))))
+      (sound_done may (Each G) found (each-filter G (passes T axis node_test) (axis_nodes T axis n) (axis_good axis n)))))
 
   -- string-values that are taken, and conversions
   text_may : (n : ℕ) → G n → may (text_read T n)
@@ -229,9 +236,11 @@ module _ (T : Table) (G : ℕ → Type 0) (may : Read → Type 0) (closed : Clos
 
   own_sound : (w : List ℕ) (n : ℕ) → G n → Sound may Any (own_language T w n)
   own_sound w n h =
-      sound_cond may Any (is_element (kind_of T n)) (reading (cell (cells.Attrs n)) (decided_by T w (lang_among T (attrs_of T n)))) (done None)
-      (sound_reading may Any (cell (cells.Attrs n)) (decided_by T w (lang_among T (attrs_of T n))) (closed.may_read (cells.Attrs n) h)
-      (decided_sound w (attrs_of T n) (closed.attributes n))) (sound_done may Any None tt)
+      let decided : Evaluation EvalFault (Option Bool) = decided_by T w (lang_among T (attrs_of T n)) in
+      sound_cond may Any (is_element (kind_of T n)) (reading (cell (cells.Attrs n)) (reading (names_along axes.Attribute n) decided)) (done None)
+      (sound_reading may Any (cell (cells.Attrs n)) (reading (names_along axes.Attribute n) decided) (closed.may_read (cells.Attrs n) h)
+      (sound_reading may Any (names_along axes.Attribute n) decided (closed.may_name axes.Attribute n h)
+      (decided_sound w (attrs_of T n) (closed.attributes n)))) (sound_done may Any None tt)
 
   or_else_sound : (o : Option Bool) (m : Evaluation EvalFault Bool) → Sound may Any m → Sound may Any (or_else o m)
   or_else_sound None m h = h
@@ -243,7 +252,7 @@ module _ (T : Table) (G : ℕ → Type 0) (may : Read → Type 0) (closed : Clos
       sound_bind may Any Any (own_language T w n) (λ found. or_else found (language_along T w ns)) (own_sound w n h.0)
       (λ o k. or_else_sound o (language_along T w ns) (along_sound w ns h.1))
 
-  climb_good : (steps : ℕ) (o : Option ℕ) → ((p : ℕ) → o ≡ Some p → G p) → Each G (climb T steps o)
+  pub climb_good : (steps : ℕ) (o : Option ℕ) → ((p : ℕ) → o ≡ Some p → G p) → Each G (climb T steps o)
   climb_good zero o h = tt
   climb_good (suc steps) None h = tt
   climb_good (suc steps) (Some p) h = (h p refl, climb_good steps (parent_of T p) (λ q e. closed.parent p q e))
@@ -268,6 +277,21 @@ module _ (T : Table) (G : ℕ → Type 0) (may : Read → Type 0) (closed : Clos
   made_sound : {A : Type 0} (m : Evaluation EvalFault A) (f : A → Value) → Sound may Any m → ((x : A) → Nodes (f x)) → Sound may Nodes (bind m (λ x. done (f x)))
   made_sound m f h all = sound_bind may Any Nodes m (λ x. done (f x)) h (λ x k. sound_done may Nodes (f x) (all x))
 
+  -- the node whose name is asked for, and its name
+  first_node : (ns : List ℕ) → Each G ns → Each may (name_read T (slice_get ns 0))
+  first_node [] h = tt
+  first_node (n ∷ ns) h = read_if_may (has_own_name (kind_of T n)) (cells.Name n) (closed.may_read (cells.Name n) h.0)
+
+  named_may : (c : Context) (vs : List Value) → G c.node → Each Nodes vs → Each may (name_read T (named_node c vs))
+  named_may c [] h e = read_if_may (has_own_name (kind_of T c.node)) (cells.Name c.node) (closed.may_read (cells.Name c.node) h)
+  named_may c (v ∷ vs) h e = first_node (nodes_of v) e.0
+
+  name_sound : (c : Context) (vs : List Value) (part : Option Name → List ℕ) → G c.node → Each Nodes vs → Sound may Nodes (of_name T (named_node c vs) (λ name. Chars (part name)))
+  unfolding all_reading
+  name_sound c vs part h e =
+      sound_behind may Nodes (name_read T (named_node c vs)) 0 (done (Chars (part (name_at T (named_node c vs))))) (named_may c vs h e)
+      (sound_done may Nodes (Chars (part (name_at T (named_node c vs)))) tt)
+
   chars_sound : (r : Result (List ℕ) EvalFault) → Sound may Nodes (given (as_chars r))
   chars_sound (Ok s) = sound_done may Nodes (Chars s) tt
   chars_sound (Err f) = sound_given may Nodes (Err f) (λ v e. cc)
@@ -278,9 +302,9 @@ module _ (T : Table) (G : ℕ → Type 0) (may : Read → Type 0) (closed : Clos
   function_sound functions.Current c vs h k e = sound_done may Nodes (NodeSet (c.current ∷ [])) (k, tt)
   function_sound functions.Count c vs h k e = sound_done may Nodes _ tt
   function_sound functions.Sum c vs h k e = made_sound (sum_in T (nodes_at vs 0)) (λ n. Number n) (sum_sound (nodes_at vs 0) (argument_good vs e)) (λ n. tt)
-  function_sound functions.LocalName c vs h k e = sound_done may Nodes _ tt
-  function_sound functions.NamespaceUri c vs h k e = sound_done may Nodes _ tt
-  function_sound functions.Name c vs h k e = sound_done may Nodes _ tt
+  function_sound functions.LocalName c vs h k e = name_sound c vs (λ name. local_in name) h e
+  function_sound functions.NamespaceUri c vs h k e = name_sound c vs (λ name. uri_in name) h e
+  function_sound functions.Name c vs h k e = name_sound c vs (λ name. written_in name) h e
   function_sound functions.String c vs h k e = made_sound (text_or_own T c vs) (λ s. Chars s) (own_text_sound c vs h) (λ s. tt)
   function_sound functions.Number c vs h k e = made_sound (number_or_own T c vs) (λ n. Number n) (own_number_sound c vs h) (λ n. tt)
   function_sound functions.Boolean c vs h k e = sound_done may Nodes _ tt

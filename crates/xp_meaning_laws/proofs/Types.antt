@@ -1,7 +1,8 @@
 -- The type of an expression's value: its outermost part decides.
 use Rattle.std.proofs.Common.{◌≡◌, ℕ, Bool, List, [], ◌∷◌, Option, None, Some, Result, Ok, Err, refl, sym, ◌∙◌, ap}
 use Rattle.std.specs.Prelude.{flat_map}
-use Rattle.doc_tree.specs.Table.{Table}
+use Rattle.doc_tree.specs.QNames.{written_in}
+use Rattle.doc_tree.specs.Table.{Name, Table}
 use Rattle.doc_axes.specs.Sets.{in_order}
 use Rattle.xp_tree.specs.declared.operators.Comparison.{Comparison}
 use Rattle.xp_typed_tree.specs.declared.value_type.ValueType.{ValueType}
@@ -11,7 +12,7 @@ use Rattle.xp_typed_tree.specs.declared.function.Function.TheVariants as functio
 use Rattle.xp_typed_tree.specs.TypedTree.{TypedTree, Comparands, disjunction, conjunction, comparison, arithmetic, negation, union, location, selection, slot, text, whole, application, no_comparands, comparand}
 use Rattle.xp_typed_tree.specs.WellTyped.{WellTyped, Compares, type_of, result_type}
 use Rattle.xp_typed_tree.specs.Slots.{slots_in}
-use Rattle.xp_outcome.specs.Evaluation.{Evaluation, done, given, fault, bind, behind, visit, reading}
+use Rattle.xp_outcome.specs.Evaluation.{Evaluation, done, given, fault, bind, behind, visit, reading, all_reading}
 use Rattle.xp_outcome.specs.Slots.{in_slot}
 use Rattle.xp_values.specs.declared.values.Value.{Value}
 use Rattle.xp_values.specs.declared.values.Value.TheVariants.{NodeSet, Truth, Number, Chars}
@@ -23,7 +24,8 @@ use Rattle.xp_meaning.specs.Conversions.{nodes_of, number_in, compare_in, sum_in
 use Rattle.xp_meaning.specs.declared.context.Context.{Context}
 use Rattle.xp_meaning.specs.Operators.{negated}
 use Rattle.xp_meaning.specs.Paths.{filtered, path}
-use Rattle.xp_meaning.specs.Functions.{applied, as_chars, nodes_at, text_at, text_of, text_or_own, number_or_own, wanted}
+use Rattle.xp_meaning.specs.Functions.{applied, as_chars, named_node, nodes_at, text_at, text_of, text_or_own, number_or_own, wanted}
+use Rattle.xp_meaning.specs.Names.{local_in, name_at, of_name, uri_in}
 use Rattle.xp_meaning.specs.Language.{in_language}
 use Rattle.xp_meaning.specs.Evaluation.{Lets, Operand, meaning, meanings, some_true, all_true, compared, combined, values, slot_value, start_nodes, steps_meant, comparands_meant, combinands_meant}
 use Rattle.xp_meaning.proofs.Choices.{came_before, same_ok}
@@ -49,6 +51,10 @@ slot_typed None type v fits is = absurd fits
 slot_typed (Some (Ok w)) type v fits is = ap type_in (sym (same_ok {F = EvalFault} w v is)) ∙ fits
 slot_typed (Some (Err f)) type v fits is = cc
 
+name_typed : (T : Table) (n : Option ℕ) (part : Option Name → List ℕ) (v : Value) → (of_name T n (λ name. Chars (part name))).answer ≡ Ok v → type_in v ≡ types.Chars
+unfolding all_reading behind done
+name_typed T n part v is = ap type_in (sym (same_ok {F = EvalFault} (Chars (part (name_at T n))) v is))
+
 module _ (T : Table) where
   function_typed : (f : Function) (c : Context) (vs : List Value) (v : Value) → (applied T f c vs).answer ≡ Ok v → type_in v ≡ result_type f
   function_typed functions.Last c vs v is = done_typed _ v is
@@ -56,9 +62,9 @@ module _ (T : Table) where
   function_typed functions.Current c vs v is = done_typed _ v is
   function_typed functions.Count c vs v is = done_typed _ v is
   function_typed functions.Sum c vs v is = made_typed types.Number (sum_in T (nodes_at vs 0)) (λ n. Number n) v (λ n. refl) is
-  function_typed functions.LocalName c vs v is = done_typed _ v is
-  function_typed functions.NamespaceUri c vs v is = done_typed _ v is
-  function_typed functions.Name c vs v is = done_typed _ v is
+  function_typed functions.LocalName c vs v is = name_typed T (named_node c vs) (λ name. local_in name) v is
+  function_typed functions.NamespaceUri c vs v is = name_typed T (named_node c vs) (λ name. uri_in name) v is
+  function_typed functions.Name c vs v is = name_typed T (named_node c vs) (λ name. written_in name) v is
   function_typed functions.String c vs v is = made_typed types.Chars (text_or_own T c vs) (λ s. Chars s) v (λ s. refl) is
   function_typed functions.Number c vs v is = made_typed types.Number (number_or_own T c vs) (λ n. Number n) v (λ n. refl) is
   function_typed functions.Boolean c vs v is = done_typed _ v is

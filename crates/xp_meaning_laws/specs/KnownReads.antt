@@ -1,11 +1,11 @@
--- What a meaning may read: the lets in slots that the expression names, and cells of nodes of the tree.
+-- What a meaning may read: the lets in slots that the expression names, and cells and names from nodes of the tree.
 use Rattle.std.specs.Prelude.{◌≡◌, ℕ, ◌==◌, Bool, true, List, Ok, Some}
 use Rattle.std.specs.List.{list_any, AllByRecursion as Each}
 use Rattle.doc_tree.specs.Table.{Table, is_live}
 use Rattle.xp_typed_tree.specs.declared.value_type.ValueType.{ValueType}
 use Rattle.xp_typed_tree.specs.TypedTree.{TypedTree}
 use Rattle.xp_typed_tree.specs.Slots.{slots_in}
-use Rattle.xp_outcome.specs.Evaluation.{Read, cell, variable}
+use Rattle.xp_outcome.specs.Evaluation.{Read, cell, names_along, variable}
 use Rattle.xp_outcome.specs.Recorded.{node_of}
 use Rattle.xp_outcome.specs.Slots.{in_slot}
 use Rattle.xp_values.specs.declared.values.Value.{Value}
@@ -20,11 +20,13 @@ is_named slots place = list_any (λ s. place == s.0) slots
 -- a let that is read stands in a slot that is named
 abbrev pub IsNamedRead : List (ℕ × ValueType) → Read → Type 0
 IsNamedRead slots (cell c) = Unit {0}
+IsNamedRead slots (names_along axis n) = Unit {0}
 IsNamedRead slots (variable place) = is_named slots place ≡ true
 
--- a cell that is read is one of a live node
+-- a cell that is read is one of a live node, and names are read along axes from live nodes
 abbrev pub IsLiveRead : Table → Read → Type 0
 IsLiveRead T (cell c) = is_live T (node_of c) ≡ true
+IsLiveRead T (names_along axis n) = is_live T n ≡ true
 IsLiveRead T (variable place) = Unit {0}
 
 -- nodes that live

@@ -12,8 +12,9 @@ use Rattle.std.specs.List.Sorted.{IsPermutation}
 use Rattle.std.proofs.lemmas.List.Folds.{list_any-append, list_any_at}
 use Rattle.std.proofs.lemmas.List.Sorted.{list_any-IsPermutation}
 use Rattle.std.proofs.lemmas.Option.{get_or_from_slice_get, slice_get_within}
-use Rattle.xp_outcome.specs.Recorded.{kind_number, node_of, cell_cmp}
-use Rattle.xp_outcome.specs.inner.RecordedCode.{cell_of, cell_again}
+use Rattle.xp_outcome.specs.declared.names_along.NamesAlong.{NamesAlong}
+use Rattle.xp_outcome.specs.Recorded.{kind_number, node_of, axis_number, cell_cmp, names_cmp}
+use Rattle.xp_outcome.specs.inner.RecordedCode.{cell_of, cell_again, axis_of, names_again}
 use Rattle.xp_outcome.specs.inner.Settling.{IsExact, SameItems, is_item, is_item_at}
 
 pub cell_cmp_total : IsTotalOrder cell_cmp
@@ -31,6 +32,21 @@ cell_cmp_antisymmetric x y h =
     ∙ ap (λ k. cell_of k (node_of x)) (nat_cmp-IsAntisymmetric _ _ both.0)
     ∙ ap (λ n. cell_of (kind_number y) n) (nat_cmp-IsAntisymmetric _ _ both.1)
     ∙ cell_again y
+
+pub names_cmp_total : IsTotalOrder names_cmp
+names_cmp_total = then_total (on_total (λ a. axis_number a.axis) nat_cmp_total) (on_total (λ a. a.node) nat_cmp_total)
+
+pub names_cmp_antisymmetric : IsAntisymmetric names_cmp
+names_cmp_antisymmetric x y h =
+    let both = both_equal (nat_cmp (axis_number x.axis) (axis_number y.axis)) (nat_cmp x.node y.node) h in
+    sym (names_again x)
+    ∙ ap (λ k. record { axis = axis_of k; node = x.node }) (nat_cmp-IsAntisymmetric _ _ both.0)
+    ∙ ap (λ n. record { axis = axis_of (axis_number y.axis); node = n }) (nat_cmp-IsAntisymmetric _ _ both.1)
+    ∙ names_again y
+
+-- names along axes that compare as equal are one
+pub names_exact : IsExact (eq_by_cmp names_cmp)
+names_exact x y h = names_cmp_antisymmetric x y ((Equal-is (names_cmp x y)).0 h)
 
 or_again : (a b : Bool) → (a || b) ≡ (a || (a || b))
 or_again true b = refl

@@ -2,10 +2,12 @@
 -- one definition.
 use Rattle.std.specs.Prelude.{ℕ, ◌+◌, List, [], ◌∷◌, ◌++◌, Result, Ok, Err}
 use Rattle.doc_tree.specs.cell.Cell.{Cell}
+use Rattle.doc_tree.specs.declared.axes.Axis.{Axis}
 
--- what is read: a cell of a node, or the let in a slot
+-- what is read: a cell of a node, the names along an axis from a node, or the let in a slot
 pub data Read : Type 0 where
   cell : Cell → Read
+  names_along : Axis → ℕ → Read
   variable : ℕ → Read
 
 -- an answer or the first fault, what is read up to it, in order, and the visits up to it

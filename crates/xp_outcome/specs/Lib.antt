@@ -1,5 +1,6 @@
 pub mod Evaluation
 pub mod Recorded
+pub mod Cells
 pub mod Running
 pub mod Slots
 pub mod Laws

@@ -5,12 +5,14 @@
 #![tactic(auto)]
 
 mod laws;
+mod names_along;
 mod read_list;
 mod recorder;
 mod slots;
 mod steps;
 
 pub use laws::{gather_in_parts, outcomes_compose, runs_compose, slots_keep};
+pub use names_along::NamesAlong;
 pub use recorder::Recorder;
 pub use slots::Slots;
 pub use steps::Steps;

@@ -2,18 +2,23 @@
 
 ghost use Rattle.std.specs.Prelude.{◌≡◌, OnOk, OnErr};
 ghost use Rattle.std.specs.FinSet as set;
-ghost use Rattle.xp_outcome.specs.Evaluation.{cell as of_cell, variable};
+ghost use Rattle.xp_outcome.specs.Evaluation.{cell as of_cell, names_along as along, variable};
 ghost use Rattle.xp_outcome.specs.Recorded.{nothing_read, note, without_lets_from};
 
+use crate::names_along::NamesAlong;
 use crate::read_list::ReadList;
-use doc_tree::Cell;
+use doc_tree::{Axis, Cell, NodeId};
 use std::alloc::{AllocError, Global};
 use std::marker::Model;
 
-/// The cells and the lets that were read, seen by contracts as two sets.
+/// The cells, the names along axes and the lets that were read, seen by contracts as three sets.
+///
+/// The names along an axis from a node are held as one item, so that a step by name costs the same memory however many nodes
+/// stand on its axis.
 #[derive(Drop)]
 pub struct Recorder {
     cells: ReadList<Cell>,
+    names: ReadList<NamesAlong>,
     lets: ReadList<u32>,
 }
 
@@ -26,7 +31,7 @@ impl Model for Recorder {
 
     ghost coded = { recorded_code };
 
-    ghost view = { λ r. record { cells = set.from_list r.cells.items.items; lets = set.from_list r.lets.items.items } };
+    ghost view = { λ r. record { cells = set.from_list r.cells.items.items; names = set.from_list r.names.items.items; lets = set.from_list r.lets.items.items } };
 }
 
 impl Recorder {
@@ -36,6 +41,7 @@ impl Recorder {
     {
         Recorder {
             cells: ReadList::new(alloc),
+            names: ReadList::new(alloc),
             lets: ReadList::new(alloc),
         }
     }
@@ -48,6 +54,14 @@ impl Recorder {
         self.cells.add(cell)
     }
 
+    /// Adds the names along an axis from a node.
+    pub fn add_names(&mut self, axis: Axis, node: NodeId) -> Result<(), AllocError>
+        ensures noted { OnOk result (self.new ≡ note self.old (along axis node)) }
+        ensures unchanged { OnErr result (self.new ≡ self.old) }
+    {
+        self.names.add(NamesAlong { axis, node })
+    }
+
     /// Adds the let in a slot.
     pub fn add_let(&mut self, slot: u32) -> Result<(), AllocError>
         ensures noted { OnOk result (self.new ≡ note self.old (variable slot)) }
@@ -56,11 +70,18 @@ impl Recorder {
         self.lets.add(slot)
     }
 
-    /// The cells that were read, some perhaps more than once.
+    /// The cells that were read one by one, some perhaps more than once.
     pub fn cells(&self) -> &[Cell]
         ensures { set.from_list result.now ≡ self.now.cells }
     {
         self.cells.as_slice()
+    }
+
+    /// The axes and nodes along which names were read, some perhaps more than once.
+    pub fn names(&self) -> &[NamesAlong]
+        ensures { set.from_list result.now ≡ self.now.names }
+    {
+        self.names.as_slice()
     }
 
     /// The slots of the lets that were read, some perhaps more than once.
@@ -83,6 +104,7 @@ impl Recorder {
         ensures { self.new ≡ self.old }
     {
         self.cells.shrink();
+        self.names.shrink();
         self.lets.shrink();
     }
 
@@ -91,6 +113,7 @@ impl Recorder {
         ensures { self.new ≡ nothing_read }
     {
         self.cells.clear();
+        self.names.clear();
         self.lets.clear();
     }
 }

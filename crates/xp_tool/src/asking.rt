@@ -3,11 +3,12 @@
 ghost use Rattle.std.specs.Prelude.{◌≡◌, ◌≤◌, length, true, false, IfOk};
 
 use crate::scene::Scene;
-use doc_tree::{NodeId, NodeList};
+use doc_tree::{Cell, NodeId, NodeList};
 use std::alloc::{AllocError, Global};
 use std::fmt::Debug;
 use std::test::Fail;
 use test_rows::parts;
+use xp_cells::cells_read;
 use xp_eval::Recorder;
 use xp_syntax::{MAX_EXPRESSION_BYTES, parse_expr, parse_pattern};
 use xp_tree::{Expr, Pattern};
@@ -48,7 +49,7 @@ fn told_with(
 {
     let (told, visits) = answered(scene, asked.is_value, nodes, text, reads)?;
     if asked.with_run {
-        with_run(scene.alloc, told, visits, reads)
+        with_run(scene, told, visits, reads)
     } else {
         Ok(told)
     }
@@ -56,16 +57,26 @@ fn told_with(
 
 /// An answer with the cells and the slots that were read, and the visits.
 fn with_run(
-    alloc: Global,
+    scene: &Scene<'_>,
     told: String,
     visits: u64,
     reads: &mut Recorder,
 ) -> Result<String, Fail> {
     reads.settle();
-    let (answer, cells, lets) = (told.as_str(), reads.cells(), reads.lets());
-    let whole = format!(in alloc; "{answer} reads {cells:?} {lets:?} visits {visits}");
+    let cells = cells_in_order(scene, reads)?;
+    let (answer, each, lets) = (told.as_str(), cells.as_slice(), reads.lets());
+    let whole = format!(in scene.alloc; "{answer} reads {each:?} {lets:?} visits {visits}");
+    drop(cells);
     drop(told);
     Ok(whole?)
+}
+
+/// Every cell that was read, in their order, each once.
+fn cells_in_order(scene: &Scene<'_>, reads: &Recorder) -> Result<Vec<Cell>, AllocError> {
+    let mut cells = cells_read(scene.alloc, scene.tree, reads)?.into_vec();
+    cells.sort_unstable();
+    cells.dedup();
+    Ok(cells)
 }
 
 /// The answer to a question, and the visits.

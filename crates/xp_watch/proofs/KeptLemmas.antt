@@ -17,7 +17,7 @@ use Rattle.xp_values.specs.declared.values.Value.{Value}
 use Rattle.xp_meaning.specs.declared.context.Context.{Context}
 use Rattle.xp_meaning.specs.Evaluation.{Lets, meaning}
 use Rattle.xp_meaning.specs.Results.{shown}
-use Rattle.cover_laws.specs.Covering.{Alike}
+use Rattle.cover_laws.specs.Covering.{HeldAlike}
 use Rattle.kept_reads.specs.declared.kept_reads.KeptReads.{KeptReads}
 use Rattle.kept_reads.specs.Marking.{Marks as MarksReads, Thinned, entry_stays, entry_dropped, reads_touched}
 use Rattle.kept_reads.specs.Reads.{reads_at}
@@ -107,40 +107,43 @@ pub keeps_run : (T : Table) (expr : TypedTree) (given : Given) (k : ℕ) (old ne
     Runs T expr k old new before after
 keeps_run T expr given k old new before after gives took keeps = record {
   held = keeps.held;
-  alike = subst (λ (r : Recorded). Alike T keeps.held.cells r.cells) gives.reads_are keeps.alike;
+  alike = subst (λ (r : Recorded). HeldAlike T keeps.held r) gives.reads_are keeps.alike;
   puts = subst (λ (v : Result Value EvalFault). Puts v k (Some keeps.held) old new) (sym gives.answer_is) keeps.puts;
   took = took;
 }
 
 -- Marks
 
-module _ (touched : Cell → Bool) (k : ℕ) where
+module _ (T : Table) (touched : Cell → Bool) (k : ℕ) where
   or_none : (b c : Bool) → c ≡ false → b ≡ (b || c)
   or_none true c is = refl
   or_none false c is = sym is
 
-  marked_stale : (blocks : List Bool) (before after : Option Recorded) → Thinned touched 1 k blocks before after → reads_touched touched after ≡ false →
-      is_none after ≡ (is_none before || reads_touched touched before)
+  marked_stale : (blocks : List Bool) (before after : Option Recorded) → Thinned T touched 1 k blocks before after →
+      reads_touched T touched after ≡ false →
+      is_none after ≡ (is_none before || reads_touched T touched before)
   marked_stale blocks before after (entry_stays same) clean =
-      ap is_none same ∙ or_none (is_none before) (reads_touched touched before) (ap (reads_touched touched) (sym same) ∙ clean)
+      ap is_none same ∙ or_none (is_none before) (reads_touched T touched before) (ap (reads_touched T touched) (sym same) ∙ clean)
   marked_stale blocks before after (entry_dropped hit gone row) clean =
-      ap is_none gone ∙ sym (or_right (is_none before) (reads_touched touched before) hit)
+      ap is_none gone ∙ sym (or_right (is_none before) (reads_touched T touched before) hit)
 
-  marked_reads : (blocks : List Bool) (before after : Option Recorded) → Thinned touched 1 k blocks before after → is_none after ≡ false → after ≡ before
+  marked_reads : (blocks : List Bool) (before after : Option Recorded) → Thinned T touched 1 k blocks before after → is_none after ≡ false →
+      after ≡ before
   marked_reads blocks before after (entry_stays same) fresh = same
   marked_reads blocks before after (entry_dropped hit gone row) fresh = absurd (true≢false (sym (ap is_none gone) ∙ fresh))
 
-pub marks_kept : (touched : Cell → Bool) (old new : KeptReads) (before after : Kept) → before.reads ≡ old.entries → after.reads ≡ new.entries →
-    after.values ≡ before.values → MarksReads touched 1 old new → Marks touched before after
-marks_kept touched old new before after was is values marks = record {
+pub marks_kept : (T : Table) (touched : Cell → Bool) (old new : KeptReads) (before after : Kept) → before.reads ≡ old.entries →
+    after.reads ≡ new.entries →
+    after.values ≡ before.values → MarksReads T touched 1 old new → Marks T touched before after
+marks_kept T touched old new before after was is values marks = record {
   stale = λ k.
       ap (λ (entries : List (Option Recorded)). is_none (reads_at entries k)) is
-      ∙ marked_stale touched k new.stale_blocks.items (reads_at old.entries k) (reads_at new.entries k) (marks.thins.entries k) (marks.clean k)
-      ∙ sym (ap (λ (entries : List (Option Recorded)). is_none (reads_at entries k) || reads_touched touched (reads_at entries k)) was);
+      ∙ marked_stale T touched k new.stale_blocks.items (reads_at old.entries k) (reads_at new.entries k) (marks.thins.entries k) (marks.clean k)
+      ∙ sym (ap (λ (entries : List (Option Recorded)). is_none (reads_at entries k) || reads_touched T touched (reads_at entries k)) was);
   values = values;
   reads = λ k fresh.
       ap (λ (entries : List (Option Recorded)). reads_at entries k) is
-      ∙ marked_reads touched k new.stale_blocks.items (reads_at old.entries k) (reads_at new.entries k) (marks.thins.entries k)
+      ∙ marked_reads T touched k new.stale_blocks.items (reads_at old.entries k) (reads_at new.entries k) (marks.thins.entries k)
       (sym (ap (λ (entries : List (Option Recorded)). is_none (reads_at entries k)) is) ∙ fresh)
       ∙ sym (ap (λ (entries : List (Option Recorded)). reads_at entries k) was);
 }

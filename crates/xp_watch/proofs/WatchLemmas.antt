@@ -1,5 +1,5 @@
 -- What a watch keeps after an edit.
-use Rattle.std.proofs.Common.{◌≡◌, ◌∙◌, ◌⊎◌, inl, inr, ℕ, ◌<◌, ◌≤◌, Bool, true, false, cond, List, length, get_or, Option, None, Some, IfSome, is_none, Result, Bor, refl, sym, ap, subst, arith}
+use Rattle.std.proofs.Common.{◌≡◌, ◌∙◌, ◌⊎◌, inl, inr, ℕ, ◌<◌, ◌≤◌, Bool, true, false, cond, ◌||◌, List, length, get_or, Option, None, Some, IfSome, is_none, Result, Bor, refl, sym, ap, subst, arith}
 use Rattle.std.specs.Prelude.{◌↔◌, IsNone, slice_get}
 use Rattle.std.specs.Option.{option_copied}
 use Rattle.std.proofs.lemmas.Bool.{false≢true, true≢false}
@@ -16,16 +16,38 @@ use Rattle.doc_edit_laws.specs.Along.{Edit}
 use Rattle.xp_typed_tree.specs.TypedTree.{TypedTree}
 use Rattle.xp_meaning_laws.specs.KnownReads.{CellsReadAreLive}
 use Rattle.xp_watch.specs.Kept.{IsDone, Kept, Marks, given_by, is_stale, value_of}
+use Rattle.cover_laws.specs.Covering.{TouchingIsTold}
+use Rattle.xp_outcome.specs.Recorded.{Recorded}
+use Rattle.kept_reads.specs.Marking.{reads_touched}
+use Rattle.kept_reads.specs.Reads.{reads_at}
 use Rattle.xp_watch.specs.Laws.{EditsKeep}
 use Rattle.xp_watch.specs.inner.Refreshing.{Keeps}
 
 -- marks told by a test are those of another that tells the same
-pub marks_same : (touched held : Cell → Bool) (old new : Kept) → ((c : Cell) → held c ≡ touched c) → Marks held old new → Marks touched old new
-marks_same touched held old new same marks = subst (λ (test : Cell → Bool). Marks test old new) (λ i c. same c i) marks
+test_same : (T : Table) (touched held : Cell → Bool) (old new : Kept) → ((c : Cell) → held c ≡ touched c) → Marks T held old new →
+    Marks T touched old new
+test_same T touched held old new same marks = subst (λ (test : Cell → Bool). Marks T test old new) (λ i c. same c i) marks
+
+-- and so are marks told by the tree that an edit made, by the tree before it
+told_before : TouchingIsTold → (T U : Table) (touched : Cell → Bool) → WellFormed T → Edit T U touched → (entry : Option Recorded) →
+    reads_touched U touched entry ≡ reads_touched T touched entry
+told_before told T U touched formed edit None = refl
+told_before told T U touched formed edit (Some held) = sym (told T U touched held formed edit)
+
+pub marks_same : TouchingIsTold → (T U : Table) (touched held : Cell → Bool) (old new : Kept) → WellFormed T → Edit T U touched →
+    ((c : Cell) → held c ≡ touched c) → Marks U held old new → Marks T touched old new
+marks_same told T U touched held old new formed edit same marks = record {
+  stale = λ k. by.stale k ∙ ap (λ (b : Bool). is_stale old k || b) (told_before told T U touched formed edit (reads_at old.reads k));
+  values = by.values;
+  reads = by.reads;
+}
+  where
+    by : Marks U touched old new
+    by = test_same U touched held old new same marks
 
 -- an edit keeps the places, and what is right
 pub edit_holds : EditsKeep → (T U : Table) (touched : Cell → Bool) (exprs : List TypedTree) (old new : Kept) → WellFormed T → Edit T U touched →
-    CellsReadAreLive T → CellsReadAreLive U → length new.reads ≡ length old.reads → Marks touched old new → Keeps T exprs old → Keeps U exprs new
+    CellsReadAreLive T → CellsReadAreLive U → length new.reads ≡ length old.reads → Marks T touched old new → Keeps T exprs old → Keeps U exprs new
 edit_holds keep T U touched exprs old new formed edit cells cells_after places marks keeps = record {
   values = ap length marks.values ∙ keeps.values;
   reads = places ∙ keeps.reads;

@@ -6,10 +6,10 @@ use Rattle.xp_typed_tree.specs.TypedTree.{TypedTree}
 use Rattle.xp_outcome.specs.Recorded.{Recorded}
 use Rattle.xp_values.specs.declared.values.EvalFault.{EvalFault}
 use Rattle.xp_values.specs.declared.values.Value.{Value}
-use Rattle.cover_laws.specs.Covering.{Alike}
+use Rattle.cover_laws.specs.Covering.{HeldAlike}
 use Rattle.kept_reads.specs.Marking.{reads_touched}
 use Rattle.kept_reads.specs.Reads.{reads_at}
-use Rattle.xp_watch.specs.Watched.{cells_read, watched, watches_of}
+use Rattle.xp_watch.specs.Watched.{all_read, watched, watches_of}
 
 pub record Kept : Type 0 where
   pub values : List (Option (Result Value EvalFault))
@@ -30,12 +30,12 @@ stale_watches kept exprs = filter (is_stale kept) (watches_of exprs)
 abbrev pub value_of : Kept → ℕ → Option (Result Value EvalFault)
 value_of kept k = if is_stale kept k then None else given_by kept k
 
--- a watch isn't stale: it gave what it does over the tree, and the cells that are kept are alike to those that it reads there
+-- a watch isn't stale: it gave what it does over the tree, and what is kept is alike to what it reads there
 pub record IsDone (T : Table) (expr : TypedTree) (kept : Kept) (k : ℕ) : Type 0 where
   pub gave : given_by kept k ≡ Some (watched T expr).answer
   pub held : Recorded
   pub is : reads_at kept.reads k ≡ Some held
-  pub alike : Alike T held.cells (cells_read T expr)
+  pub alike : HeldAlike T held (all_read T expr)
 
 -- all watches are done
 abbrev pub IsFresh : Table → List TypedTree → Kept → Type 0
@@ -50,9 +50,9 @@ pub record StaysAs (old new : Kept) (k : ℕ) : Type 0 where
   pub given : given_by new k ≡ given_by old k
   pub reads : reads_at new.reads k ≡ reads_at old.reads k
 
--- once cells were touched those are stale that were so before, or of which a kept cell was touched; nothing else changes
-pub record Marks (touched : Cell → Bool) (old new : Kept) : Type 0 where
-  pub stale : (k : ℕ) → is_stale new k ≡ (is_stale old k || reads_touched touched (reads_at old.reads k))
+-- once cells were touched those are stale that were so before, or of which something kept was touched, as a tree tells; nothing else changes
+pub record Marks (T : Table) (touched : Cell → Bool) (old new : Kept) : Type 0 where
+  pub stale : (k : ℕ) → is_stale new k ≡ (is_stale old k || reads_touched T touched (reads_at old.reads k))
   pub values : new.values ≡ old.values
   pub reads : (k : ℕ) → is_stale new k ≡ false → reads_at new.reads k ≡ reads_at old.reads k
 

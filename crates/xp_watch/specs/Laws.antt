@@ -19,10 +19,10 @@ CleanWatchesStand =
 abbrev pub EditsKeep : Type 0
 EditsKeep =
     (T U : Table) (touched : Cell → Bool) (exprs : List TypedTree) (old new : Kept) → WellFormed T → Edit T U touched → CellsReadAreLive T →
-    CellsReadAreLive U → IsRight T exprs old → Marks touched old new → IsRight U exprs new
+    CellsReadAreLive U → IsRight T exprs old → Marks T touched old new → IsRight U exprs new
 
 -- after an edit of a tree over which all watches were done just the dirty ones are stale
 abbrev pub DirtyAreStale : Type 0
 DirtyAreStale =
     (T U : Table) (touched : Cell → Bool) (exprs : List TypedTree) (old new : Kept) → WellFormed T → Edit T U touched → IsFresh T exprs old →
-    Marks touched old new → stale_watches new exprs ≡ dirty_watches T touched exprs
+    Marks T touched old new → stale_watches new exprs ≡ dirty_watches T touched exprs

@@ -7,12 +7,12 @@ use Rattle.doc_tree.specs.cell.Cell.{Cell}
 use Rattle.doc_tree.specs.Table.{Table}
 use Rattle.xp_typed_tree.specs.TypedTree.{TypedTree}
 use Rattle.xp_outcome.specs.Evaluation.{Evaluation}
-use Rattle.xp_outcome.specs.Recorded.{CellSet, note_all, nothing_read}
+use Rattle.xp_outcome.specs.Recorded.{Recorded, note_all, nothing_read}
 use Rattle.xp_values.specs.declared.values.EvalFault.{EvalFault}
 use Rattle.xp_values.specs.declared.values.Value.{Value}
 use Rattle.xp_meaning.specs.declared.context.Context.{Context}
 use Rattle.xp_meaning.specs.Evaluation.{meaning}
-use Rattle.cover_laws.specs.Covering.{has_touched}
+use Rattle.cover_laws.specs.Covering.{holds_touched}
 
 -- the root as the context node, at position 1 of 1, and as the current node
 abbrev pub root_alone : Context
@@ -22,13 +22,13 @@ root_alone = record { node = 0; position = 1; size = 1; current = 0 }
 abbrev pub watched : Table → TypedTree → Evaluation EvalFault Value
 watched T expr = meaning T [] expr root_alone
 
--- the cells that it reads
-abbrev pub cells_read : Table → TypedTree → CellSet
-cells_read T expr = (note_all nothing_read (watched T expr).reads).cells
+-- the cells that it reads, and the names along axes
+abbrev pub all_read : Table → TypedTree → Recorded
+all_read T expr = note_all nothing_read (watched T expr).reads
 
--- an expression is dirty where a cell that it reads was touched
+-- an expression is dirty where a cell that it reads was touched, or a name along an axis
 abbrev pub is_dirty : Table → (Cell → Bool) → TypedTree → Bool
-is_dirty T touched expr = has_touched touched (cells_read T expr)
+is_dirty T touched expr = holds_touched T touched (all_read T expr)
 
 -- the watches, by number from 0
 abbrev pub watches_of : List TypedTree → List ℕ

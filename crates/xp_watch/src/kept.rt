@@ -25,7 +25,7 @@ use xp_values::{EvalError, EvalFault, Value};
 /// What watched expressions gave and read when each was last evaluated, by number.
 pub(crate) struct KeptWatches {
     values: Vec<Option<Result<Value, EvalFault>>>,
-    /// The cells that each read; nothing of a stale one.
+    /// What each read; nothing of a stale one.
     reads: KeptReads,
 }
 
@@ -72,11 +72,11 @@ impl KeptWatches {
         stale
     }
 
-    /// Marks as stale the watches that read a cell that a command touched. The tree is the one that the command left.
+    /// Marks as stale the watches that read something that a command touched. The tree is the one that the command left.
     ///
     /// Takes no memory. Goes to the watches that have read each touched cell alone.
     pub(crate) fn mark(&mut self, tree: &Tree, touched: &Touched)
-        ensures marks { Marks (holds_cell tree.now.nodes touched.now) (held_by self.old) (held_by self.new) }
+        ensures marks { Marks tree.now.nodes (holds_cell tree.now.nodes touched.now) (held_by self.old) (held_by self.new) }
         ensures reads { length self.new.reads.entries ≡ length self.old.reads.entries }
     {
         self.reads.mark(&Marking {

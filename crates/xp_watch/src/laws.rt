@@ -2,7 +2,7 @@
 
 ghost use Rattle.xp_watch.specs.Laws.{CleanWatchesStand, DirtyAreStale, EditsKeep};
 
-use cover_laws::{alike_are_touched_alike, alike_stay};
+use cover_laws::{held_is_touched_alike, held_stays_alike, reads_are_touched};
 use doc_edit_laws::edits_leave_the_rest;
 use xp_locality_laws::evaluations_are_local;
 
@@ -12,6 +12,7 @@ pub fn clean_watches_stand()
 {
     edits_leave_the_rest();
     evaluations_are_local();
+    reads_are_touched();
 }
 
 /// An edit that marks what read a touched cell keeps the rest right.
@@ -20,13 +21,13 @@ pub fn edits_keep()
 {
     clean_watches_stand();
     edits_leave_the_rest();
-    alike_are_touched_alike();
-    alike_stay();
+    held_is_touched_alike();
+    held_stays_alike();
 }
 
 /// After an edit of a tree over which all watches were done just the dirty ones are stale.
 pub fn dirty_are_stale()
     ensures { DirtyAreStale }
 {
-    alike_are_touched_alike();
+    held_is_touched_alike();
 }

@@ -17,6 +17,7 @@ ghost use Rattle.xp_watch.specs.Watched.{dirty_watches, watched, watches_of};
 
 use crate::kept::KeptWatches;
 use crate::laws::{dirty_are_stale, edits_keep};
+use cover_laws::names_are_touched_alike;
 use doc_tree::{MAX_LIVE_NODES, Tree};
 use edit_commands::{ApplyError, apply_to};
 use edit_script::Command;
@@ -142,7 +143,7 @@ impl Watch {
         ensures within { OnOk result (command_refusal self.old.tree command.now ≡ None) }
         ensures edited { OnOk result (IsEdited self.old.tree.nodes command.now self.new.tree.nodes) }
         ensures edit { OnOk result (Edit self.old.tree.nodes self.new.tree.nodes (touched_by self.old.tree.nodes command.now)) }
-        ensures marked { OnOk result (Marks (touched_by self.old.tree.nodes command.now) self.old.kept self.new.kept) }
+        ensures marked { OnOk result (Marks self.old.tree.nodes (touched_by self.old.tree.nodes command.now) self.old.kept self.new.kept) }
         ensures dirty { OnOk result (IsFresh self.old.tree.nodes self.old.expressions self.old.kept →
             stale_watches self.new.kept self.old.expressions ≡
             dirty_watches self.old.tree.nodes (touched_by self.old.tree.nodes command.now) self.old.expressions) }
@@ -155,6 +156,7 @@ impl Watch {
     {
         edits_keep();
         dirty_are_stale();
+        names_are_touched_alike();
         self.tree.laws();
         cells_read_are_live(&self.tree);
         match apply_to(self.alloc, &mut self.tree, command) {

@@ -1,26 +1,31 @@
 -- Chains where the nodes of a tree are renumbered: the same nodes stand at each step but for their numbers, and the same survive.
-use Rattle.std.proofs.Common.{◌≡◌, ℕ, Bool, true, false, cond, ◌&&◌, ◌||◌, List, [], ◌∷◌, map, Option, None, Some, refl, sym, ap, ap₂, ◌∙◌}
-use Rattle.std.specs.Prelude.{filter, option_map}
+use Rattle.std.proofs.Common.{◌≡◌, ℕ, Bool, true, false, cond, ◌&&◌, ◌||◌, List, [], ◌∷◌, ◌++◌, map, Option, None, Some, refl, sym, ap, ap₂, ◌∙◌}
+use Rattle.std.proofs.lemmas.List.{map-append}
+use Rattle.std.specs.Prelude.{filter, option_and_then, option_map}
 use Rattle.std.specs.List.{list_any}
 use Rattle.doc_tree.specs.declared.axes.Axis.TheVariants.{AncestorOrSelf, DescendantOrSelf}
 use Rattle.doc_tree.specs.Laws.{WellFormed}
 use Rattle.doc_tree.specs.Lists.{mem}
-use Rattle.doc_tree.specs.Table.{Table, parent_of}
+use Rattle.doc_tree.specs.cell.Cell.TheVariants.{Name}
+use Rattle.doc_tree.specs.Table.{Table, kind_of, parent_of}
 use Rattle.doc_tree.specs.Walks.{order}
 use Rattle.doc_axes.specs.Axes.{on_axis}
+use Rattle.doc_axes.specs.NodeTests.{is_principal}
 use Rattle.tree_iso.specs.Renumbering.{Hangs, Renumbers, RenumberedTreesHang}
 use Rattle.tree_iso.proofs.NumberLemmas.{any-moved, filter-moved, mem-moved}
 use Rattle.xp_typed_tree.specs.TypedTree.{TypedPatternStepTree, TypedPathTree}
-use Rattle.xp_outcome.specs.Evaluation.{bind, done, visit}
+use Rattle.xp_outcome.specs.Evaluation.{Read, all_reading, bind, cell, done, visit}
 use Rattle.xp_meaning.specs.Evaluation.{Lets, all_true, meanings}
 use Rattle.xp_meaning.specs.Paths.{placed, step_at}
-use Rattle.xp_iso_laws.specs.Moved.{moved_lets}
+use Rattle.xp_meaning.specs.Reads.{is_by_name}
+use Rattle.xp_iso_laws.specs.Moved.{moved_lets, moved_read}
 use Rattle.xp_iso_laws.specs.Moves.{Moves, PredicatesMove, StepsMove}
-use Rattle.xp_iso_laws.proofs.AxisLemmas.{filtered-moved, on_axis-moved, passes-moved}
-use Rattle.xp_iso_laws.proofs.MoveLemmas.{moves-bind, moves-cond, moves-done, moves-equal, moves-gather, moves-made, moves-visit}
+use Rattle.xp_iso_laws.proofs.AxisLemmas.{filtered-moved, kind-moved, on_axis-moved, passes-moved}
+use Rattle.xp_iso_laws.proofs.MoveLemmas.{moves-all_reading, moves-bind, moves-cond, moves-done, moves-equal, moves-gather, moves-made, moves-visit}
 use Rattle.xp_iso_laws.proofs.ValueLemmas.{as_is}
 use Rattle.xslt_ways.specs.Ways.{is_anywhere}
 use Rattle.xslt_match.specs.Matching.{chains, is_candidate, is_left, leads, led_to, path_matches, reaches, some_path, standing, starts, step_of, survives, survivors}
+use Rattle.xslt_match.specs.Names.{ancestor_over, pattern_names, place_names, places_from, some_anywhere, standing_places, step_names}
 use Rattle.xslt_match.specs.Positional.{some_positional}
 use Rattle.xslt_iso_laws.specs.Moves.{PatternsMove}
 
@@ -54,6 +59,55 @@ module _ (f : ℕ → ℕ) (T U : Table) (r : Renumbers f T U) (h : Hangs f T U)
   standing-moved s ss ms n =
       ap (filter (λ k. reaches U ss (k ∷ []) (f n))) (led_to-moved s ms)
       ∙ filter-moved f (λ k. reaches T ss (k ∷ []) n) (λ k. reaches U ss (k ∷ []) (f n)) (λ k. reaches-moved ss (k ∷ []) n) (led_to T s ms)
+
+  -- the names that are looked at
+  over-moved : (ss : List TypedPatternStepTree) (n : ℕ) → ancestor_over U ss (f n) ≡ option_map f (ancestor_over T ss n)
+  over-moved [] n = refl
+  over-moved (s ∷ ss) n = ap (option_and_then (parent_of U)) (over-moved ss n) ∙ by (ancestor_over T ss n)
+    where
+      by : (o : Option ℕ) → option_and_then (parent_of U) (option_map f o) ≡ option_map f (option_and_then (parent_of T) o)
+      by None = refl
+      by (Some m) = r.parent m
+
+  places-moved : (b : Bool) (o : Option ℕ) → places_from U b (option_map f o) ≡ map f (places_from T b o)
+  places-moved b None = refl
+  places-moved true (Some m) = ap (λ ns. f m ∷ ns) (h.ancestors_go m)
+  places-moved false (Some m) = refl
+
+  standing_places-moved : (ss : List TypedPatternStepTree) (n : ℕ) → standing_places U ss (f n) ≡ map f (standing_places T ss n)
+  standing_places-moved ss n = ap (places_from U (some_anywhere ss)) (over-moved ss n) ∙ places-moved (some_anywhere ss) (ancestor_over T ss n)
+
+  cells-moved : (ns : List ℕ) → map cell (map Name (map f ns)) ≡ map (moved_read f) (map cell (map Name ns))
+  cells-moved [] = refl
+  cells-moved (n ∷ ns) = ap (λ cs. cell (Name (f n)) ∷ cs) (cells-moved ns)
+
+  place_names-moved : (s : TypedPatternStepTree) (ns : List ℕ) →
+      place_names U s.axis s.test (map f ns) ≡ map (moved_read f) (place_names T s.axis s.test ns)
+  place_names-moved s ns =
+      ap (λ ms. cond (is_by_name s.test) (map cell (map Name ms)) [])
+      (filter-moved f (λ k. is_principal s.axis (kind_of T k)) (λ k. is_principal s.axis (kind_of U k))
+      (λ k. ap (is_principal s.axis) (kind-moved f T U r h k)) ns)
+      ∙ by (is_by_name s.test)
+    where
+      left : List ℕ
+      left = filter (λ k. is_principal s.axis (kind_of T k)) ns
+
+      by : (b : Bool) → cond b (map cell (map Name (map f left))) [] ≡ map (moved_read f) (cond b (map cell (map Name left)) [])
+      by true = cells-moved left
+      by false = refl
+
+  step_names-moved : (ss : List TypedPatternStepTree) (n : ℕ) → step_names U (f n) ss ≡ map (moved_read f) (step_names T n ss)
+  step_names-moved [] n = refl
+  step_names-moved (s ∷ ss) n =
+      ap₂ (λ (x y : List Read). x ++ y) (step_names-moved ss n)
+      (ap (place_names U s.axis s.test) (standing_places-moved ss n) ∙ place_names-moved s (standing_places T ss n))
+      ∙ sym (map-append (moved_read f) (step_names T n ss) (place_names T s.axis s.test (standing_places T ss n)))
+
+  pattern_names-moved : (ps : List TypedPathTree) (n : ℕ) → pattern_names U (f n) ps ≡ map (moved_read f) (pattern_names T n ps)
+  pattern_names-moved [] n = refl
+  pattern_names-moved (p ∷ ps) n =
+      ap₂ (λ (x y : List Read). x ++ y) (step_names-moved p.steps n) (pattern_names-moved ps n)
+      ∙ sym (map-append (moved_read f) (step_names T n p.steps) (pattern_names T n ps))
 
   module _ (one : WellFormed T) (other : WellFormed U) (steps : StepsMove) (predicates : PredicatesMove) (L : Lets) (n : ℕ) where
     abbrev M : Lets
@@ -115,4 +169,11 @@ module _ (f : ℕ → ℕ) (T U : Table) (r : Renumbers f T U) (h : Hangs f T U)
 
 pub patterns-move : RenumberedTreesHang → StepsMove → PredicatesMove → PatternsMove
 patterns-move hang steps predicates f T U L ps n one other r =
-    moves-visit f as_is (some_path T L n ps) (some_path U (moved_lets f L) (f n) ps) (moves-paths f T U r (hang f T U one other r) one other steps predicates L n ps)
+    let h = hang f T U one other r in
+    let names = pattern_names T n ps in
+    let moved = pattern_names U (f n) ps in
+    let rest = some_path T L n ps in
+    let rest_moved = some_path U (moved_lets f L) (f n) ps in
+    moves-visit f as_is (all_reading names rest) (all_reading moved rest_moved)
+    (moves-all_reading f as_is names moved rest rest_moved (pattern_names-moved f T U r h ps n)
+    (moves-paths f T U r h one other steps predicates L n ps))

@@ -15,7 +15,7 @@ use Rattle.xp_typed_tree.specs.TypedView.{pattern_step_seen, path_seen, paths_se
 use Rattle.xp_typed_tree.specs.WellTyped.{PatternStepsTyped, PathsTyped}
 use Rattle.xp_outcome.specs.Recorded.{Recorded}
 use Rattle.xp_outcome.specs.Running.{Stop, Ran}
-use Rattle.xp_outcome.specs.Evaluation.{done, bind}
+use Rattle.xp_outcome.specs.Evaluation.{done, all_reading, bind}
 use Rattle.xp_outcome.proofs.Outcomes.{bind-done, bind_assoc, bind_alike}
 use Rattle.xp_outcome.proofs.Runs.{next_item, no_item}
 use Rattle.xp_values.specs.declared.values.EvalFault.{EvalFault}
@@ -23,6 +23,7 @@ use Rattle.xp_meaning.proofs.Exits.{ran_ticked}
 use Rattle.xp_meaning.specs.Evaluation.{Lets}
 use Rattle.xslt_match.specs.inner.Ends.{ends_elsewhere}
 use Rattle.xslt_match.specs.Matching.{leads, reaches, led_to, standing, starts, survivors, chains, path_matches, some_path, matching}
+use Rattle.xslt_match.specs.Names.{pattern_names}
 use Rattle.xslt_match.proofs.Filters.{eqb-turned, or-false, or-left}
 use Rattle.xslt_match.proofs.StepsAlong.{not_led, none_last}
 
@@ -138,9 +139,10 @@ module _ (T : Table) (L : Lets) (n : ℕ) where
 pub paths_typed : (seen paths : List TypedPathTree) → seen ≡ paths → PathsTyped paths → PathsTyped seen
 paths_typed seen paths is typed = subst PathsTyped (sym is) typed
 
-pub paths_matched : (T : Table) (L : Lets) (n : ℕ) (paths : List TypedPathTree) {r : Result Bool (Stop EvalFault)} {held now : Recorded} {before ticked after : ℕ} →
-    ticked ≡ before + 1 → Ran (some_path T L n paths) r held now ticked after → Ran (matching T L paths n) r held now before after
-paths_matched T L n paths tick ran = ran_ticked tick ran
+pub names_matched : (T : Table) (L : Lets) (n : ℕ) (paths : List TypedPathTree) {r : Result Bool (Stop EvalFault)}
+    {held now : Recorded} {before ticked after : ℕ} → ticked ≡ before + 1 →
+    Ran (all_reading (pattern_names T n paths) (some_path T L n paths)) r held now ticked after → Ran (matching T L paths n) r held now before after
+names_matched T L n paths tick ran = ran_ticked tick ran
 
 -- the path pattern of a pattern at a place
 pub path_there : (ps : List TypedPathTree) (paths : List TypedPath) (i : ℕ) (path : TypedPath) → paths_seen paths ≡ ps → i < length paths → path ≡ get_or paths i path →

@@ -8,3 +8,6 @@ pub mod Repeating
 pub mod Keeping
 pub mod Indexed
 pub mod Gathered
+pub mod NameReads
+pub mod Places
+pub mod OnePath

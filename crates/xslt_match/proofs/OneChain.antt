@@ -25,7 +25,8 @@ use Rattle.xslt_ways.specs.Ways.{is_anywhere, looks_at, looks_there}
 use Rattle.xslt_ways.proofs.WayLemmas.{above_above}
 use Rattle.xslt_match.specs.Matching.{leads, reaches, starts, standing, survives, survivors, chains, path_matches}
 use Rattle.xslt_match.specs.inner.Leading.{fits, holder}
-use Rattle.xslt_match.specs.inner.OneChain.{all_from_parents, ancestor_over, leads_there, origin, survives_there, tests}
+use Rattle.xslt_match.specs.inner.OneChain.{all_from_parents, leads_there, origin, survives_there, tests}
+use Rattle.xslt_match.specs.Names.{ancestor_over}
 use Rattle.xslt_match.proofs.Filters.{any-none, eqb-turned, or-false}
 use Rattle.xslt_match.proofs.StepsAlong.{holder_above, leads_is, led_is, reach_above, standing_is, step_back}
 use Rattle.xslt_match.proofs.Chaining.{chains_none, chains_nowhere}

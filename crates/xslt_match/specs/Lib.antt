@@ -1,4 +1,5 @@
 pub use Rattle.xslt_ways.specs.Ways
+pub mod Names
 pub mod Positional
 pub mod Matching
 pub mod Kept

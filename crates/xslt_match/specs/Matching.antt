@@ -9,11 +9,12 @@ use Rattle.doc_tree.specs.Walks.{order}
 use Rattle.doc_axes.specs.Axes.{on_axis}
 use Rattle.doc_axes.specs.NodeTests.{passes}
 use Rattle.xp_typed_tree.specs.TypedTree.{TypedPatternStepTree, TypedPathTree}
-use Rattle.xp_outcome.specs.Evaluation.{Evaluation, done, bind, visit, gather}
+use Rattle.xp_outcome.specs.Evaluation.{Evaluation, done, bind, visit, all_reading, gather}
 use Rattle.xp_values.specs.declared.values.EvalFault.{EvalFault}
 use Rattle.xp_meaning.specs.Paths.{Step, step_at, placed}
 use Rattle.xp_meaning.specs.Evaluation.{Lets, meanings, all_true}
 use Rattle.xslt_ways.specs.Ways.{is_anywhere}
+use Rattle.xslt_match.specs.Names.{pattern_names}
 use Rattle.xslt_match.specs.Positional.{some_positional}
 
 -- a step as expressions have it
@@ -81,6 +82,6 @@ abbrev pub some_path : Table → Lets → ℕ → List TypedPathTree → Evaluat
 some_path T L n [] = done false
 some_path T L n (p ∷ ps) = bind (path_matches T L n p) (λ b. bind (some_path T L n ps) (λ c. done (b || c)))
 
--- whether a node matches a pattern: one visit, and those of the tests
+-- whether a node matches a pattern: one visit, the names that its steps look at, and then the tests
 abbrev pub matching : Table → Lets → List TypedPathTree → ℕ → Evaluation EvalFault Bool
-matching T L ps n = visit (some_path T L n ps)
+matching T L ps n = visit (all_reading (pattern_names T n ps) (some_path T L n ps))

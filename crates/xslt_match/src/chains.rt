@@ -70,7 +70,7 @@ impl Matcher<'_> {
     ///
     /// It stands apart, so that the paths that are refused at once pay for nothing of it.
     #[inline(never)]
-    fn chain_matches<L: Ledger>(
+    pub(crate) fn chain_matches<L: Ledger>(
         &self,
         at: &PlacedPath<'_>,
         kept: &mut KeptSteps,

@@ -1,11 +1,11 @@
 //! What was read, added to what was read before.
 
 ghost use Rattle.std.specs.Prelude.{◌≡◌, OnOk, OnErr};
-ghost use Rattle.xslt_match.specs.inner.Joining.{joined, with_cells, with_lets};
+ghost use Rattle.xslt_match.specs.inner.Joining.{joined, with_cells, with_lets, with_names};
 
 use doc_tree::Cell;
 use std::alloc::{AllocError, Global};
-use xp_outcome::Recorder;
+use xp_outcome::{NamesAlong, Recorder};
 
 /// Adds to a recorder all that another one holds. Costs the length of both.
 ///
@@ -26,6 +26,7 @@ fn add_all(reads: &mut Recorder, more: &Recorder) -> Result<(), AllocError>
     ensures { OnOk result (reads.new ≡ joined reads.old more.now) }
 {
     add_cells(reads, more.cells())?;
+    add_names(reads, more.names())?;
     add_lets(reads, more.lets())?;
     Ok(())
 }
@@ -36,6 +37,16 @@ fn add_cells(reads: &mut Recorder, cells: &[Cell]) -> Result<(), AllocError>
 {
     for cell in cells {
         reads.add(*cell)?;
+    }
+    Ok(())
+}
+
+/// Adds names along axes to a recorder.
+fn add_names(reads: &mut Recorder, names: &[NamesAlong]) -> Result<(), AllocError>
+    ensures { OnOk result (reads.new ≡ with_names reads.old names.now) }
+{
+    for along in names {
+        reads.add_names(along.axis, along.node)?;
     }
     Ok(())
 }

@@ -6,6 +6,7 @@ mod joining;
 mod kept;
 mod leading;
 mod matching;
+mod names;
 mod nodes;
 mod one_chain;
 mod positional;

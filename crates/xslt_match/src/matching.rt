@@ -1,31 +1,38 @@
 //! The matching of nodes against match patterns (XSLT 1.0, section 5.2).
 
-ghost use Rattle.std.specs.Prelude.{◌≡◌, true};
+ghost use Rattle.std.specs.Prelude.{◌≡◌, ◌∷◌, [], true};
 ghost use Rattle.doc_tree.specs.Table.{is_live};
+ghost use Rattle.xp_outcome.specs.Evaluation.{all_reading};
 ghost use Rattle.xp_outcome.specs.Running.{Ran};
+ghost use Rattle.xp_meaning.specs.Reads.{is_by_name};
 ghost use Rattle.xp_meaning.specs.Results.{shown};
+ghost use Rattle.xp_typed_tree.specs.TypedView.{path_seen, pattern_step_seen};
+ghost use Rattle.xslt_match.specs.inner.Keeping.{IsPathIn};
 ghost use Rattle.xslt_match.specs.Kept.{IsKeptFor};
-ghost use Rattle.xslt_match.specs.Matching.{matching, some_path};
+ghost use Rattle.xslt_match.specs.Matching.{matching, path_matches, some_path};
+ghost use Rattle.xslt_match.specs.Names.{pattern_names, step_names};
 
 use crate::chains::PlacedPath;
 use crate::kept::KeptSteps;
-use doc_tree::{NodeId, Tree};
+use crate::names::{has_name, is_by_name, is_named_on, read_step_names};
+use doc_tree::{Cell, NodeId, Tree};
 use std::alloc::Global;
 use std::sync::ledger::Ledger;
 use xp_eval::{Caller, Evaluator};
 use xp_meaning::Lets;
 use xp_outcome::{Recorder, Steps};
-use xp_typed_tree::TypedPattern;
+use xp_typed_tree::{TypedPattern, TypedPatternStep};
 use xp_values::EvalError;
 
 /// Whether a live node matches a pattern (XSLT 1.0, section 5.2), or the first fault of the tests.
 ///
-/// The nodes that stand at a step in some chain to the node are tested, path by path, step by step from the left, from
+/// First the names are read that the steps' tests look at, of the nodes at which a step can stand, whether or not there is a chain.
+/// Then the nodes that stand at a step in some chain to the node are tested, path by path, step by step from the left, from
 /// the root downwards. It is one visit, and those of the tests: one for each node that is tested with no positional
 /// predicate, else those of the step at the node's parent.
 ///
-/// Beside what it held, the recorder holds what the tests read; see `Ran` for what stands where memory is wanting. A
-/// path whose last node test refuses the node costs one look and no memory. One in which no step but the first stands after
+/// Beside what it held, the recorder holds these names and what the tests read; see `Ran` for what stands where memory is wanting. A
+/// path whose last node test refuses the node costs one look, and one for each name that is read. One in which no step but the first stands after
 /// `//` costs, beside the tests, the square of the number of its steps and no memory, and where it begins by `//` the depth
 /// besides. Another costs, beside the tests, for each two of its steps at most the square of the depth.
 pub fn matches<L: Ledger>(
@@ -52,7 +59,6 @@ pub fn matches<L: Ledger>(
 /// A step with a positional predicate is evaluated once at each node, and what it gave there is kept for the other nodes
 /// below it; its visits and its reads count each time. So it costs for each of these nodes what the step reads, and a
 /// look-up.
-#[tactic(auto, using(crate::proofs::Chaining::paths_matched))]
 pub fn matches_with<L: Ledger>(
     evaluator: &Evaluator<'_>,
     pattern: &TypedPattern,
@@ -68,12 +74,15 @@ pub fn matches_with<L: Ledger>(
     ensures kept { IsKeptFor evaluator.now.caller.tree.now.nodes evaluator.now.lets.now pattern.now kept.new }
 {
     steps.tick();
-    Matcher {
+    let matcher = Matcher {
         evaluator: *evaluator,
         pattern,
         node: n,
+    };
+    match pattern.paths() {
+        [path] => matcher.one_path(&PlacedPath { path, number: 0 }, kept, reads, steps),
+        _ => matcher.several_paths(kept, reads, steps),
     }
-    .some_path(kept, reads, steps)
 }
 
 /// What stays the same in the matching of a node: the evaluator of the predicates, the pattern, and the node.
@@ -86,6 +95,100 @@ pub(crate) struct Matcher<'r> {
 }
 
 impl Matcher<'_> {
+    /// Records the names that the pattern's steps look at, and tells whether a live node matches some path.
+    ///
+    /// It stands apart, so that a pattern of one path pays for nothing of it.
+    #[inline(never)]
+    fn several_paths<L: Ledger>(
+        &self,
+        kept: &mut KeptSteps,
+        reads: &mut Recorder,
+        steps: &mut Steps<L>,
+    ) -> Result<bool, EvalError>
+        requires lives { is_live self.now.evaluator.caller.tree.now.nodes self.now.node ≡ true }
+        requires kept { IsKeptFor self.now.evaluator.caller.tree.now.nodes self.now.evaluator.lets.now self.now.pattern.now kept.old }
+        ensures ran { Ran (all_reading (pattern_names self.now.evaluator.caller.tree.now.nodes self.now.node self.now.pattern.now)
+            (some_path self.now.evaluator.caller.tree.now.nodes self.now.evaluator.lets.now self.now.node self.now.pattern.now))
+            (shown result) reads.old reads.new steps.old steps.new }
+        ensures kept { IsKeptFor self.now.evaluator.caller.tree.now.nodes self.now.evaluator.lets.now self.now.pattern.now kept.new }
+    {
+        self.read_names(reads)?;
+        self.some_path(kept, reads, steps)
+    }
+
+    /// The same for one path of the pattern.
+    fn one_path<L: Ledger>(
+        &self,
+        at: &PlacedPath<'_>,
+        kept: &mut KeptSteps,
+        reads: &mut Recorder,
+        steps: &mut Steps<L>,
+    ) -> Result<bool, EvalError>
+        requires lives { is_live self.now.evaluator.caller.tree.now.nodes self.now.node ≡ true }
+        requires placed { IsPathIn self.now.pattern.now at.now }
+        requires kept { IsKeptFor self.now.evaluator.caller.tree.now.nodes self.now.evaluator.lets.now self.now.pattern.now kept.old }
+        ensures ran { Ran (all_reading (step_names self.now.evaluator.caller.tree.now.nodes self.now.node (path_seen at.now.path.now).steps)
+            (path_matches self.now.evaluator.caller.tree.now.nodes self.now.evaluator.lets.now self.now.node (path_seen at.now.path.now)))
+            (shown result) reads.old reads.new steps.old steps.new }
+        ensures kept { IsKeptFor self.now.evaluator.caller.tree.now.nodes self.now.evaluator.lets.now self.now.pattern.now kept.new }
+    {
+        match at.path.steps.as_slice() {
+            [step] if is_by_name(&step.step.test) => self.one_name(at, step, kept, reads, steps),
+            _ => self.several_steps(at, kept, reads, steps),
+        }
+    }
+
+    /// The same for a path of which not just one step looks at names.
+    #[inline(never)]
+    fn several_steps<L: Ledger>(
+        &self,
+        at: &PlacedPath<'_>,
+        kept: &mut KeptSteps,
+        reads: &mut Recorder,
+        steps: &mut Steps<L>,
+    ) -> Result<bool, EvalError>
+        requires lives { is_live self.now.evaluator.caller.tree.now.nodes self.now.node ≡ true }
+        requires placed { IsPathIn self.now.pattern.now at.now }
+        requires kept { IsKeptFor self.now.evaluator.caller.tree.now.nodes self.now.evaluator.lets.now self.now.pattern.now kept.old }
+        ensures ran { Ran (all_reading (step_names self.now.evaluator.caller.tree.now.nodes self.now.node (path_seen at.now.path.now).steps)
+            (path_matches self.now.evaluator.caller.tree.now.nodes self.now.evaluator.lets.now self.now.node (path_seen at.now.path.now)))
+            (shown result) reads.old reads.new steps.old steps.new }
+        ensures kept { IsKeptFor self.now.evaluator.caller.tree.now.nodes self.now.evaluator.lets.now self.now.pattern.now kept.new }
+    {
+        read_step_names(self.evaluator.caller.tree, &at.path.steps, self.node, reads)?;
+        self.path_matches(at, kept, reads, steps)
+    }
+
+    /// The same for a path of one step, which looks at names: a node that is not of the axis's principal kind is refused by one look.
+    fn one_name<L: Ledger>(
+        &self,
+        at: &PlacedPath<'_>,
+        step: &TypedPatternStep,
+        kept: &mut KeptSteps,
+        reads: &mut Recorder,
+        steps: &mut Steps<L>,
+    ) -> Result<bool, EvalError>
+        requires lives { is_live self.now.evaluator.caller.tree.now.nodes self.now.node ≡ true }
+        requires placed { IsPathIn self.now.pattern.now at.now }
+        requires alone { at.now.path.now.steps.items ≡ step.now ∷ [] }
+        requires by_name { is_by_name (pattern_step_seen step.now).test ≡ true }
+        requires kept { IsKeptFor self.now.evaluator.caller.tree.now.nodes self.now.evaluator.lets.now self.now.pattern.now kept.old }
+        ensures ran { Ran (all_reading (step_names self.now.evaluator.caller.tree.now.nodes self.now.node (path_seen at.now.path.now).steps)
+            (path_matches self.now.evaluator.caller.tree.now.nodes self.now.evaluator.lets.now self.now.node (path_seen at.now.path.now)))
+            (shown result) reads.old reads.new steps.old steps.new }
+        ensures kept { IsKeptFor self.now.evaluator.caller.tree.now.nodes self.now.evaluator.lets.now self.now.pattern.now kept.new }
+    {
+        let tree = self.evaluator.caller.tree;
+        if !is_named_on(step.step.axis, tree.kind(self.node)) {
+            return Ok(false);
+        }
+        reads.add(Cell::Name(self.node))?;
+        if !has_name(tree, self.node, step) {
+            return Ok(false);
+        }
+        self.chain_matches(at, kept, reads, steps)
+    }
+
     /// Whether a live node matches some path of the pattern; all are tested.
     fn some_path<L: Ledger>(
         &self,

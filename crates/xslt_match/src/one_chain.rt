@@ -10,9 +10,10 @@ ghost use Rattle.xp_typed_tree.specs.TypedView.{path_seen, pattern_step_seen};
 ghost use Rattle.xp_typed_tree.specs.WellTyped.{PatternStepsTyped};
 ghost use Rattle.xslt_match.specs.Kept.{IsKeptFor};
 ghost use Rattle.xslt_match.specs.Matching.{starts};
+ghost use Rattle.xslt_match.specs.Names.{ancestor_over};
 ghost use Rattle.xslt_ways.specs.Ways.{is_anywhere};
 ghost use Rattle.xslt_match.specs.inner.Keeping.{IsPathIn, IsPlacedIn};
-ghost use Rattle.xslt_match.specs.inner.OneChain.{all_from_parents, ancestor_over, leads_there, origin, survives_there, tests};
+ghost use Rattle.xslt_match.specs.inner.OneChain.{all_from_parents, leads_there, origin, survives_there, tests};
 
 use crate::chains::PlacedPath;
 use crate::kept::KeptSteps;
@@ -92,7 +93,7 @@ pub(crate) fn all_from_parents(path_steps: &[TypedPatternStep]) -> bool
 }
 
 /// Whether a step stands after `//`.
-fn is_anywhere(join: Join) -> bool
+pub(crate) fn is_anywhere(join: Join) -> bool
     ensures { result ≡ is_anywhere join }
 {
     matches!(join, Join::DoubleSlash)
@@ -135,7 +136,11 @@ fn origin(tree: &Tree, path_steps: &[TypedPatternStep], n: NodeId) -> Option<Nod
 }
 
 /// The ancestor of a node as many levels above it as there are steps.
-fn ancestor_over(tree: &Tree, path_steps: &[TypedPatternStep], n: NodeId) -> Option<NodeId>
+pub(crate) fn ancestor_over(
+    tree: &Tree,
+    path_steps: &[TypedPatternStep],
+    n: NodeId,
+) -> Option<NodeId>
     ensures { result ≡ ancestor_over tree.now.nodes (map pattern_step_seen path_steps.now) n }
 {
     match path_steps.split_first() {

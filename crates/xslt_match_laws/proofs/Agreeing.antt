@@ -6,7 +6,7 @@ use Rattle.doc_tree.specs.Table.{Table, parent_of}
 use Rattle.xp_typed_tree.specs.declared.value_type.ValueType.{ValueType}
 use Rattle.xp_typed_tree.specs.TypedTree.{TypedPatternStepTree, TypedPathTree}
 use Rattle.xp_typed_tree.specs.Slots.{slots_in_all, slots_in_pattern_steps, slots_in_paths}
-use Rattle.xp_outcome.specs.Evaluation.{done, bind, visit, gather}
+use Rattle.xp_outcome.specs.Evaluation.{done, bind, visit, all_reading, gather}
 use Rattle.xp_outcome.specs.Slots.{in_slot}
 use Rattle.xp_meaning.specs.Paths.{placed}
 use Rattle.xp_meaning.specs.Evaluation.{Lets, all_true}
@@ -14,6 +14,7 @@ use Rattle.xp_meaning_laws.specs.Agreeing.{SlotsAgree}
 use Rattle.xp_meaning_laws.proofs.EachLemmas.{each-front, each-back}
 use Rattle.xp_meaning_laws.proofs.Agreeing.{sames}
 use Rattle.xslt_match.specs.Matching.{is_left, survives, standing, leads, starts, chains, some_path}
+use Rattle.xslt_match.specs.Names.{pattern_names}
 use Rattle.xslt_match.specs.Positional.{some_positional}
 use Rattle.xslt_match_laws.specs.Agreeing.{MatchingNeedsSlotsAlone}
 
@@ -46,4 +47,4 @@ module _ (T : Table) (L M : Lets) (n : ℕ) where
       λ i. bind (one i) (λ b. bind (more i) (λ c. done (b || c)))
 
 pub matching_needs_slots_alone : MatchingNeedsSlotsAlone
-matching_needs_slots_alone T L M ps n h = ap visit (paths_same T L M n ps h)
+matching_needs_slots_alone T L M ps n h = ap (λ m. visit (all_reading (pattern_names T n ps) m)) (paths_same T L M n ps h)

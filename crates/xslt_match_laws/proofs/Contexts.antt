@@ -23,7 +23,7 @@ use Rattle.xp_meaning.specs.declared.want.Want.TheVariants.{AsItIs}
 use Rattle.xp_meaning.specs.Conversions.{nodes_of, number_in, compare_in, as_wanted}
 use Rattle.xp_meaning.specs.declared.context.Context.{Context}
 use Rattle.xp_meaning.specs.Operators.{negated}
-use Rattle.xp_meaning.specs.Names.{name_at, local_in, uri_in}
+use Rattle.xp_meaning.specs.Names.{local_in, of_name, uri_in}
 use Rattle.xp_meaning.specs.Paths.{Meaning, filtered, path, placed}
 use Rattle.xp_meaning.specs.Functions.{applied, wanted, named_node, text_or_own, number_or_own, as_text, as_number}
 use Rattle.xp_meaning.specs.Evaluation.{Lets, Operand, meaning, meanings, some_true, all_true, compared, combined, values, start_nodes, steps_meant, comparands_meant, combinands_meant}
@@ -113,9 +113,9 @@ module _ (T : Table) (L : Lets) (current node size position others place : ℕ) 
   applied_same functions.Current vs h = refl
   applied_same functions.Count vs h = refl
   applied_same functions.Sum vs h = refl
-  applied_same functions.LocalName vs h = ap (λ o. done (Chars (local_in (name_at T o)))) (named_same vs)
-  applied_same functions.NamespaceUri vs h = ap (λ o. done (Chars (uri_in (name_at T o)))) (named_same vs)
-  applied_same functions.Name vs h = ap (λ o. done (Chars (written_in (name_at T o)))) (named_same vs)
+  applied_same functions.LocalName vs h = ap (λ o. of_name T o (λ name. Chars (local_in name))) (named_same vs)
+  applied_same functions.NamespaceUri vs h = ap (λ o. of_name T o (λ name. Chars (uri_in name))) (named_same vs)
+  applied_same functions.Name vs h = ap (λ o. of_name T o (λ name. Chars (written_in name))) (named_same vs)
   applied_same functions.String vs h = ap as_text (text_same vs)
   applied_same functions.Number vs h = ap as_number (number_same vs)
   applied_same functions.Boolean vs h = refl

@@ -1,26 +1,31 @@
 -- What matching reads: the lets in the slots that it names, and cells of nodes of a closed set.
-use Rattle.std.proofs.Common.{◌≡◌, ℕ, true, false, ◌||◌, List, [], ◌∷◌, ◌++◌, Option, None, Some, Ok, refl}
-use Rattle.std.specs.Prelude.{filter, if◌then◌else◌}
+use Rattle.std.proofs.Common.{◌≡◌, ℕ, Bool, true, false, ◌||◌, List, [], ◌∷◌, ◌++◌, length, map, Option, None, Some, Ok, refl, subst}
+use Rattle.std.specs.Prelude.{filter, option_and_then, if◌then◌else◌}
 use Rattle.std.specs.List.{list_any, AllByRecursion as Each}
 use Rattle.doc_tree.specs.Laws.{Ordered, HasWaysUp}
 use Rattle.doc_tree.specs.Lists.{mem}
-use Rattle.doc_tree.specs.Table.{Table, parent_of, is_live}
+use Rattle.doc_tree.specs.cell.Cell.TheVariants.{Name}
+use Rattle.doc_tree.specs.Table.{Table, kind_of, parent_of, is_live}
 use Rattle.doc_tree.specs.Walks.{order}
+use Rattle.doc_axes.specs.NodeTests.{is_principal}
 use Rattle.xp_typed_tree.specs.declared.value_type.ValueType.{ValueType}
 use Rattle.xp_typed_tree.specs.TypedTree.{TypedPatternStepTree, TypedPathTree}
 use Rattle.xp_typed_tree.specs.Slots.{slots_in_all, slots_in_pattern_steps, slots_in_paths}
-use Rattle.xp_outcome.specs.Evaluation.{Read, variable, done, bind, visit}
+use Rattle.xp_outcome.specs.Cells.{names_on}
+use Rattle.xp_outcome.specs.Evaluation.{Read, cell, variable, done, all_reading, bind, visit}
 use Rattle.xp_outcome.specs.Slots.{in_slot}
 use Rattle.xp_values.specs.declared.values.Value.{Value}
 use Rattle.xp_meaning.specs.Conversions.{nodes_of}
 use Rattle.xp_meaning.specs.Paths.{placed, step_at}
+use Rattle.xp_meaning.specs.Reads.{is_by_name}
 use Rattle.xp_meaning.specs.Evaluation.{Lets, meanings, all_true}
 use Rattle.xp_meaning_laws.specs.KnownReads.{IsNamedRead, IsLiveRead}
-use Rattle.xp_meaning_laws.proofs.EachLemmas.{each-front, each-back, each-all, each-cond, each-filter}
-use Rattle.xp_meaning_laws.proofs.Sound.{Sound, sound_done, sound_visit, sound_bind, sound_cond, sound_gather}
-use Rattle.xp_meaning_laws.proofs.Parts.{Closed, Any, step_sound, all_sound}
+use Rattle.xp_meaning_laws.proofs.EachLemmas.{each-append, each-front, each-back, each-all, each-cond, each-filter}
+use Rattle.xp_meaning_laws.proofs.Sound.{Sound, sound_behind, sound_done, sound_visit, sound_bind, sound_cond, sound_gather}
+use Rattle.xp_meaning_laws.proofs.Parts.{Closed, Any, climb_good, step_sound, all_sound}
 use Rattle.xp_meaning_laws.proofs.Knowing.{AnyNode, goods, all_closed, all_named, live_closed}
 use Rattle.xslt_match.specs.Matching.{step_of, is_left, survives, survivors, standing, led_to, leads, reaches, starts, chains, path_matches, some_path, matching}
+use Rattle.xslt_match.specs.Names.{ancestor_over, pattern_names, place_names, places_from, some_anywhere, standing_places, step_names}
 use Rattle.xslt_match.specs.Positional.{some_positional}
 use Rattle.xslt_match_laws.specs.KnownReads.{MatchingReadsNamedLets, MatchingReadsLiveCells}
 
@@ -74,8 +79,44 @@ module _ (T : Table) (G : ℕ → Type 0) (may : Read → Type 0) (closed : Clos
       (λ b e. sound_bind may Any Any (some_path T L n ps) (λ c. done (b || c)) (paths_sound ps (back (slots_in_pattern_steps p.steps) (slots_in_paths ps) h))
       (λ c f. sound_done may Any (b || c) tt))
 
-  matching_sound : (ps : List TypedPathTree) → MayRead (slots_in_paths ps) → Sound may Any (matching T L ps n)
-  matching_sound ps h = sound_visit may Any (some_path T L n ps) (paths_sound ps h)
+  -- the names that are looked at
+  over_good : (ss : List TypedPatternStepTree) (m : ℕ) → ancestor_over T ss n ≡ Some m → G m
+  over_good [] m e = let same : n ≡ m = cc in subst G same here
+  over_good (s ∷ ss) m e = by (ancestor_over T ss n) e
+    where
+      by : (o : Option ℕ) → option_and_then (parent_of T) o ≡ Some m → G m
+      by None e = absurd (cc)
+      by (Some q) e = closed.parent q m e
+
+  from_good : (b : Bool) (o : Option ℕ) → ((m : ℕ) → o ≡ Some m → G m) → Each G (places_from T b o)
+  from_good b None h = tt
+  from_good true (Some m) h = (h m refl, climb_good T G may closed (length T) (parent_of T m) (λ p e. closed.parent m p e))
+  from_good false (Some m) h = (h m refl, tt)
+
+  names_may : (ns : List ℕ) → Each G ns → Each may (map cell (map Name ns))
+  names_may [] h = tt
+  names_may (m ∷ ms) h = (closed.may_read (Name m) h.0, names_may ms h.1)
+
+  place_may : (s : TypedPatternStepTree) (ns : List ℕ) → Each G ns → Each may (place_names T s.axis s.test ns)
+  place_may s ns h =
+      each-cond may (is_by_name s.test) (map cell (names_on T s.axis ns)) []
+      (names_may (filter (λ m. is_principal s.axis (kind_of T m)) ns) (each-filter G (λ m. is_principal s.axis (kind_of T m)) ns h)) tt
+
+  step_may : (ss : List TypedPatternStepTree) → Each may (step_names T n ss)
+  step_may [] = tt
+  step_may (s ∷ ss) =
+      each-append may (step_names T n ss) (place_names T s.axis s.test (standing_places T ss n)) (step_may ss)
+      (place_may s (standing_places T ss n) (from_good (some_anywhere ss) (ancestor_over T ss n) (over_good ss)))
+
+  pattern_may : (ps : List TypedPathTree) → Each may (pattern_names T n ps)
+  pattern_may [] = tt
+  pattern_may (p ∷ ps) = each-append may (step_names T n p.steps) (pattern_names T n ps) (step_may p.steps) (pattern_may ps)
+
+  pub matching_sound : (ps : List TypedPathTree) → MayRead (slots_in_paths ps) → Sound may Any (matching T L ps n)
+  unfolding all_reading
+  matching_sound ps h =
+      sound_visit may Any (all_reading (pattern_names T n ps) (some_path T L n ps))
+      (sound_behind may Any (pattern_names T n ps) 0 (some_path T L n ps) (pattern_may ps) (paths_sound ps h))
 
 pub matching_reads_named_lets : MatchingReadsNamedLets
 matching_reads_named_lets T L ps n =

@@ -13,7 +13,7 @@ use Rattle.doc_axes.specs.Axes.{on_axis}
 use Rattle.doc_axes.specs.Sets.{in_order}
 use Rattle.xp_typed_tree.specs.TypedTree.{TypedPathTree, TypedSteps, location}
 use Rattle.xp_typed_tree.specs.WellTyped.{PatternStepsTyped, PathsTyped}
-use Rattle.xp_outcome.specs.Evaluation.{Evaluation, done, bind, gather}
+use Rattle.xp_outcome.specs.Evaluation.{Evaluation, Read, done, behind, bind, all_reading, gather}
 use Rattle.xp_values.specs.declared.values.Value.{Value}
 use Rattle.xp_values.specs.declared.values.Value.TheVariants.{NodeSet}
 use Rattle.xp_values.specs.declared.values.EvalFault.{EvalFault}
@@ -24,6 +24,7 @@ use Rattle.xp_meaning.specs.Evaluation.{Lets, meaning, meanings, values, start_n
 use Rattle.xp_meaning.proofs.Answers.{answer_visit}
 use Rattle.xp_meaning.proofs.Choices.{came_before}
 use Rattle.xslt_match.specs.Matching.{starts, path_matches, some_path}
+use Rattle.xslt_match.specs.Names.{pattern_names}
 use Rattle.xslt_match.proofs.Filters.{iff, found, kept-passes}
 use Rattle.xslt_match_laws.specs.Reading.{as_steps, as_place, as_paths, as_expression}
 use Rattle.xslt_match_laws.specs.inner.Fitted.{StepsFitted, PathsFitted}
@@ -214,11 +215,19 @@ module _ (T : Table) (form : WellFormed T) (ord : Ordered T) (up : HasWaysUp T) 
           either true r h f g = f refl
           either false r h f g = g h
 
+-- names that are read don't change the answer
+answer_reading : {A : Type 0} (xs : List Read) (m : Evaluation EvalFault A) → (all_reading xs m).answer ≡ m.answer
+unfolding all_reading behind
+answer_reading xs m = refl
+
 pub matches_are_selected : (T : Table) → WellFormed T → Ordered T → HasWaysUp T → MatchesAreSelected T
 matches_are_selected T form ord up L ps n sets b live typed fits evaluates is =
     let here : mem n (order T) ≡ true = sym (ord.live_in_order n) ∙ live in
     let told_at : (m : ℕ) → mem m (above T n) ≡ true → Told T L n ps m (sets m) = λ m h. evaluated T L n m ps (sets m) here (evaluates m h) in
-    let tested = matched T form ord up L n live ps b typed (paths_fitted L ps typed fits) (λ m h. (told_at m h).clean) (sym (answer_visit (some_path T L n ps)) ∙ is) in
+    let names = pattern_names T n ps in
+    let rest = some_path T L n ps in
+    let tested = matched T form ord up L n live ps b typed (paths_fitted L ps typed fits) (λ m h. (told_at m h).clean)
+    (sym (answer_visit (all_reading names rest) ∙ answer_reading names rest) ∙ is) in
     iff b (list_any (λ m. mem n (sets m)) (above T n))
     (λ h. let k = tested.way h in any-at (λ m. mem n (sets m)) k.node (above T n) k.listed ((told_at k.node k.listed).member k.holds))
     (λ h. let f = found (λ m. mem n (sets m)) (above T n) h in tested.member f.at f.listed ((told_at f.at f.listed).way f.passes))

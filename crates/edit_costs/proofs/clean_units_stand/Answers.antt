@@ -22,14 +22,14 @@ module _ (stand : UnitsStand) (plan : Plan) (T U : Table) (touched : Cell → Bo
       unit_let U (take slot (lets_of plan U)) t.expr ≡ unit_let T (take slot (lets_of plan T)) t.expr
   let-stands slot t there clean =
       let L = take slot (lets_of plan T) in
-      let unread = subst (λ found. list_any (λ r. is_touched touched r || is_changed plan T U r) (let_reads T L found) ≡ false) there clean in
+      let unread = subst (λ found. list_any (λ r. is_touched T touched r || is_changed plan T U r) (let_reads T L found) ≡ false) there clean in
       stand.lets plan T U touched slot t.expr formed edits (unchanged-reads plan T U touched (unit_let T L t.expr).reads unread)
 
   pair-stands : (p n : ℕ) → RulesTyped plan p → is_live U n ≡ true → is_dirty plan T U touched (under p n) ≡ false →
       unit_pair plan U (lets_of plan U) p n ≡ unit_pair plan T (lets_of plan T) p n
   pair-stands p n typed lives clean =
       let reads = (unit_pair plan T (lets_of plan T) p n).reads in
-      let parts = neither (not (is_live T n)) (list_any (λ r. is_touched touched r || is_changed plan T U r) reads) clean in
+      let parts = neither (not (is_live T n)) (list_any (λ r. is_touched T touched r || is_changed plan T U r) reads) clean in
       stand.pairs plan T U touched p n formed edits typed (both (is_live T n) (is_live U n) (not-false (is_live T n) parts.0) lives)
       (unchanged-reads plan T U touched reads parts.1)
 

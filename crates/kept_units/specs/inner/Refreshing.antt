@@ -16,7 +16,8 @@ use Rattle.edit_costs.specs.SameOutcome.{same_outcome}
 use Rattle.edit_costs.specs.Units.{ValidationUnit, in_force, under, let_units, node_units}
 use Rattle.edit_costs.specs.Costs.{Raised}
 use Rattle.edit_costs.specs.Evaluating.{SpentOn, Took, lets_below, nodes_below, patterns_below}
-use Rattle.kept_state.specs.Kept.{HeldAlike, Kept, noted}
+use Rattle.cover_laws.specs.Covering.{HeldAlike}
+use Rattle.kept_state.specs.Kept.{Kept, noted}
 use Rattle.kept_state.specs.Refreshing.{Reached}
 use Rattle.kept_state.specs.Running.{GoesOn, IsFresh, is_run, to_run}
 use Rattle.kept_state.specs.Steps.{differs, unless_changed}

@@ -8,13 +8,13 @@ use Rattle.xp_outcome.specs.Evaluation.{Evaluation}
 use Rattle.xp_outcome.specs.Recorded.{Recorded, note_all, nothing_read}
 use Rattle.xp_values.specs.declared.values.EvalFault.{EvalFault}
 use Rattle.xp_values.specs.declared.values.Value.{Value}
-use Rattle.cover_laws.specs.Covering.{Alike}
+use Rattle.cover_laws.specs.Covering.{HeldAlike}
 use Rattle.xp_values.specs.declared.values.EvalError.{EvalError}
 use Rattle.xp_values.specs.declared.values.EvalError.TheVariants.{Fault, Memory}
 use Rattle.xp_watch.specs.declared.kept.Given.{Given}
 use Rattle.xp_watch.specs.Costs.{cost_of, has_fault}
 use Rattle.xp_watch.specs.Kept.{GoesOn, IsDone, IsRight, Kept, StaysAs, is_stale, stale_watches}
-use Rattle.xp_watch.specs.Watched.{cells_read, watched}
+use Rattle.xp_watch.specs.Watched.{all_read, watched}
 
 -- a count rose for one evaluation that may have been cut short
 pub record Spent (m : Evaluation EvalFault Value) (before after : ℕ) : Type 0 where
@@ -45,7 +45,7 @@ IsGivenBy (Err Memory) reads result = IsErr result
 -- what was given is kept, and what was read but for covered cells
 pub record KeepsGiven (T : Table) (given : Result Value EvalFault) (reads : Recorded) (k : ℕ) (old new : Kept) : Type 0 where
   pub held : Recorded
-  pub alike : Alike T held.cells reads.cells
+  pub alike : HeldAlike T held reads
   pub puts : Puts given k (Some held) old new
 
 -- a stale watch is still stale, and nothing else has changed
@@ -58,7 +58,7 @@ pub record IsCut (k : ℕ) (old new : Kept) : Type 0 where
 -- a stale watch was evaluated: what it gave is kept, and what it read but for covered cells
 pub record Runs (T : Table) (expr : TypedTree) (k : ℕ) (old new : Kept) (before after : ℕ) : Type 0 where
   pub held : Recorded
-  pub alike : Alike T held.cells (cells_read T expr)
+  pub alike : HeldAlike T held (all_read T expr)
   pub puts : Puts (watched T expr).answer k (Some held) old new
   pub took : Took (watched T expr) before after
 

@@ -2,7 +2,7 @@
 -- the node and its ancestors, one above another (XSLT 1.0, section 5.2).
 use Rattle.std.specs.Prelude.{ℕ, Bool, true, false, not, ◌&&◌, List, [], ◌∷◌, Option, None, Some, option_and_then}
 use Rattle.std.specs.List.{list_any}
-use Rattle.doc_tree.specs.Table.{Table, parent_of}
+use Rattle.doc_tree.specs.Table.{Table}
 use Rattle.xp_typed_tree.specs.TypedTree.{TypedPatternStepTree}
 use Rattle.xp_outcome.specs.Evaluation.{Evaluation, done, bind}
 use Rattle.xp_values.specs.declared.values.EvalFault.{EvalFault}
@@ -10,6 +10,7 @@ use Rattle.xp_meaning.specs.Evaluation.{Lets}
 use Rattle.xslt_match.specs.inner.Leading.{holder}
 use Rattle.xslt_ways.specs.Ways.{is_anywhere}
 use Rattle.xslt_match.specs.Matching.{leads, survives}
+use Rattle.xslt_match.specs.Names.{ancestor_over}
 
 -- whether no step stands after `//`
 abbrev pub all_from_parents : List TypedPatternStepTree → Bool
@@ -25,11 +26,6 @@ origin T (s ∷ ss) n = option_and_then (holder T s) (origin T ss n)
 abbrev pub leads_there : Table → TypedPatternStepTree → List ℕ → Option ℕ → Bool
 leads_there T s ms None = false
 leads_there T s ms (Some k) = list_any (λ m. leads T s m k) ms
-
--- the ancestor of n that stands as many levels above it as there are steps, or n itself where there are none
-abbrev pub ancestor_over : Table → List TypedPatternStepTree → ℕ → Option ℕ
-ancestor_over T [] n = Some n
-ancestor_over T (s ∷ ss) n = option_and_then (parent_of T) (ancestor_over T ss n)
 
 -- whether a node that may be missing survives a step's test
 abbrev pub survives_there : Table → Lets → TypedPatternStepTree → ℕ → Option ℕ → Evaluation EvalFault Bool

@@ -20,4 +20,5 @@ loop-slot-preserved c =
           ∙ sym (from_list_push nat_cmp_total nat_cmp-IsAntisymmetric (take i slots) slot)
           ∙ ap (λ ns. from_list {R = nat_cmp} ns) (sym (take_more slots i 0 c.loop-slot-test.true));
       cells = ap (λ (r : Recorded). r.cells) noted ∙ c.loop-slot.invariant.cells;
+      names = ap (λ (r : Recorded). r.names) noted ∙ c.loop-slot.invariant.names;
     }

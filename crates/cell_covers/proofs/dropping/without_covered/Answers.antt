@@ -1,12 +1,12 @@
--- Where no cell is wide none covers another.
-use Rattle.std.proofs.Common.{◌∙◌, ap, sym}
-use Rattle.std.specs.FinSet.{contains}
-use Rattle.xp_outcome.specs.Recorded.{CellSet}
-use Rattle.cell_covers.proofs.DropLemmas.{covers-wide}
-use Rattle.cell_covers.proofs.SetLemmas.{none_wide}
+-- Where no cell is wide none covers another; where no names lead upward all are held as they are.
+use Rattle.std.proofs.Common.{◌∙◌, refl, sym}
+use Rattle.cell_covers.proofs.HeldLemmas.{none-upward, plain-bare}
 use Rattle.cell_covers.proofs.dropping.without_covered.Goals as goal
 
-pub returns-then-not-has_wide-clause-bare : goal.returns-then-not-has_wide-clause-bare
-returns-then-not-has_wide-clause-bare c d e there other apart =
-    covers-wide c.args.tree.now.nodes d e
-    (none_wide c.cells.result.now (sym c.has_wide.ensures ∙ c.if-not-has_wide.true) d (ap (λ (s : CellSet). contains s d) c.cells.ensures ∙ there))
+pub returns-then-is_plain-clause-alike : goal.returns-then-is_plain-clause-alike
+returns-then-is_plain-clause-alike c =
+    c.equal_is_held_alike.ensures c.args.tree.now.nodes c.args.reads c.args.reads refl
+    (none-upward c.args.reads (sym c.is_plain.ensures ∙ c.if-is_plain.true))
+
+pub returns-then-is_plain-clause-bare : goal.returns-then-is_plain-clause-bare
+returns-then-is_plain-clause-bare c = plain-bare c.args.reads (sym c.is_plain.ensures ∙ c.if-is_plain.true) c.args.tree.now.nodes

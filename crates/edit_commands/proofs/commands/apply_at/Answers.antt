@@ -1,6 +1,6 @@
 -- Each command is done by a call of its own, which leaves its path out.
 use Rattle.std.proofs.Common.{ap, ap₂, sym, ◌∙◌, List, ℕ}
-use Rattle.edit_script.specs.declared.command.Command.TheVariants.{Delete, Insert, SetAttr, SetText, UnsetAttr}
+use Rattle.edit_script.specs.declared.command.Command.TheVariants.{Delete, Insert, Rename, RenameAttr, SetAttr, SetText, UnsetAttr}
 use Rattle.edit_commands.proofs.CommandLemmas.{done-by}
 use Rattle.edit_commands.proofs.commands.apply_at.Goals as goal
 
@@ -28,3 +28,14 @@ pub returns-in-UnsetAttr-clause-done : goal.returns-in-UnsetAttr-clause-done
 returns-in-UnsetAttr-clause-done c =
     done-by c.args.tree.now c.unset_attribute.new.tree c.args.n c.args.command.now (λ path. UnsetAttr path c.as_str-in-UnsetAttr.result.now) c.in-UnsetAttr.path
     (c.in-UnsetAttr.is ∙ ap (λ (name : List ℕ). UnsetAttr c.in-UnsetAttr.path name) (sym c.as_str-in-UnsetAttr.ensures)) c.unset_attribute.result c.unset_attribute.ensures.done
+
+pub returns-in-Rename-clause-done : goal.returns-in-Rename-clause-done
+returns-in-Rename-clause-done c =
+    done-by c.args.tree.now c.rename_element.new.tree c.args.n c.args.command.now (λ path. Rename path c.as_str-in-Rename.result.now) c.in-Rename.path
+    (c.in-Rename.is ∙ ap (λ (name : List ℕ). Rename c.in-Rename.path name) (sym c.as_str-in-Rename.ensures)) c.rename_element.result c.rename_element.ensures.done
+
+pub returns-in-RenameAttr-clause-done : goal.returns-in-RenameAttr-clause-done
+returns-in-RenameAttr-clause-done c =
+    done-by c.args.tree.now c.rename_attribute.new.tree c.args.n c.args.command.now (λ path. RenameAttr path c.as_str-in-RenameAttr.result.now c.as_str-in-RenameAttr-2.result.now) c.in-RenameAttr.path
+    (c.in-RenameAttr.is ∙ ap₂ (λ (old name : List ℕ). RenameAttr c.in-RenameAttr.path old name) (sym c.as_str-in-RenameAttr.ensures) (sym c.as_str-in-RenameAttr-2.ensures))
+    c.rename_attribute.result c.rename_attribute.ensures.done

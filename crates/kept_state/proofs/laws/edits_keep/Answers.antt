@@ -3,4 +3,6 @@ use Rattle.kept_state.proofs.EditLemmas as lemma
 use Rattle.kept_state.proofs.laws.edits_keep.Goals as goal
 
 pub returns : goal.returns
-returns c = lemma.edits_keep c.units_are_local.ensures.given c.units_stand.ensures.change c.edits_touch_alike.ensures c.alike_stay.ensures c.units_read_live_cells.ensures.reads
+returns c =
+    lemma.edits_keep c.units_are_local.ensures.given c.units_stand.ensures.change c.edits_touch_held_alike.ensures c.held_stays_alike.ensures.held
+    c.units_read_live_cells.ensures.reads

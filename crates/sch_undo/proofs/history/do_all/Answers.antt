@@ -8,7 +8,8 @@ use Rattle.edit_commands.specs.declared.refusal.ApplyError.{ApplyError}
 use Rattle.edit_commands.specs.declared.refusal.ApplyError.TheVariants.{Memory, Refused}
 use Rattle.edit_iso_laws.specs.CommandsMove.{DoneInTurn}
 use Rattle.edit_session.specs.Standing.{Standing}
-use Rattle.sch_undo.specs.inner.Doing.{Did}
+use Rattle.sch_undo.specs.inner.Doing.{Did, NamesFirst}
+use Rattle.sch_undo.proofs.NameLemmas.{later-keeps}
 use Rattle.sch_undo.proofs.TurnLemmas.{cut-at, did-more, did-none, next-free, one-more}
 use Rattle.sch_undo.proofs.history.do_all.Goals as goal
 
@@ -44,7 +45,9 @@ loop-command-preserved c =
     let commands : List Command = c.args.commands.now in
     let command : Command = c.command-item.result in
     subst (λ (cs : List Command). Did c.args.session.now cs c.apply.new.self) (sym (one-more commands i command c.loop-command-test.true c.command-item.is))
-    (did-more c.args.session.now c.loop-command.session c.apply.new.self (take i commands) command c.loop-command.invariant c.in-Ok.ensures.within
+    (did-more c.args.session.now c.loop-command.session c.apply.new.self (take i commands) command c.loop-command.invariant
+    (later-keeps (take i commands) command (drop (suc i) commands)
+    (subst NamesFirst (cut-at commands i command c.loop-command-test.true c.command-item.is) c.requires.names)) c.in-Ok.ensures.within
     c.in-Ok.ensures.edited c.in-Ok.ensures.edit c.in-Ok.ensures.marked c.in-Ok.ensures.plan c.in-Ok.ensures.cap c.in-Ok.ensures.scope)
 
 pub returns-in-Err-Memory-clause-stopped : goal.returns-in-Err-Memory-clause-stopped

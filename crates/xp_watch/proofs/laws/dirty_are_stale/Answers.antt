@@ -3,4 +3,4 @@ use Rattle.xp_watch.proofs.EditLemmas.{dirty_stale}
 use Rattle.xp_watch.proofs.laws.dirty_are_stale.Goals as goal
 
 pub returns : goal.returns
-returns c = dirty_stale c.alike_are_touched_alike.ensures
+returns c = dirty_stale c.held_is_touched_alike.ensures

@@ -20,7 +20,9 @@ pub invariant_of-self : goal.invariant_of-self
 invariant_of-self c =
     let before = c.self.inside in
     let touched = touched_by before.tree.nodes c.args.command.now in
-    let marks = marks-same touched (holds_cell c.apply_to.new.tree.nodes c.in-Ok.touched) (seen_in before.kept) (seen_in c.mark.new.self) c.in-Ok.ensures.touched c.mark.ensures.marks in
+    let marks = marks-same c.names_are_touched_alike.ensures.held before.tree.nodes c.apply_to.new.tree.nodes touched
+    (holds_cell c.apply_to.new.tree.nodes c.in-Ok.touched)
+    (seen_in before.kept) (seen_in c.mark.new.self) c.laws.ensures.well_formed c.in-Ok.ensures.edit c.in-Ok.ensures.touched c.mark.ensures.marks in
     record {
       sound = c.self.invariant.sound;
       typed = c.self.invariant.typed;
@@ -38,15 +40,19 @@ invariant_of-self c =
 pub returns-in-Ok-clause-marked : goal.returns-in-Ok-clause-marked
 returns-in-Ok-clause-marked c =
     let before = c.self.inside in
-    subst (λ (s : Standing). Marks (touched_by s.tree.nodes c.args.command.now) (seen_by s) (seen_in c.mark.new.self)) c.self.view_is
-    (marks-same (touched_by before.tree.nodes c.args.command.now) (holds_cell c.apply_to.new.tree.nodes c.in-Ok.touched) (seen_in before.kept) (seen_in c.mark.new.self) c.in-Ok.ensures.touched
-    c.mark.ensures.marks)
+    subst (λ (s : Standing). Marks s.tree.nodes (touched_by s.tree.nodes c.args.command.now) (seen_by s) (seen_in c.mark.new.self)) c.self.view_is
+    (marks-same c.names_are_touched_alike.ensures.held before.tree.nodes c.apply_to.new.tree.nodes (touched_by before.tree.nodes c.args.command.now)
+    (holds_cell c.apply_to.new.tree.nodes c.in-Ok.touched) (seen_in before.kept) (seen_in c.mark.new.self) c.laws.ensures.well_formed
+    c.in-Ok.ensures.edit
+    c.in-Ok.ensures.touched c.mark.ensures.marks)
 
 pub returns-in-Ok-clause-dirty : goal.returns-in-Ok-clause-dirty
 returns-in-Ok-clause-dirty c =
     let before = c.self.inside in
     let touched = touched_by before.tree.nodes c.args.command.now in
-    let marks = marks-same touched (holds_cell c.apply_to.new.tree.nodes c.in-Ok.touched) (seen_in before.kept) (seen_in c.mark.new.self) c.in-Ok.ensures.touched c.mark.ensures.marks in
+    let marks = marks-same c.names_are_touched_alike.ensures.held before.tree.nodes c.apply_to.new.tree.nodes touched
+    (holds_cell c.apply_to.new.tree.nodes c.in-Ok.touched)
+    (seen_in before.kept) (seen_in c.mark.new.self) c.laws.ensures.well_formed c.in-Ok.ensures.edit c.in-Ok.ensures.touched c.mark.ensures.marks in
     subst (λ (s : Standing). IsFresh s.plan s.tree.nodes (seen_by s) →
     to_run s.plan c.apply_to.new.tree.nodes (seen_in c.mark.new.self) ≡ dirty_units s.plan s.tree.nodes c.apply_to.new.tree.nodes (touched_by s.tree.nodes c.args.command.now)) c.self.view_is
     (dirty-edited c.dirty_are_run.ensures.all before.plan before.tree.nodes c.apply_to.new.tree.nodes touched (seen_in before.kept) (seen_in c.mark.new.self)

@@ -19,9 +19,9 @@ keep-requires-clause-known c = ap is_none c.in_ok-lets.ensures
 
 pub returns-clause-puts : goal.returns-clause-puts
 returns-clause-puts c =
-    put_ok c.keep.result c.args.self.now c.forget.new.self c.keep.new.self c.args.place c.cells.result.now c.lets-slots.result.now
+    put_ok c.keep.result c.args.self.now c.forget.new.self c.keep.new.self c.args.place c.cells.result.now c.names.result.now c.lets-slots.result.now
     (slots_of c.in_ok-lets.lets) c.settle_many.new.reads c.args.reads
-    c.forget.ensures c.keep.ensures.kept c.in_ok-lets.ensures c.cells.ensures c.lets-slots.ensures c.settle_many.ensures
+    c.forget.ensures c.keep.ensures.kept c.in_ok-lets.ensures c.cells.ensures c.names.ensures c.lets-slots.ensures c.settle_many.ensures
 
 pub returns-clause-forgets : goal.returns-clause-forgets
 returns-clause-forgets c = put_err c.keep.result c.forget.new.self c.keep.new.self _ c.forget.ensures c.keep.ensures.unchanged

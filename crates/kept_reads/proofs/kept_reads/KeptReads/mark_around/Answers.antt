@@ -5,6 +5,7 @@ use Rattle.kept_reads.proofs.kept_reads.KeptReads.mark_around.Goals as goal
 
 pub returns : goal.returns
 returns c =
-    drops_then (holds_cell c.args.at.now.tree.now.nodes c.args.at.now.touched.now) c.args.at.now.width _ _ c.args.self.now c.mark_readers.new.self
+    drops_then c.args.at.now.tree.now.nodes (holds_cell c.args.at.now.tree.now.nodes c.args.at.now.touched.now) c.args.at.now.width _ _
+    c.args.self.now c.mark_readers.new.self
     c.mark_shape.new.self
     c.mark_readers.ensures c.mark_shape.ensures

@@ -7,8 +7,9 @@ pub returns : goal.returns
 returns c =
     let touched = holds_cell c.args.at.now.tree.now.nodes c.args.at.now.touched.now in
     let width = c.args.at.now.width in
-    drops_then touched width _ _ c.args.self.now c.mark_above.new.self c.mark_left.new.self
-    (drops_then touched width _ _ c.args.self.now c.mark_around.new.self c.mark_above.new.self
-    (drops_then touched width _ _ c.args.self.now c.mark_readers.new.self c.mark_around.new.self c.mark_readers.ensures c.mark_around.ensures)
+    drops_then c.args.at.now.tree.now.nodes touched width _ _ c.args.self.now c.mark_above.new.self c.mark_left.new.self
+    (drops_then c.args.at.now.tree.now.nodes touched width _ _ c.args.self.now c.mark_around.new.self c.mark_above.new.self
+    (drops_then c.args.at.now.tree.now.nodes touched width _ _ c.args.self.now c.mark_readers.new.self c.mark_around.new.self c.mark_readers.ensures
+    c.mark_around.ensures)
     c.mark_above.ensures)
     c.mark_left.ensures

@@ -1,13 +1,12 @@
 -- What is left of what was read is alike to it.
 use Rattle.std.proofs.lemmas.Result.{on_ok_weaker}
-use Rattle.kept_units.proofs.EvaluatingLemmas.{alike_held}
 use Rattle.kept_units.proofs.kept_units.KeptUnits.keep_let.Goals as goal
 
 pub returns-in-Ok-clause-keeps : goal.returns-in-Ok-clause-keeps
 returns-in-Ok-clause-keeps c = on_ok_weaker c.set_let.result
     (λ sets. record {
       held = c.in-Ok.held;
-      alike = alike_held c.args.run.now.caller.tree.now.nodes c.in-Ok.held c.args.kept.reads c.in-Ok.ensures.lets c.in-Ok.ensures.alike;
+      alike = c.in-Ok.ensures.alike;
       sets = sets;
     })
     c.set_let.ensures.sets

@@ -1,14 +1,12 @@
 -- What is left of what was read is alike to it.
 use Rattle.std.proofs.lemmas.Result.{on_ok_weaker}
-use Rattle.kept_units.proofs.EvaluatingLemmas.{alike_held}
 use Rattle.kept_units.proofs.kept_units.KeptUnits.keep_pair.Goals as goal
 
 pub returns-in-Ok-clause-keeps : goal.returns-in-Ok-clause-keeps
 returns-in-Ok-clause-keeps c = on_ok_weaker c.put_pair.result
     (λ puts. record {
       held = c.in-Ok.held;
-      alike = alike_held c.args.at.now.run.caller.tree.now.nodes c.in-Ok.held c.args.kept.reads c.in-Ok.ensures.lets
-          c.in-Ok.ensures.alike;
+      alike = c.in-Ok.ensures.alike;
       puts = puts;
     })
     c.put_pair.ensures.puts

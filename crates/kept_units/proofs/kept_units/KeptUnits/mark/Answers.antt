@@ -6,7 +6,8 @@ use Rattle.kept_units.proofs.kept_units.KeptUnits.mark.Goals as goal
 
 pub returns-clause-marks : goal.returns-clause-marks
 returns-clause-marks c =
-    marks_seen (holds_cell c.args.tree.now.nodes c.args.touched.now) c.args.self.now _ c.patterns-patterns.result refl refl c.mark.ensures
+    marks_seen c.args.tree.now.nodes (holds_cell c.args.tree.now.nodes c.args.touched.now) c.args.self.now _ c.patterns-patterns.result refl refl
+    c.mark.ensures
     c.mark-2.ensures
 
 pub returns-clause-held : goal.returns-clause-held

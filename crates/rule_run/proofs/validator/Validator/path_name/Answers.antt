@@ -1,12 +1,8 @@
 use Rattle.std.proofs.Common.{ap, sym}
-use Rattle.doc_tree.specs.QNames.{written_in}
-use Rattle.xp_outcome.specs.Evaluation.{done}
 use Rattle.xp_outcome.proofs.Runs.{ran_alike, ran_bind, ran_stop}
-use Rattle.xp_values.specs.declared.values.EvalFault.{EvalFault}
 use Rattle.xp_meaning.proofs.Exits.{exit_same}
 use Rattle.xp_meaning.specs.Functions.{named_node}
-use Rattle.xp_meaning.specs.Names.{name_at}
-use Rattle.sch_units.specs.Messages.{alone}
+use Rattle.sch_units.specs.Messages.{alone, written_name}
 use Rattle.rule_run.proofs.validator.Validator.path_name.Goals as goal
 
 pub returns-in_err-value : goal.returns-in_err-value
@@ -15,4 +11,6 @@ returns-in_err-value g c = exit_same _ _ c.from_residual.ensures.1 (ran_stop _ _
 pub returns : goal.returns
 returns g c =
     ran_bind _ c.in_ok-value.ensures
-    (ran_alike (ap (λ vs. done {F = EvalFault} (written_in (name_at c.args.self.now.caller.tree.now.nodes (named_node (alone c.args.self.now.node) vs)))) (sym c.from_ref.ensures.value)) c.name_for-name.ensures)
+    (ran_alike
+    (ap (λ vs. written_name c.args.self.now.caller.tree.now.nodes (named_node (alone c.args.self.now.node) vs)) (sym c.from_ref.ensures.value))
+    c.name_for-name.ensures)

@@ -14,6 +14,7 @@ use Rattle.undo_entries.specs.declared.entry.Entry.{Entry}
 use Rattle.history_laws.specs.Histories.{LeadsBack, StandsFor}
 use Rattle.sch_undo.specs.declared.history.TheConstants.{MAX_UNDO_DEPTH}
 use Rattle.sch_undo.specs.Remembered.{Remembered, Remembers}
+use Rattle.sch_undo.proofs.NameLemmas.{pushed-names}
 use Rattle.sch_undo.proofs.UndoLemmas.{edited-stands, entry-leads, refuses-edit, seen, was-remembered}
 use Rattle.sch_undo.proofs.history.History.apply.Goals as goal
 
@@ -29,6 +30,8 @@ invariant_of-self c =
       some = subst (λ (b : Buffer Entry). 1 ≤ b.capacity) (sym c.push_front.ensures.items) c.self.invariant.some;
       few = subst (λ (b : Buffer Entry). b.capacity ≤ MAX_UNDO_DEPTH) (sym c.push_front.ensures.items) c.self.invariant.few;
       scoped = c.in-Ok.ensures.scope c.self.invariant.scoped;
+      names = pushed-names before.session.tree.nodes c.args.command.now before.entries c.push_front.new.self c.in_ok-entry.entry c.in_ok-entry.ensures.commands
+          c.push_front.ensures.items c.self.invariant.names;
       trees = take before.entries.capacity (before.session.tree ∷ c.self.invariant.trees);
       stand = edited-stands c.histories_stand.ensures before.session.tree c.apply.new.self.tree before.entries c.push_front.new.self
           c.in_ok-entry.entry c.self.invariant.trees leads c.push_front.ensures.items c.self.invariant.stand;
@@ -61,7 +64,7 @@ returns-in-Ok-clause-edit c =
 
 pub returns-in-Ok-clause-marked : goal.returns-in-Ok-clause-marked
 returns-in-Ok-clause-marked c =
-    subst (λ (h : Remembered). Marks (touched_by h.session.tree.nodes c.args.command.now) (seen_by h.session) (seen_by c.apply.new.self)) c.self.view_is
+    subst (λ (h : Remembered). Marks h.session.tree.nodes (touched_by h.session.tree.nodes c.args.command.now) (seen_by h.session) (seen_by c.apply.new.self)) c.self.view_is
     c.in-Ok.ensures.marked
 
 pub returns-in-Ok-clause-dirty : goal.returns-in-Ok-clause-dirty
@@ -80,6 +83,7 @@ invariant_of-self-in-Err c =
       some = c.self.invariant.some;
       few = c.self.invariant.few;
       scoped = subst (λ (s : Standing). InScope s.tree.nodes) same c.self.invariant.scoped;
+      names = c.self.invariant.names;
       trees = c.self.invariant.trees;
       stand = subst (λ (s : Standing). StandsFor s.tree before.entries.items c.self.invariant.trees) same c.self.invariant.stand;
     }

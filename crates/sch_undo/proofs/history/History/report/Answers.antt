@@ -15,6 +15,7 @@ invariant_of-self g c = record {
   some = c.self.invariant.some;
   few = c.self.invariant.few;
   scoped = subst (λ (tree : Contents). InScope tree.nodes) (sym c.report.ensures.tree) c.self.invariant.scoped;
+  names = c.self.invariant.names;
   trees = c.self.invariant.trees;
   stand = subst (λ (tree : Contents). StandsFor tree c.self.inside.entries.items c.self.invariant.trees) (sym c.report.ensures.tree) c.self.invariant.stand;
 }

@@ -1,6 +1,7 @@
 -- The newest entry leads back, and the others stand then for the older trees.
 use Rattle.std.proofs.Common.{◌≡◌, ◌∙◌, ◌+◌, ◌<◌, ◌≤◌, List, [], ◌∷◌, length, Option, None, Some, ap, subst, sym, arith}
 use Rattle.std.specs.Prelude.{All, slice_get}
+use Rattle.std.proofs.lemmas.List.Elements.{All-nil, All-rest}
 use Rattle.circular_buffer.specs.Buffer.{Buffer}
 use Rattle.doc_tree.specs.SameTree.{SameTree}
 use Rattle.doc_tree.specs.Table.{Contents}
@@ -14,7 +15,9 @@ use Rattle.undo_entries.specs.declared.entry.Entry.{Entry}
 use Rattle.history_laws.specs.Histories.{StandsFor}
 use Rattle.sch_undo.specs.declared.history.TheConstants.{MAX_UNDO_DEPTH}
 use Rattle.sch_undo.specs.Remembered.{Newest, Remembered, RunsDirty, StoppedIn, Undone}
-use Rattle.sch_undo.specs.inner.Doing.{Did, Stopped}
+use Rattle.sch_undo.specs.inner.Doing.{Did, NamesFirst, Stopped}
+use Rattle.sch_undo.specs.inner.Held.{NamesComeFirst}
+use Rattle.sch_undo.proofs.NameLemmas.{front-names}
 use Rattle.sch_undo.proofs.UndoLemmas.{front-can, in-front, lacks-numbers, newest-number, none-kept, ran-dirty, rest-stands, seen, shows-back, was-stopped, was-undone, went-back}
 use Rattle.sch_undo.proofs.history.History.undo.Goals as goal
 
@@ -55,6 +58,15 @@ do_all-done-requires-clause-free c =
     (front-can before.session before.session before.entries c.pop_front.new.self entry there c.pop_front.ensures.items c.self.invariant.trees
     c.self.invariant.stand room).1
 
+pub do_all-done-requires-clause-names : goal.do_all-done-requires-clause-names
+do_all-done-requires-clause-names c =
+    let before = c.self.inside in
+    let entry : Entry = c.in-Some-pop_front.newest in
+    let there : slice_get before.entries.items 0 ≡ Some entry = sym c.in-Some-pop_front.ensures.value in
+    subst NamesFirst (sym c.as_slice.ensures)
+    (front-names entry before.entries.items c.pop_front.new.self.items
+    (in-front before.session before.session before.entries c.pop_front.new.self entry there c.pop_front.ensures.items) c.self.invariant.names)
+
 pub invariant_of-self : goal.invariant_of-self
 invariant_of-self c =
     let before = c.self.inside in
@@ -72,6 +84,8 @@ invariant_of-self c =
       some = subst (λ (b : Buffer Entry). 1 ≤ b.capacity) (sym c.pop_front.ensures.items) c.self.invariant.some;
       few = subst (λ (b : Buffer Entry). b.capacity ≤ MAX_UNDO_DEPTH) (sym c.pop_front.ensures.items) c.self.invariant.few;
       scoped = did.scope c.self.invariant.scoped;
+      names = All-rest NamesComeFirst entry c.pop_front.new.self.items before.entries.items
+          (in-front before.session before.session before.entries c.pop_front.new.self entry there c.pop_front.ensures.items) c.self.invariant.names;
       trees = rest.0.0;
       stand = rest.0.1;
     }
@@ -167,6 +181,7 @@ invariant_of-self-in-Err c =
       few = subst (λ (b : Buffer Entry). b.capacity ≤ MAX_UNDO_DEPTH) (sym c.clear.ensures)
           (subst (λ (b : Buffer Entry). b.capacity ≤ MAX_UNDO_DEPTH) (sym c.pop_front.ensures.items) c.self.invariant.few);
       scoped = stopped.did.scope c.self.invariant.scoped;
+      names = subst (λ (b : Buffer Entry). All NamesComeFirst b.items) (sym c.clear.ensures) (All-nil NamesComeFirst);
       trees = [];
       stand = subst (λ (b : Buffer Entry). StandsFor after.tree b.items []) (sym c.clear.ensures) tt;
     }

@@ -26,13 +26,13 @@ unreachable-requires g c =
     absurd (no_other c.args.function c.requires d.not-LocalName d.not-NamespaceUri d.not-Name d.not-String d.not-Concat d.not-SubstringBefore d.not-SubstringAfter d.not-Substring d.not-NormalizeSpace d.not-Translate)
 
 pub returns-in-LocalName : goal.returns-in-LocalName
-returns-in-LocalName g c = rw c.in-LocalName.is (ran_given _ _ _ _ c.local_name.ensures)
+returns-in-LocalName g c = rw c.in-LocalName.is (c.local_name.ensures _)
 
 pub returns-in-NamespaceUri : goal.returns-in-NamespaceUri
-returns-in-NamespaceUri g c = rw c.in-NamespaceUri.is (ran_given _ _ _ _ c.namespace_uri.ensures)
+returns-in-NamespaceUri g c = rw c.in-NamespaceUri.is (c.namespace_uri.ensures _)
 
 pub returns-in-Name : goal.returns-in-Name
-returns-in-Name g c = rw c.in-Name.is (ran_given _ _ _ _ c.name.ensures)
+returns-in-Name g c = rw c.in-Name.is (c.name.ensures _)
 
 pub returns-in-String : goal.returns-in-String
 returns-in-String g c = rw c.in-String.is c.string.ensures

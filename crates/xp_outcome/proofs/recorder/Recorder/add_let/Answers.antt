@@ -9,6 +9,7 @@ pub returns-clause-noted : goal.returns-clause-noted
 returns-clause-noted c = on_ok c.add.result
     (λ more i. record {
       cells = ap (λ held. held.cells) c.self.view_is i;
+      names = ap (λ held. held.names) c.self.view_is i;
       lets = (one_more nat_cmp_total nat_cmp-IsAntisymmetric _ (λ x y h. search rules) _ _ _ more ∙ ap (λ held. insert held.lets c.args.slot) c.self.view_is) i;
     }) c.add.ensures.added
 
@@ -16,5 +17,6 @@ pub returns-clause-unchanged : goal.returns-clause-unchanged
 returns-clause-unchanged c = on_err c.add.result
     (λ alike i. record {
       cells = ap (λ held. held.cells) c.self.view_is i;
+      names = ap (λ held. held.names) c.self.view_is i;
       lets = (same_items nat_cmp_total nat_cmp-IsAntisymmetric _ (λ x y h. search rules) _ _ alike ∙ ap (λ held. held.lets) c.self.view_is) i;
     }) c.add.ensures.unchanged

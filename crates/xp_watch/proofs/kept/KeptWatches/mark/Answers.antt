@@ -7,7 +7,8 @@ use Rattle.xp_watch.proofs.kept.KeptWatches.mark.Goals as goal
 
 pub returns-clause-marks : goal.returns-clause-marks
 returns-clause-marks c =
-    marks_kept (holds_cell c.args.tree.now.nodes c.args.touched.now) c.args.self.now.reads c.mark.new.self (held_by c.args.self.now) _ refl refl refl
+    marks_kept c.args.tree.now.nodes (holds_cell c.args.tree.now.nodes c.args.touched.now) c.args.self.now.reads c.mark.new.self
+    (held_by c.args.self.now) _ refl refl refl
     c.mark.ensures
 
 pub returns-clause-reads : goal.returns-clause-reads

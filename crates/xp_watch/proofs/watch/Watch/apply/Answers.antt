@@ -13,7 +13,9 @@ pub invariant_of-self : goal.invariant_of-self
 invariant_of-self c =
     let before = c.self.inside in
     let touched = touched_by before.tree.nodes c.args.command.now in
-    let marks = marks_same touched (holds_cell c.apply_to.new.tree.nodes c.in-Ok.touched) (held_by before.kept) (held_by c.mark.new.self)
+    let marks = marks_same c.names_are_touched_alike.ensures.held before.tree.nodes c.apply_to.new.tree.nodes touched
+    (holds_cell c.apply_to.new.tree.nodes c.in-Ok.touched) (held_by before.kept) (held_by c.mark.new.self) c.laws.ensures.well_formed
+    c.in-Ok.ensures.edit
     c.in-Ok.ensures.touched c.mark.ensures.marks in
     record {
       document = c.in-Ok.ensures.document;
@@ -26,15 +28,19 @@ invariant_of-self c =
 pub returns-in-Ok-clause-marked : goal.returns-in-Ok-clause-marked
 returns-in-Ok-clause-marked c =
     let before = c.self.inside in
-    subst (λ (s : Watching). Marks (touched_by s.tree.nodes c.args.command.now) s.kept (held_by c.mark.new.self)) c.self.view_is
-    (marks_same (touched_by before.tree.nodes c.args.command.now) (holds_cell c.apply_to.new.tree.nodes c.in-Ok.touched) (held_by before.kept)
-    (held_by c.mark.new.self) c.in-Ok.ensures.touched c.mark.ensures.marks)
+    subst (λ (s : Watching). Marks s.tree.nodes (touched_by s.tree.nodes c.args.command.now) s.kept (held_by c.mark.new.self)) c.self.view_is
+    (marks_same c.names_are_touched_alike.ensures.held before.tree.nodes c.apply_to.new.tree.nodes (touched_by before.tree.nodes c.args.command.now)
+    (holds_cell c.apply_to.new.tree.nodes c.in-Ok.touched) (held_by before.kept) (held_by c.mark.new.self) c.laws.ensures.well_formed
+    c.in-Ok.ensures.edit
+    c.in-Ok.ensures.touched c.mark.ensures.marks)
 
 pub returns-in-Ok-clause-dirty : goal.returns-in-Ok-clause-dirty
 returns-in-Ok-clause-dirty c =
     let before = c.self.inside in
     let touched = touched_by before.tree.nodes c.args.command.now in
-    let marks = marks_same touched (holds_cell c.apply_to.new.tree.nodes c.in-Ok.touched) (held_by before.kept) (held_by c.mark.new.self)
+    let marks = marks_same c.names_are_touched_alike.ensures.held before.tree.nodes c.apply_to.new.tree.nodes touched
+    (holds_cell c.apply_to.new.tree.nodes c.in-Ok.touched) (held_by before.kept) (held_by c.mark.new.self) c.laws.ensures.well_formed
+    c.in-Ok.ensures.edit
     c.in-Ok.ensures.touched c.mark.ensures.marks in
     subst (λ (s : Watching). IsFresh s.tree.nodes s.expressions s.kept →
     stale_watches (held_by c.mark.new.self) s.expressions ≡ dirty_watches s.tree.nodes (touched_by s.tree.nodes c.args.command.now) s.expressions)

@@ -1,0 +1,3 @@
+pub mod Names
+pub mod ReadIndex
+pub mod inner

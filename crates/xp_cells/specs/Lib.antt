@@ -1,0 +1,2 @@
+pub mod EveryCell
+pub mod inner

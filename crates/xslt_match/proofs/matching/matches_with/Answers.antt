@@ -1,0 +1,28 @@
+use Rattle.std.proofs.Common.{◌≡◌, [], ◌∷◌, arith, subst, sym}
+use Rattle.xp_outcome.proofs.Runs.{ran_alike}
+use Rattle.xp_typed_tree.specs.TypedView.{paths_seen}
+use Rattle.xp_typed_tree.specs.WellTyped.{PathsTyped}
+use Rattle.xslt_match.proofs.Chaining.{names_matched, path_there}
+use Rattle.xslt_match.proofs.OnePath.{one_item, path_alone}
+use Rattle.xslt_match.proofs.matching.matches_with.Goals as goal
+
+pub one_path-requires-clause-placed : goal.one_path-requires-clause-placed
+one_path-requires-clause-placed g c = record {
+  there = path_there c.args.pattern.now c.paths.result.now 0 c.path-item.result c.paths.ensures.paths (omega (arith, c.in-len1.len_at_least)) c.path-item.is;
+  typed = (subst (λ ps. PathsTyped (paths_seen ps))
+      (one_item c.paths.result.now c.path-item.result (omega (arith, c.in-len1.len_at_least, c.in-len1.len_below)) c.path-item.is)
+      (subst PathsTyped (sym c.paths.ensures.paths) c.paths.ensures.well_typed)).0;
+}
+
+pub returns-in-len1-clause-ran : goal.returns-in-len1-clause-ran
+returns-in-len1-clause-ran g c =
+    let T = c.args.evaluator.now.caller.tree.now.nodes in
+    let L = c.args.evaluator.now.lets.now in
+    let one : c.paths.result.now ≡ c.path-item.result ∷ [] =
+    one_item c.paths.result.now c.path-item.result (omega (arith, c.in-len1.len_at_least, c.in-len1.len_below)) c.path-item.is in
+    names_matched T L c.args.n c.args.pattern.now c.tick.ensures
+    (ran_alike (path_alone T c.args.n L c.args.pattern.now c.paths.result.now c.path-item.result c.paths.ensures.paths one) c.one_path.ensures.ran)
+
+pub returns-in_default-clause-ran : goal.returns-in_default-clause-ran
+returns-in_default-clause-ran g c =
+    names_matched c.args.evaluator.now.caller.tree.now.nodes c.args.evaluator.now.lets.now c.args.n c.args.pattern.now c.tick.ensures c.several_paths.ensures.ran
