@@ -14,9 +14,8 @@ use Rattle.edit_commands.specs.Commands.{IsEdited, command_refusal}
 use Rattle.edit_command_laws.specs.OneEdit.{OneEdit}
 use Rattle.edit_command_laws.specs.SomeEdit.{EditsMakeTrees}
 use Rattle.edit_command_laws.specs.TreesKept.{EditsKeepTrees}
-use Rattle.sch_cli.specs.Telling.{Telling}
-use Rattle.sch_cli.specs.Following.{under}
-use Rattle.sch_cli.specs.Steps.{EditsCost, at_a_fault, at_the_end, of_edited, of_refused}
+use Rattle.sch_cli.specs.Telling.{Telling, edit_cost, under}
+use Rattle.sch_cli.specs.inner.Scripts.{EditsCost, at_a_fault, at_the_end, of_edited, of_refused}
 use Rattle.sch_cli.specs.inner.Sessions.{Document, HasCost}
 use Rattle.sch_cli.proofs.ScriptCases.{CostsEdited, CostsRefused, costs-onto, refused-or-none}
 
@@ -55,7 +54,7 @@ module _ (telling : Telling) where
         by None none behind =
             let made = makes_trees (under telling T) command tree (All-head WellFormedCommand command commands formed) none in
             let later = behind made.0 (keeps_trees (under telling T) command made.0 tree document none made.1) in
-            (telling.edit_cost T command made.0 + later.0, of_edited T made.0 command (script_with commands fault) later.0 none made.1 later.1)
+            (edit_cost telling T command made.0 + later.0, of_edited T made.0 command (script_with commands fault) later.0 none made.1 later.1)
 
     pub has_cost : (script : Script) (T : Table) → WellFormed T → is_document T ≡ true → All WellFormedCommand script.commands → (cost : ℕ) × EditsCost telling T script cost
     has_cost script = some_cost script.commands script.fault

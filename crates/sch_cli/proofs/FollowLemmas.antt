@@ -31,8 +31,9 @@ use Rattle.sch_stops.specs.declared.refusal.ScriptRefusal.TheVariants as refusal
 use Rattle.sch_words.specs.declared.status.Status.TheVariants as status
 use Rattle.sch_stops.specs.declared.stop.Stop.{Stop}
 use Rattle.sch_stops.specs.declared.stop.Stop.TheVariants.{ScriptRefused, Memory}
-use Rattle.sch_cli.specs.Telling.{Telling}
-use Rattle.sch_cli.specs.Following.{Begins, Follows, comes_to_end, edited, edits, nothing_yet, refused, refuses, stops_at, then_shown, under}
+use Rattle.sch_cli.specs.Telling.{Telling, under}
+use Rattle.sch_cli.specs.Following as undo
+use Rattle.sch_cli.specs.Following.{items_of, then_shown}
 use Rattle.sch_stops.specs.EditLines.{edit_line, refused_line}
 use Rattle.sch_stops.specs.Output.{Output}
 use Rattle.sch_cli.specs.Output.{ended, in_front}
@@ -43,8 +44,10 @@ use Rattle.sch_loading.specs.Stages.{Is, goes, halt_if}
 use Rattle.sch_cli.specs.inner.Followers.{Beginning, Ending, Goes, IsLed, IsReady, IsUndone, Place, in_front_of, treed_by}
 use Rattle.sch_loading.specs.Reads.{EndsAs}
 use Rattle.sch_cli.specs.inner.Carried.{Concludes, Shows}
+use Rattle.sch_cli.specs.inner.Scripts.{Begins, Follows, comes_to_end, edited, edits, nothing_yet, refused, refuses, stops_at}
 use Rattle.sch_cli.specs.inner.Sessions.{Document, HasCost}
 use Rattle.sch_cli.specs.inner.Writing.{IsOfWriting, WroteText}
+use Rattle.sch_cli.proofs.AloneLemmas.{begins-alone, follows-alone}
 use Rattle.sch_cli.proofs.CostLemmas.{costs_same, past_edited, past_refused}
 use Rattle.sch_cli.proofs.EndLemmas.{concludes_behind, memory_writing, on_ok}
 use Rattle.sch_loading.proofs.PartLemmas.{by_cause}
@@ -83,11 +86,13 @@ few_last : (bytes : List ℕ) → length (last_line bytes) ≤ 1
 few_last [] = omega arith
 few_last (b ∷ bytes) = omega arith
 
+-- nor more lines than bytes, but for one
+pub few_lines : (bytes : List ℕ) → length (lines_of bytes) ≤ suc (length bytes)
+few_lines bytes = omega (arith, few_ended bytes, few_last (unended bytes), length-append (ended_lines bytes) (last_line (unended bytes)))
+
 -- a script can be numbered
 pub few_commands : (bytes : List ℕ) → length bytes ≤ MAX_SCRIPT_BYTES → 1 + length (script_of bytes).commands < 2 ^ 64
-few_commands bytes short =
-    let lines : length (lines_of bytes) ≤ suc (length bytes) = omega (arith, few_ended bytes, few_last (unended bytes), length-append (ended_lines bytes) (last_line (unended bytes))) in
-    omega (arith, lines, few_in_lines (lines_of bytes) None 1, short)
+few_commands bytes short = omega (arith, few_lines bytes, few_in_lines (lines_of bytes) None 1, short)
 
 -- Commands
 
@@ -392,18 +397,18 @@ goes_faults before later mid new count stop result is same next = subst (λ (r :
 -- The first state
 
 -- the first state is not written whole
-pub first_stops : (telling : Telling) (T : Table) (bytes : List ℕ) (old new : SinkLog) (stop : Stop) (result : Result Shown Stop) → result ≡ Err stop →
-    WroteText {A = Shown} old new (telling.text T) (Err stop) → Concludes (States telling T bytes) (λ _. ⊥) (BeginsStates telling T bytes) (Appends old.written new.written) result
-first_stops telling T bytes old new stop result is wrote = subst (Concludes (States telling T bytes) (λ _. ⊥) (BeginsStates telling T bytes) (Appends old.written new.written)) (sym is)
-    (by_cause (λ _. ⊥) (λ says. Shows (States telling T bytes) (Appends old.written new.written) says.ends says.err) (λ _. ⊥) (λ name. ⊥ × Appends old.written new.written [])
-    (AppendsFront old.written new.written (telling.text T)) (Fronted (BeginsStates telling T bytes) (Appends old.written new.written))
-    (AppendsFront old.written new.written (telling.text T)) (Appends old.written new.written [] ⊎ Fronted (BeginsStates telling T bytes) (Appends old.written new.written))
+pub first_stops : (telling : Telling) (undos : ℕ) (T : Table) (bytes : List ℕ) (old new : SinkLog) (stop : Stop) (result : Result Shown Stop) → result ≡ Err stop →
+    WroteText {A = Shown} old new (telling.text T) (Err stop) → Concludes (States telling undos T bytes) (λ _. ⊥) (BeginsStates telling undos T bytes) (Appends old.written new.written) result
+first_stops telling undos T bytes old new stop result is wrote = subst (Concludes (States telling undos T bytes) (λ _. ⊥) (BeginsStates telling undos T bytes) (Appends old.written new.written)) (sym is)
+    (by_cause (λ _. ⊥) (λ says. Shows (States telling undos T bytes) (Appends old.written new.written) says.ends says.err) (λ _. ⊥) (λ name. ⊥ × Appends old.written new.written [])
+    (AppendsFront old.written new.written (telling.text T)) (Fronted (BeginsStates telling undos T bytes) (Appends old.written new.written))
+    (AppendsFront old.written new.written (telling.text T)) (Appends old.written new.written [] ⊎ Fronted (BeginsStates telling undos T bytes) (Appends old.written new.written))
     (λ stop no. absurd no) (λ name no. absurd no) front (λ appended. inr (front appended)) stop wrote.told)
   where
-    front : AppendsFront old.written new.written (telling.text T) → Fronted (BeginsStates telling T bytes) (Appends old.written new.written)
+    front : AppendsFront old.written new.written (telling.text T) → Fronted (BeginsStates telling undos T bytes) (Appends old.written new.written)
     front appended = record {
       text = telling.text T ++ [];
-      comes = ([], nothing_yet T 1 (script_of bytes), refl);
+      comes = ([], undo.nothing_yet T [] 1 (items_of undos bytes), refl);
       done = appended.0;
       left = appended.1;
       is_front = append-nil (telling.text T) ∙ appended.2;
@@ -413,20 +418,22 @@ first_stops telling T bytes old new stop result is wrote = subst (Concludes (Sta
 -- and behind it stands what comes of the commands
 pub first_then : (telling : Telling) (T : Table) (bytes : List ℕ) (old mid new : SinkLog) (first : Place) → IsPlace first telling T 1 (script_of bytes) → first.seen ≡ telling.shows T →
     Appends old.written mid.written (telling.text T) → (result : Result Shown Stop) →
-    Concludes (Ending first) (λ _. ⊥) (Beginning first) (Appends mid.written new.written) result → Concludes (States telling T bytes) (λ _. ⊥) (BeginsStates telling T bytes) (Appends old.written new.written) result
-first_then telling T bytes old mid new first place seen out = concludes_behind (Ending first) (States telling T bytes) (Beginning first) (BeginsStates telling T bytes) old.written mid.written new.written (telling.text T) out
+    Concludes (Ending first) (λ _. ⊥) (Beginning first) (Appends mid.written new.written) result → Concludes (States telling 0 T bytes) (λ _. ⊥) (BeginsStates telling 0 T bytes) (Appends old.written new.written) result
+first_then telling T bytes old mid new first place seen out = concludes_behind (Ending first) (States telling 0 T bytes) (Beginning first) (BeginsStates telling 0 T bytes) old.written mid.written new.written (telling.text T) out
     (λ output follows. (
       output,
-      follows_same first.session.telling telling first.session.tree.nodes T first.number 1 first.seen (telling.shows T) first.script (script_of bytes) output
-          place.telling_is place.tree_is place.number_is seen place.rest_is follows,
+      follows-alone telling T 1 (telling.shows T) (script_of bytes) output
+          (follows_same first.session.telling telling first.session.tree.nodes T first.number 1 first.seen (telling.shows T) first.script (script_of bytes) output
+          place.telling_is place.tree_is place.number_is seen place.rest_is follows),
       refl,
     ))
     (λ more begins. (
       more,
-      begins_same first.session.telling telling first.session.tree.nodes T first.number 1 first.script (script_of bytes) more place.telling_is place.tree_is place.number_is place.rest_is begins,
+      begins-alone telling T 1 (script_of bytes) more
+          (begins_same first.session.telling telling first.session.tree.nodes T first.number 1 first.script (script_of bytes) more place.telling_is place.tree_is place.number_is place.rest_is begins),
       refl,
     ))
-    ([], nothing_yet T 1 (script_of bytes), refl)
+    ([], undo.nothing_yet T [] 1 (items_of 0 bytes), refl)
 
 -- a document that was opened under a plan
 pub opened_under : (plan : Plan) (tree : Contents) (session : Standing) → session.plan ≡ plan → session.tree.nodes ≡ tree.nodes →

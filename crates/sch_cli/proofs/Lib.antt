@@ -10,3 +10,7 @@ pub mod SessionLemmas
 pub mod StepLemmas
 pub mod MeasureLemmas
 pub mod WatchLemmas
+pub mod AloneLemmas
+pub mod WayLemmas
+pub mod ItemLemmas
+pub mod UndoLemmas

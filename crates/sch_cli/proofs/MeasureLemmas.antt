@@ -38,7 +38,7 @@ use Rattle.sch_loading.specs.Reads.{Reads}
 use Rattle.sch_loading.specs.Stages.{goes}
 use Rattle.sch_loading.proofs.PartLemmas.{reads_none, reads_nothing}
 use Rattle.sch_cli.specs.Behaviours.{Making, Measures, MeasuresText, OpeningAll, States}
-use Rattle.sch_cli.specs.Following.{Follows, comes_to_end, stops_at, then_shown}
+use Rattle.sch_cli.specs.Following.{then_shown}
 use Rattle.sch_cli.specs.Measuring.{LeadsTo, measure_text, measured_as, past_edited, past_refused, to_a_fault, to_the_end}
 use Rattle.sch_cli.specs.Output.{ended, in_front, status_shown}
 use Rattle.sch_cli.specs.Steps.{CountsAtMost}
@@ -47,11 +47,13 @@ use Rattle.sch_cli.specs.inner.Carried.{Concludes}
 use Rattle.sch_cli.specs.inner.Counts.{CountsAlong, RoseFor}
 use Rattle.sch_cli.specs.inner.Followers.{Ending, Place, in_front_of, scripted_by}
 use Rattle.sch_cli.specs.inner.Measurers.{ConcludesMeasure, IsUnderWay, Moved, MovesTo, RestMeasured, StopsAt, is_fault, measured_of, place_at, text_of_both}
+use Rattle.sch_cli.specs.inner.Scripts.{Follows, comes_to_end, stops_at}
 use Rattle.sch_cli.specs.inner.Sessions.{Document, HasCost, IsEvaluated, LeavesDirty, ScriptCost, document_of, next_cost}
-use Rattle.sch_cli.specs.inner.Writing.{IsOfWriting, WroteText}
+use Rattle.sch_cli.specs.inner.Writing.{IsOfWriting}
 use Rattle.sch_cli.specs.declared.following.Scripted.{Scripted}
 use Rattle.sch_cli.specs.declared.measuring.Measured.{Measured}
 use Rattle.sch_cli.specs.declared.measuring.Measurer.{Measurer}
+use Rattle.sch_cli.proofs.AloneLemmas.{follows-alone}
 use Rattle.sch_cli.proofs.EndLemmas.{text_ends}
 use Rattle.sch_cli.proofs.FollowLemmas.{IsPlace, follows_same, led_edited, led_on, led_refused, led_same, next_command, refusal_under}
 use Rattle.sch_cli.proofs.StepLemmas.{ahead_none, ahead_on, costed_edited, costed_on, costed_refused, costed_to_next, not_costed}
@@ -242,11 +244,12 @@ costs-next session script mid next command is says = subst (HasCost session) (ne
 
 -- what comes of following the script, once it was gone through or has a fault
 module _ (plan : Plan) (T : Table) (bytes : List ℕ) (first : Place) (place : IsPlace first (by_plan plan) T 1 (script_of bytes)) (seen : first.seen ≡ shows plan T) where
-  followed : (later : Place) (before after : ℕ) (moved : Moved first later before after) (output : Output) → Ending later output → States (by_plan plan) T bytes (in_front (state_text plan T) (in_front moved.text output))
+  followed : (later : Place) (before after : ℕ) (moved : Moved first later before after) (output : Output) → Ending later output → States (by_plan plan) 0 T bytes (in_front (state_text plan T) (in_front moved.text output))
   followed later before after moved output ends = (
     in_front moved.text output,
-    follows_same first.session.telling (by_plan plan) first.session.tree.nodes T first.number 1 first.seen (shows plan T) first.script (script_of bytes) (in_front moved.text output)
-        place.telling_is place.tree_is place.number_is seen place.rest_is (moved.led.ends output ends),
+    follows-alone (by_plan plan) T 1 (shows plan T) (script_of bytes) (in_front moved.text output)
+        (follows_same first.session.telling (by_plan plan) first.session.tree.nodes T first.number 1 first.seen (shows plan T) first.script (script_of bytes) (in_front moved.text output)
+        place.telling_is place.tree_is place.number_is seen place.rest_is (moved.led.ends output ends)),
     refl,
   )
 

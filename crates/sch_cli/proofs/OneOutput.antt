@@ -1,5 +1,5 @@
 -- The words and the files decide the output: at each stage one thing alone may come of it.
-use Rattle.std.proofs.Common.{◌≡◌, ◌⊎◌, ℕ, ◌+◌, List, [], ◌∷◌, ◌++◌, Option, None, Some, Result, Ok, Err, refl, sym, ap, ◌∙◌, subst, ⊎_elim}
+use Rattle.std.proofs.Common.{◌≡◌, ◌⊎◌, ℕ, ◌+◌, List, [], ◌∷◌, ◌++◌, take, Option, None, Some, Result, Ok, Err, refl, sym, ap, ◌∙◌, subst, ⊎_elim, arith}
 use Rattle.std.specs.FinMap.{get}
 use Rattle.sch_io.specs.Files.{Files}
 use Rattle.sch_io.specs.declared.reading.TheConstants.{MAX_FILE_BYTES}
@@ -8,12 +8,14 @@ use Rattle.pyx_core.specs.Nesting.{bare}
 use Rattle.pyx_core.specs.Reading.{events_of}
 use Rattle.doc_tree.specs.Table.{Table}
 use Rattle.doc_tree.specs.declared.refusal.EditRefusal.{EditRefusal}
-use Rattle.edit_script.specs.Script.{Script, nothing, onto, script_of, stops}
+use Rattle.doc_tree.specs.declared.refusal.EditRefusal.TheVariants.{IdsSpent}
+use Rattle.edit_script.specs.Script.{Script, script_of}
+use Rattle.edit_script.specs.Undos as item
 use Rattle.edit_script.specs.declared.command.Command.{Command as EditCommand}
-use Rattle.edit_script.specs.declared.fault.ScriptFault.{ScriptFault}
 use Rattle.edit_script.specs.declared.limits.TheConstants.{MAX_SCRIPT_BYTES}
 use Rattle.edit_commands.specs.Commands.{IsEdited, command_refusal}
 use Rattle.edit_command_laws.specs.OneEdit.{OneEdit}
+use Rattle.history_laws.proofs.HistoryLemmas.{one-end as one-made}
 use Rattle.sch_include.specs.declared.fault.IncludeFault.{IncludeFault}
 use Rattle.sch_include.specs.declared.fault.IncludeKind.{IncludeKind}
 use Rattle.sch_include.specs.Included.{HasFailed, OneInclusion}
@@ -33,27 +35,25 @@ use Rattle.sch_plan.specs.OnePlan.{OnePlan}
 use Rattle.edit_session.specs.Pairs.{has_too_many_pairs}
 use Rattle.edit_session.specs.declared.state.Shown.{Shown}
 use Rattle.sch_stops.specs.declared.refusal.FileRefusal.TheVariants.{TooLarge}
-use Rattle.sch_stops.specs.declared.refusal.ScriptRefusal.TheVariants as script
-use Rattle.sch_words.specs.declared.status.Status.TheVariants.{ScriptRefused, Usage}
-use Rattle.sch_stops.specs.Refusals.{script_refused_line}
+use Rattle.sch_words.specs.declared.status.Status.TheVariants.{Usage}
 use Rattle.sch_measure.specs.Shelf.{measure_files}
 use Rattle.sch_measure.specs.declared.shelf.TheConstants.{SCHEMA_NAME, DOCUMENT_NAME, SCRIPT_NAME}
 use Rattle.xp_typed_tree.specs.TypedTree.{TypedTree}
 use Rattle.watch_lines.specs.Watches.{WatchesAre}
 use Rattle.watch_lines_laws.specs.Reading.{OneReading}
 use Rattle.sch_stops.specs.declared.watches.WatchesRefusal.TheVariants as watches
-use Rattle.sch_cli.specs.Telling.{Telling, by_plan, by_watches}
+use Rattle.sch_cli.specs.Telling.{Telling, by_plan, by_watches, under}
 use Rattle.sch_cli.specs.Behaviours.{Any, Apart, IsEnd, IsOutput, Making, Measures, Opening, OpeningAll, OpeningWatch, States, Treeing, WatchingAll, WatchingOn, asked_by, behaviour, too_many_pairs, tree_under, watched_on}
 use Rattle.sch_cli.specs.Measuring.{LeadsTo, measure_text, measured_as, past_edited, past_refused, to_a_fault, to_the_end}
 use Rattle.sch_words.specs.Commands.{Command, tell, expand, validate, follow, measure, summarize, watch, command_of, default_phase}
 use Rattle.sch_loading.specs.Documents.{IsDocument, IsParsed}
-use Rattle.sch_cli.specs.Following.{Follows, comes_to_end, edits, refuses, stops_at, then_shown, under}
-use Rattle.sch_stops.specs.EditLines.{edit_line, refused_line}
+use Rattle.sch_cli.specs.Following.{Earlier, Follows, IsTakenBack, comes_to_end, earlier_of, edits, has_no_history, items_of, lacks_numbers, refuses, stops_at, then_shown, undoes}
+use Rattle.sch_stops.specs.EditLines.{edit_line, no_history_line, refused_line, undo_line}
 use Rattle.sch_loading.specs.Loading.{Compiling, Expanding, Expressing, Fetching, Flattening, Inclusion, Loading, Parsing, Planning, Reading, Reporting, Saying, Scripting, Watching, as_script, at_include, expressions, held_under, included, parsed, planned, refused_document, refused_report, refused_rule, refused_watches}
 use Rattle.sch_stops.specs.Output.{Output, stopped, usage_line}
 use Rattle.sch_cli.specs.Output.{expanded, in_front, notice_output, state, summed_up}
 use Rattle.sch_loading.specs.Stages.{Came, Is, Stage, Then, goes, halt_at, halt_if, halts, unread}
-use Rattle.sch_cli.proofs.ScriptCases.{command-same, ends-or-goes, ends-or-stops, refused-or-none, refused-same, stops-or-goes}
+use Rattle.sch_cli.proofs.ScriptCases.{command-same, ends-or-goes, refused-or-none, refused-same, stops-or-goes}
 use Rattle.sch_loading.proofs.StageLemmas.{IsDecided, Single, no_unread, one-by, one-is, one-then}
 
 -- a file is one tree, or has one first fault
@@ -63,47 +63,51 @@ no-fault bytes T fault d is = let none : doc_fault bytes ≡ None = d.sound in c
 same-fault : (bytes : List ℕ) (fault other : DocFault) → doc_fault bytes ≡ Some fault → doc_fault bytes ≡ Some other → fault ≡ other
 same-fault bytes fault other p q = cc
 
--- a script that stops has one fault
-fault-same : (fault other : ScriptFault) → stops fault ≡ stops other → fault ≡ other
-fault-same fault other same = let faults : Some fault ≡ Some other = ap (λ (s : Script). s.fault) same in cc
-
 -- what follows from a place is one output
-module _ (one_edit : OneEdit) (telling : Telling) where
-  one-follows : (T : Table) (n : ℕ) (seen : Shown) (script other : Script) (a b : Output) → script ≡ other → Follows telling T n seen script a → Follows telling T n seen other b → a ≡ b
-  one-follows T n seen _ _ _ _ same (comes_to_end _ _ _) (comes_to_end _ _ _) = refl
-  one-follows T n seen _ _ _ _ same (comes_to_end _ _ _) (stops_at _ _ _ fault) = absurd (ends-or-stops fault same)
-  one-follows T n seen _ _ _ _ same (comes_to_end _ _ _) (refuses _ _ _ command reason rest output some follows) = absurd (ends-or-goes command rest same)
-  one-follows T n seen _ _ _ _ same (comes_to_end _ _ _) (edits _ U _ _ command rest output none makes follows) = absurd (ends-or-goes command rest same)
-  one-follows T n seen _ _ _ _ same (stops_at _ _ _ fault) (comes_to_end _ _ _) = absurd (ends-or-stops fault (sym same))
-  one-follows T n seen _ _ _ _ same (stops_at _ _ _ fault) (stops_at _ _ _ found) = ap (λ (f : ScriptFault). stopped ScriptRefused (script_refused_line (script.Faulted f))) (fault-same fault found same)
-  one-follows T n seen _ _ _ _ same (stops_at _ _ _ fault) (refuses _ _ _ command reason rest output some follows) = absurd (stops-or-goes fault command rest same)
-  one-follows T n seen _ _ _ _ same (stops_at _ _ _ fault) (edits _ U _ _ command rest output none makes follows) = absurd (stops-or-goes fault command rest same)
-  one-follows T n seen _ _ _ _ same (refuses _ _ _ command reason rest output some follows) (comes_to_end _ _ _) = absurd (ends-or-goes command rest (sym same))
-  one-follows T n seen _ _ _ _ same (refuses _ _ _ command reason rest output some follows) (stops_at _ _ _ fault) = absurd (stops-or-goes fault command rest (sym same))
-  one-follows T n seen _ _ _ _ same (refuses _ _ _ command reason rest output some follows) (refuses _ _ _ other cause more written so behind) =
-      let at = command-same command other rest more same in
-      let reasons : reason ≡ cause = refused-same some (ap (command_refusal (under telling T)) at.0 ∙ so) in
+module _ (one_edit : OneEdit) (telling : Telling) (undos : ℕ) where
+  -- the commands that take an edit back make one document
+  pub one-taken : (T U V : Table) (back : Earlier) → IsTakenBack telling T back U → IsTakenBack telling T back V → V ≡ U
+  one-taken T U V back p q = one-made one_edit (under telling T) (under telling T) (under telling U) (under telling V) back.commands refl p.done q.done
+
+  one-follows : (T : Table) (backs : List Earlier) (n : ℕ) (seen : Shown) (items : item.Items) (a b : Output) →
+      Follows telling undos T backs n seen items a → Follows telling undos T backs n seen items b → a ≡ b
+  one-follows T backs n seen _ _ _ (comes_to_end _ _ _ _) (comes_to_end _ _ _ _) = refl
+  one-follows T backs n seen _ _ _ (stops_at _ _ _ _ fault) (stops_at _ _ _ _ _) = refl
+  one-follows T backs n seen _ _ _ (refuses _ _ _ _ command reason rest output some follows) (refuses _ _ _ _ _ cause _ written so behind) =
+      let reasons : reason ≡ cause = refused-same some so in
       ap (λ (r : EditRefusal). in_front (refused_line n r) output) reasons
-      ∙ ap (in_front (refused_line n cause)) (one-follows T (n + 1) seen rest more output written at.1 follows behind)
-  one-follows T n seen _ _ _ _ same (refuses _ _ _ command reason rest output some follows) (edits _ V _ _ other more written none makes behind) =
-      let at = command-same command other rest more same in
-      absurd (refused-or-none some (ap (command_refusal (under telling T)) at.0 ∙ none))
-  one-follows T n seen _ _ _ _ same (edits _ U _ _ command rest output none makes follows) (comes_to_end _ _ _) = absurd (ends-or-goes command rest (sym same))
-  one-follows T n seen _ _ _ _ same (edits _ U _ _ command rest output none makes follows) (stops_at _ _ _ fault) = absurd (stops-or-goes fault command rest (sym same))
-  one-follows T n seen _ _ _ _ same (edits _ U _ _ command rest output none makes follows) (refuses _ _ _ other cause more written so behind) =
-      let at = command-same command other rest more same in
-      absurd (refused-or-none (ap (command_refusal (under telling T)) at.0 ∙ so) none)
-  one-follows T n seen _ _ _ _ same (edits _ U _ _ command rest output none makes follows) (edits _ V _ _ other more written empty made behind) =
-      let at = command-same command other rest more same in
-      let trees : V ≡ U = sym (one_edit T U V command makes (subst (λ (c : EditCommand). IsEdited T c V) (sym at.0) made)) in
+      ∙ ap (in_front (refused_line n cause)) (one-follows T backs (n + 1) seen rest output written follows behind)
+  one-follows T backs n seen _ _ _ (refuses _ _ _ _ command reason rest output some follows) (edits _ V _ _ _ _ _ written none makes behind) =
+      absurd (refused-or-none some none)
+  one-follows T backs n seen _ _ _ (edits _ U _ _ _ command rest output none makes follows) (refuses _ _ _ _ _ cause _ written so behind) =
+      absurd (refused-or-none so none)
+  one-follows T backs n seen _ _ _ (edits _ U _ _ _ command rest output none makes follows) (edits _ V _ _ _ _ _ written empty made behind) =
+      let trees : V ≡ U = one_edit T V U command made makes in
       ap (in_front (edit_line n ++ telling.text U))
-      (one-follows U (n + 1) (then_shown seen (telling.shows U)) rest more output written at.1 follows (subst (λ (X : Table). Follows telling X (n + 1) (then_shown seen (telling.shows X)) more written) trees behind))
+      (one-follows U (take undos (earlier_of T command ∷ backs)) (n + 1) (then_shown seen (telling.shows U)) rest output written follows
+      (subst (λ (X : Table). Follows telling undos X (take undos (earlier_of T command ∷ backs)) (n + 1) (then_shown seen (telling.shows X)) rest written) trees behind))
       ∙ ap (λ (X : Table). in_front (edit_line n ++ telling.text X) written) (sym trees)
+  one-follows T _ n seen _ _ _ (undoes _ U back backs _ _ rest output taken follows) (undoes _ V _ _ _ _ _ written so behind) =
+      let trees : V ≡ U = one-taken T U V back taken so in
+      ap (in_front (undo_line n ++ telling.text U))
+      (one-follows U backs (n + 1) (then_shown seen (telling.shows U)) rest output written follows
+      (subst (λ (X : Table). Follows telling undos X backs (n + 1) (then_shown seen (telling.shows X)) rest written) trees behind))
+      ∙ ap (λ (X : Table). in_front (undo_line n ++ telling.text X) written) (sym trees)
+  one-follows T _ n seen _ _ _ (undoes _ U back backs _ _ rest output taken follows) (lacks_numbers _ _ _ _ _ _ written less behind) =
+      absurd (omega (arith, less, taken.enough))
+  one-follows T _ n seen _ _ _ (lacks_numbers _ back backs _ _ rest output less follows) (undoes _ V _ _ _ _ _ written taken behind) =
+      absurd (omega (arith, less, taken.enough))
+  one-follows T _ n seen _ _ _ (lacks_numbers _ back backs _ _ rest output less follows) (lacks_numbers _ _ _ _ _ _ written so behind) =
+      ap (in_front (refused_line n IdsSpent)) (one-follows T (back ∷ backs) (n + 1) seen rest output written follows behind)
+  one-follows T _ n seen _ _ _ (has_no_history _ _ _ rest output follows) (has_no_history _ _ _ _ written behind) =
+      ap (in_front (no_history_line n)) (one-follows T [] (n + 1) seen rest output written follows behind)
 
-  pub one-states : (T : Table) (bytes : List ℕ) (a b : Output) → States telling T bytes a → States telling T bytes b → a ≡ b
-  one-states T bytes a b p q = p.2 ∙ ap (in_front (telling.text T)) (one-follows T 1 (telling.shows T) (script_of bytes) (script_of bytes) p.0 q.0 refl p.1 q.1) ∙ sym q.2
+  pub one-states : (T : Table) (bytes : List ℕ) (a b : Output) → States telling undos T bytes a → States telling undos T bytes b → a ≡ b
+  one-states T bytes a b p q =
+      p.2 ∙ ap (in_front (telling.text T)) (one-follows T [] 1 (telling.shows T) (items_of undos bytes) p.0 q.0 p.1 q.1) ∙ sym q.2
 
-  -- and so is the document that commands make
+-- and so is the document that commands make
+module _ (one_edit : OneEdit) (telling : Telling) where
   one-leads : (T : Table) (script other : Script) (U V : Table) → script ≡ other → LeadsTo telling T script U → LeadsTo telling T other V → U ≡ V
   one-leads T _ _ _ _ same (to_the_end _) (to_the_end _) = refl
   one-leads T _ _ _ _ same (to_the_end _) (to_a_fault _ fault) = refl
@@ -136,7 +140,7 @@ module _ (one_edit : OneEdit) (plan : Plan) where
       let lasts : p.last ≡ q.last = one-leads one_edit (by_plan plan) T (script_of bytes) (script_of bytes) p.last q.last refl p.leads q.leads in
       p.is
       ∙ ap (λ (U : Table). measured_as p.followed.ends (measure_text plan T U) p.followed) lasts
-      ∙ ap (λ (o : Output). measured_as o.ends (measure_text plan T q.last) o) (one-states one_edit (by_plan plan) T bytes p.followed q.followed p.states q.states)
+      ∙ ap (λ (o : Output). measured_as o.ends (measure_text plan T q.last) o) (one-states one_edit (by_plan plan) 0 T bytes p.followed q.followed p.states q.states)
       ∙ sym q.is
 
 -- stages over another shelf
@@ -254,10 +258,10 @@ module _ (one_tree : OneTree) (one_inclusion : OneInclusion) (one_plan : OnePlan
       (one-then (Reporting files report) (λ said. Is (goes (summed_up said))) (one-reporting one_tree one_inclusion one_plan one_edit files report) (λ said. one-is (goes (summed_up said))))
   one-ends (Some (validate phase schema document)) = one-from (Opening files phase schema document) (λ at output. output ≡ state at.plan at.tree)
       (one-opening one_tree one_inclusion one_plan one_edit files phase schema document) (λ at a b p q. p ∙ sym q)
-  one-ends (Some (follow phase schema document script)) = one-from (OpeningAll files phase schema document script) (λ at. States (by_plan at.treed.plan) at.treed.tree at.script)
-      (one-opening-all one_tree one_inclusion one_plan one_edit files phase schema document script) (λ at. one-states one_edit (by_plan at.treed.plan) at.treed.tree at.script)
-  one-ends (Some (watch named document script)) = one-from (WatchingAll files named document script) (λ at. States (by_watches at.watched.expressions) at.watched.tree at.script)
-      (one-watching-all one_tree one_inclusion one_plan one_edit files one_reading named document script) (λ at. one-states one_edit (by_watches at.watched.expressions) at.watched.tree at.script)
+  one-ends (Some (follow undos phase schema document script)) = one-from (OpeningAll files phase schema document script) (λ at. States (by_plan at.treed.plan) undos at.treed.tree at.script)
+      (one-opening-all one_tree one_inclusion one_plan one_edit files phase schema document script) (λ at. one-states one_edit (by_plan at.treed.plan) undos at.treed.tree at.script)
+  one-ends (Some (watch named document script)) = one-from (WatchingAll files named document script) (λ at. States (by_watches at.watched.expressions) 0 at.watched.tree at.script)
+      (one-watching-all one_tree one_inclusion one_plan one_edit files one_reading named document script) (λ at. one-states one_edit (by_watches at.watched.expressions) 0 at.watched.tree at.script)
   one-ends (Some (measure items)) = one-from (Making items) (λ at. Measures at.treed.plan at.treed.tree at.script)
       (one-making one_tree one_inclusion one_plan one_edit items) (λ at. one-measures one_edit at.treed.plan at.treed.tree at.script)
 

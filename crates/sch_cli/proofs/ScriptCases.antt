@@ -9,10 +9,10 @@ use Rattle.edit_commands.specs.Commands.{IsEdited, command_refusal}
 use Rattle.edit_session.specs.declared.state.Shown.{Shown}
 use Rattle.sch_stops.specs.EditLines.{edit_line, refused_line}
 use Rattle.sch_stops.specs.Output.{Output}
-use Rattle.sch_cli.specs.Telling.{Telling}
-use Rattle.sch_cli.specs.Following.{Follows, comes_to_end, edits, refuses, stops_at, then_shown, under}
+use Rattle.sch_cli.specs.Telling.{Telling, edit_cost, under}
+use Rattle.sch_cli.specs.Following.{then_shown}
 use Rattle.sch_cli.specs.Output.{in_front}
-use Rattle.sch_cli.specs.Steps.{EditsCost, at_a_fault, at_the_end, of_edited, of_refused}
+use Rattle.sch_cli.specs.inner.Scripts.{EditsCost, Follows, at_a_fault, at_the_end, comes_to_end, edits, of_edited, of_refused, refuses, stops_at}
 
 -- a script is at its end, or has a fault, or a command comes first
 pub ends-or-stops : (fault : ScriptFault) → nothing ≡ stops fault → ⊥
@@ -98,7 +98,7 @@ module _ (telling : Telling) where
     pub free : command_refusal (under telling T) command ≡ None
     pub makes : IsEdited T command made
     pub costs : EditsCost telling made rest later
-    pub is : cost ≡ telling.edit_cost T command made + later
+    pub is : cost ≡ edit_cost telling T command made + later
 
   costs-behind : (T : Table) (command : Command) (rest script : Script) (cost : ℕ) → script ≡ onto command rest → EditsCost telling T script cost → CostsRefused T command rest cost ⊎ CostsEdited T command rest cost
   costs-behind T command rest _ _ same (at_the_end _) = absurd (ends-or-goes command rest same)
@@ -118,7 +118,7 @@ module _ (telling : Telling) where
         free = ap (command_refusal (under telling T)) (sym at.0) ∙ none;
         makes = subst (λ (c : Command). IsEdited T c U) at.0 makes;
         costs = subst (λ (s : Script). EditsCost telling U s later) at.1 costs;
-        is = ap (λ (c : Command). telling.edit_cost T c U + later) at.0;
+        is = ap (λ (c : Command). edit_cost telling T c U + later) at.0;
       })
 
   pub costs-onto : (T : Table) (command : Command) (rest : Script) (cost : ℕ) → EditsCost telling T (onto command rest) cost → CostsRefused T command rest cost ⊎ CostsEdited T command rest cost

@@ -1,5 +1,5 @@
 -- What a run counts.
-use Rattle.std.proofs.Common.{◌∙◌, ◌≡◌, ℕ, ◌+◌, ◌≤◌, inl, inr, Bool, true, false, List, IfErr, IfOk, IfSome, OnOk, Option, None, Some, Result, Ok, Err, refl, ap, sym, subst, arith, true≢false}
+use Rattle.std.proofs.Common.{◌∙◌, ◌≡◌, ℕ, ◌+◌, ◌≤◌, inr, Bool, true, false, List, IfErr, IfOk, IfSome, OnOk, Option, None, Some, Result, Ok, Err, refl, ap, sym, subst, arith, true≢false}
 use Rattle.sch_io.specs.Files.{Files}
 use Rattle.sch_io.specs.SinkLog.{SinkLog}
 use Rattle.doc_tree.specs.Table.{Contents, Table}
@@ -15,16 +15,18 @@ use Rattle.edit_session.specs.declared.state.Shown.TheVariants.{Clean, Findings,
 use Rattle.sch_words.specs.declared.status.Status.{Status}
 use Rattle.sch_stops.specs.declared.stop.Stop.{Stop}
 use Rattle.sch_stops.specs.declared.stop.Stop.TheVariants.{Usage, SchemaRefused, DocumentRefused, ScriptRefused, Missing, ReadFault, WriteFault, Memory}
-use Rattle.sch_cli.specs.Telling.{Telling}
+use Rattle.sch_cli.specs.Telling.{Telling, edit_cost}
 use Rattle.sch_cli.specs.Behaviours.{StatesCost, asked_by}
 use Rattle.sch_cli.specs.Following.{then_shown}
 use Rattle.sch_cli.specs.Runs.{Costs, CountsOver}
-use Rattle.sch_cli.specs.Steps.{CountsBy, EditsCost, at_the_end, of_edited, of_refused}
+use Rattle.sch_cli.specs.Steps.{CountsBy}
 use Rattle.sch_cli.specs.inner.Carried.{Visits, status_of_end}
 use Rattle.sch_cli.specs.inner.Counts.{CostOn, CountsAhead, CountsAlong, CountsOn, IsCosted, RoseFor}
 use Rattle.sch_cli.specs.inner.Followers.{IsUndone, Place, in_front_of}
+use Rattle.sch_cli.specs.inner.Scripts.{EditsCost, at_the_end, of_edited, of_refused}
 use Rattle.sch_cli.specs.inner.Sessions.{Document, HasCost, IsUnevaluated, LeavesDirty}
 use Rattle.sch_cli.specs.inner.Writing.{IsOfWriting}
+use Rattle.sch_cli.proofs.AloneLemmas.{cost-alone}
 use Rattle.sch_cli.proofs.CarryLemmas.{counts_in, uncounted}
 use Rattle.sch_cli.proofs.CostLemmas.{costs_same, past_edited}
 use Rattle.sch_cli.proofs.EndLemmas.{on_ok}
@@ -52,14 +54,14 @@ not_next Findings next whole is = whole is
 
 -- Amounts
 
-rose_is : (a b before after : ℕ) (seen : Shown) → a ≡ b → RoseFor a before after seen → RoseFor b before after seen
+pub rose_is : (a b before after : ℕ) (seen : Shown) → a ≡ b → RoseFor a before after seen → RoseFor b before after seen
 rose_is a b before after seen is = subst (λ (n : ℕ). RoseFor n before after seen) is
 
 cost_is : (telling : Telling) (T : Table) (script : Script) (a b : ℕ) → a ≡ b → EditsCost telling T script a → EditsCost telling T script b
 cost_is telling T script a b is = subst (EditsCost telling T script) is
 
 -- one state more
-rose_then : (first more start before after : ℕ) (seen next later : Shown) → later ≡ then_shown seen next → RoseFor more before after next → RoseFor first start before seen →
+pub rose_then : (first more start before after : ℕ) (seen next later : Shown) → later ≡ then_shown seen next → RoseFor more before after next → RoseFor first start before seen →
     RoseFor (first + more) start after later
 rose_then first more start before after seen next later is rose was = record {
   at_most =
@@ -81,11 +83,11 @@ pub costed_edited : (at later : Place) (command : Edit) (session : Document) (be
     later.session.telling ≡ session.telling → later.session.tree ≡ session.tree → later.script ≡ at.script → later.seen ≡ then_shown at.seen (session.telling.shows session.tree.nodes) →
     RoseFor (session.next) before after (session.telling.shows session.tree.nodes) → IsCosted (in_front_of command at) later before after
 costed_edited at later command session before after cap none makes telling dirty tellings trees scripts seen rose = record {
-  cost = at.session.telling.edit_cost at.session.tree.nodes command session.tree.nodes;
+  cost = edit_cost at.session.telling at.session.tree.nodes command session.tree.nodes;
   led = λ rest costs. of_edited at.session.tree.nodes session.tree.nodes command at.script rest (refusal_under at.session.telling at.session.tree command cap ∙ none) makes
       (costs_same later.session.telling at.session.telling later.session.tree.nodes session.tree.nodes later.script at.script rest (tellings ∙ telling) (ap (λ (tree : Contents). tree.nodes) trees) scripts costs);
-  rose = λ first start was. rose_then first (at.session.telling.edit_cost at.session.tree.nodes command session.tree.nodes) start before after at.seen (session.telling.shows session.tree.nodes) later.seen seen
-      (rose_is (session.next) (at.session.telling.edit_cost at.session.tree.nodes command session.tree.nodes) before after (session.telling.shows session.tree.nodes)
+  rose = λ first start was. rose_then first (edit_cost at.session.telling at.session.tree.nodes command session.tree.nodes) start before after at.seen (session.telling.shows session.tree.nodes) later.seen seen
+      (rose_is (session.next) (edit_cost at.session.telling at.session.tree.nodes command session.tree.nodes) before after (session.telling.shows session.tree.nodes)
       dirty rose) was;
 }
 
@@ -133,8 +135,8 @@ pub ahead_edited : (at : Place) (command : Edit) (session : Document) (before af
 ahead_edited at command session before after one_edit cap none makes telling dirty costs at_most =
     let free = refusal_under at.session.telling at.session.tree command cap ∙ none in
     let rest = past_edited at.session.telling one_edit at.session.tree.nodes session.tree.nodes command at.script free makes costs in
-    let first : session.next ≡ at.session.telling.edit_cost at.session.tree.nodes command session.tree.nodes = dirty in (
-      at.session.telling.edit_cost at.session.tree.nodes command session.tree.nodes + rest.0,
+    let first : session.next ≡ edit_cost at.session.telling at.session.tree.nodes command session.tree.nodes = dirty in (
+      edit_cost at.session.telling at.session.tree.nodes command session.tree.nodes + rest.0,
       of_edited at.session.tree.nodes session.tree.nodes command at.script rest.0 free makes rest.1,
       omega (arith, at_most, first),
     )
@@ -205,7 +207,7 @@ ahead_stops at before after stop result is ahead = subst (CountsOn at before aft
 
 -- The whole
 
-along_as : (A B : ℕ → Type 0) (before after : ℕ) (result : Result Shown Stop) → ((cost : ℕ) → A cost → B cost) → CountsAlong A before after result → CountsAlong B before after result
+pub along_as : (A B : ℕ → Type 0) (before after : ℕ) (result : Result Shown Stop) → ((cost : ℕ) → A cost → B cost) → CountsAlong A before after result → CountsAlong B before after result
 along_as A B before after (Ok seen) gives counts = (counts.0, gives counts.0 counts.1, counts.2)
 along_as A B before after (Err stop) gives counts = (counts.0, gives counts.0 counts.1, counts.2)
 
@@ -234,20 +236,21 @@ state_counts telling T before after result writing rose at_most = along_by (λ c
 
 -- the first state of a script does not come to its end
 pub first_counts : (session : Document) (bytes : List ℕ) (before after : ℕ) (stop : Stop) (result : Result Shown Stop) → result ≡ Err stop → IsUnevaluated session →
-    HasCost session (script_of bytes) → after ≤ before + session.next → CountsAlong (StatesCost session.telling session.tree.nodes bytes) before after result
-first_counts session bytes before after stop result is none costs at_most = subst (CountsAlong (StatesCost session.telling session.tree.nodes bytes) before after) (sym is)
+    HasCost session (script_of bytes) → after ≤ before + session.next → CountsAlong (StatesCost session.telling 0 session.tree.nodes bytes) before after result
+first_counts session bytes before after stop result is none costs at_most = subst (CountsAlong (StatesCost session.telling 0 session.tree.nodes bytes) before after) (sym is)
     (let first : session.next ≡ session.telling.first_cost session.tree.nodes = none in
-    (session.telling.first_cost session.tree.nodes + costs.0, (costs.0, costs.1, refl), omega (arith, at_most, first)))
+    (session.telling.first_cost session.tree.nodes + costs.0, (costs.0, cost-alone session.telling session.tree.nodes (script_of bytes) costs.0 costs.1, refl), omega (arith, at_most, first)))
 
 -- the states, the first of which was written
 pub states_count : (session : Document) (bytes : List ℕ) (first : Place) (before mid after : ℕ) (result : Result Shown Stop) → IsUnevaluated session →
     first.session.telling ≡ session.telling → first.session.tree ≡ session.tree → first.script ≡ script_of bytes →
-    RoseFor (session.next) before mid first.seen → CountsOn first mid after result → CountsAlong (StatesCost session.telling session.tree.nodes bytes) before after result
+    RoseFor (session.next) before mid first.seen → CountsOn first mid after result → CountsAlong (StatesCost session.telling 0 session.tree.nodes bytes) before after result
 states_count session bytes first before mid after result none tellings trees scripts rose counts =
-    along_as (CostOn first (session.next)) (StatesCost session.telling session.tree.nodes bytes) before after result
+    along_as (CostOn first (session.next)) (StatesCost session.telling 0 session.tree.nodes bytes) before after result
     (λ cost costs. (
       costs.0,
-      costs_same first.session.telling session.telling first.session.tree.nodes session.tree.nodes first.script (script_of bytes) costs.0 tellings (ap (λ (tree : Contents). tree.nodes) trees) scripts costs.1,
+      cost-alone session.telling session.tree.nodes (script_of bytes) costs.0
+          (costs_same first.session.telling session.telling first.session.tree.nodes session.tree.nodes first.script (script_of bytes) costs.0 tellings (ap (λ (tree : Contents). tree.nodes) trees) scripts costs.1),
       costs.2 ∙ ap (λ (n : ℕ). n + costs.0) none,
     ))
     (counts (session.next) before rose)

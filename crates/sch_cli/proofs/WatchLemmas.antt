@@ -1,15 +1,15 @@
 -- What is written of watched expressions, and what that costs.
-use Rattle.std.proofs.Common.{◌∙◌, ◌≡◌, ◌≤◌, ℕ, ◌+◌, Bool, true, false, List, [], ◌∷◌, ◌||◌, filter, length, IfOk, Option, None, Some, Result, Ok, Err, refl, ap, sym, subst}
-use Rattle.std.specs.List.{list_any, range_with_len}
+use Rattle.std.proofs.Common.{◌∙◌, ◌≡◌, ℕ, Bool, true, false, List, [], ◌∷◌, filter, IfOk, Result, Ok, Err, refl, ap, sym, subst}
+use Rattle.std.specs.List.{list_any}
 use Rattle.sch_io.specs.SinkLog.{SinkLog}
 use Rattle.doc_tree.specs.Table.{Contents, Table}
 use Rattle.edit_script.specs.declared.command.Command.{Command}
 use Rattle.edit_commands.specs.Touched.{touched_by}
 use Rattle.edit_session.specs.declared.state.Shown.{Shown}
-use Rattle.edit_session.specs.declared.state.Shown.TheVariants.{Clean, Fault}
+use Rattle.edit_session.specs.declared.state.Shown.TheVariants.{Fault}
 use Rattle.xp_typed_tree.specs.TypedTree.{TypedTree}
 use Rattle.xp_watch.specs.Costs.{Raised, cost_of, has_fault}
-use Rattle.xp_watch.specs.Kept.{IsFresh, Kept, is_stale, stale_watches}
+use Rattle.xp_watch.specs.Kept.{IsFresh, is_stale, stale_watches}
 use Rattle.xp_watch.specs.Watched.{dirty_watches, watches_of}
 use Rattle.xp_watch.specs.Watching.{Watching}
 use Rattle.watch_out.specs.Lines.{shows_fault}

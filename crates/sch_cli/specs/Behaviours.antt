@@ -12,7 +12,7 @@ use Rattle.sch_words.specs.declared.status.Status.TheVariants.{DocumentRefused, 
 use Rattle.sch_words.specs.Commands.{Command, tell, expand, validate, follow, measure, summarize, watch, command_of, default_phase}
 use Rattle.sch_measure.specs.Shelf.{measure_files}
 use Rattle.sch_measure.specs.declared.shelf.TheConstants.{SCHEMA_NAME, DOCUMENT_NAME, SCRIPT_NAME}
-use Rattle.sch_cli.specs.Following.{Begins, Follows}
+use Rattle.sch_cli.specs.Following.{Begins, Follows, items_of}
 use Rattle.sch_cli.specs.Measuring.{LeadsTo, measure_text, measured_as}
 use Rattle.sch_cli.specs.Telling.{Telling, by_plan, by_watches}
 use Rattle.sch_loading.specs.Loading.{Expanding, Loading, Planning, Reporting, Scripting, Watching}
@@ -84,19 +84,20 @@ WatchingAll files watches document script =
 
 -- The states behind the commands of a script
 
--- the state of a document, and behind it what is written for the commands of a script
-abbrev pub States : Telling → Table → List ℕ → Output → Type 0
-States telling T script output =
-    (rest : Output) × Follows telling T 1 (telling.shows T) (script_of script) rest × (output ≡ in_front (telling.text T) rest)
+-- the state of a document, and behind it what is written for the commands of a script, where so many edits can be undone
+abbrev pub States : Telling → ℕ → Table → List ℕ → Output → Type 0
+States telling undos T script output =
+    (rest : Output) × Follows telling undos T [] 1 (telling.shows T) (items_of undos script) rest × (output ≡ in_front (telling.text T) rest)
 
 -- the state, and behind it what the first of the commands write
-abbrev pub BeginsStates : Telling → Table → List ℕ → List ℕ → Type 0
-BeginsStates telling T script text =
-    (more : List ℕ) × Begins telling T 1 (script_of script) more × (text ≡ telling.text T ++ more)
+abbrev pub BeginsStates : Telling → ℕ → Table → List ℕ → List ℕ → Type 0
+BeginsStates telling undos T script text =
+    (more : List ℕ) × Begins telling undos T [] 1 (items_of undos script) more × (text ≡ telling.text T ++ more)
 
 -- the visits of the states
-abbrev pub StatesCost : Telling → Table → List ℕ → ℕ → Type 0
-StatesCost telling T script cost = (later : ℕ) × EditsCost telling T (script_of script) later × (cost ≡ telling.first_cost T + later)
+abbrev pub StatesCost : Telling → ℕ → Table → List ℕ → ℕ → Type 0
+StatesCost telling undos T script cost =
+    (later : ℕ) × EditsCost telling undos T [] (items_of undos script) later × (cost ≡ telling.first_cost T + later)
 
 -- What is made for a measure
 
@@ -111,7 +112,7 @@ Making items = Apart (OpeningAll (measure_files items) default_phase SCHEMA_NAME
 -- what is measured of a document and of what the commands of a script make of it, by what comes of following the script
 pub record Measures (plan : Plan) (T : Table) (script : List ℕ) (output : Output) : Type 0 where
   pub followed : Output
-  pub states : States (by_plan plan) T script followed
+  pub states : States (by_plan plan) 0 T script followed
   pub last : Table
   pub leads : LeadsTo (by_plan plan) T (script_of script) last
   pub is : output ≡ measured_as followed.ends (measure_text plan T last) followed
@@ -158,17 +159,17 @@ behaviour (Some (summarize report)) = writes (file report ∷ []) (λ files. The
 behaviour (Some (validate phase schema document)) =
     from (schema_file schema ∷ file document ∷ []) (λ files. Opening files phase schema document)
     (λ at output. output ≡ state at.plan at.tree) (λ at text. text ≡ state_text at.plan at.tree) (λ at cost. cost ≡ (by_plan at.plan).first_cost at.tree) true
-behaviour (Some (follow phase schema document script)) =
+behaviour (Some (follow undos phase schema document script)) =
     from (schema_file schema ∷ file document ∷ file script ∷ []) (λ files. OpeningAll files phase schema document script)
-    (λ at. States (by_plan at.treed.plan) at.treed.tree at.script) (λ at. BeginsStates (by_plan at.treed.plan) at.treed.tree at.script)
-    (λ at. StatesCost (by_plan at.treed.plan) at.treed.tree at.script) true
+    (λ at. States (by_plan at.treed.plan) undos at.treed.tree at.script) (λ at. BeginsStates (by_plan at.treed.plan) undos at.treed.tree at.script)
+    (λ at. StatesCost (by_plan at.treed.plan) undos at.treed.tree at.script) true
 behaviour (Some (watch watches document script)) =
     from (file watches ∷ file document ∷ file script ∷ []) (λ files. WatchingAll files watches document script)
-    (λ at. States (by_watches at.watched.expressions) at.watched.tree at.script) (λ at. BeginsStates (by_watches at.watched.expressions) at.watched.tree at.script)
-    (λ at. StatesCost (by_watches at.watched.expressions) at.watched.tree at.script) true
+    (λ at. States (by_watches at.watched.expressions) 0 at.watched.tree at.script) (λ at. BeginsStates (by_watches at.watched.expressions) 0 at.watched.tree at.script)
+    (λ at. StatesCost (by_watches at.watched.expressions) 0 at.watched.tree at.script) true
 behaviour (Some (measure items)) =
     from [] (λ files. Making items) (λ at. Measures at.treed.plan at.treed.tree at.script) (λ at. MeasuresText at.treed.plan at.treed.tree at.script)
-    (λ at. StatesCost (by_plan at.treed.plan) at.treed.tree at.script) true
+    (λ at. StatesCost (by_plan at.treed.plan) 0 at.treed.tree at.script) true
 
 -- what the words ask for
 abbrev pub asked_by : List (List ℕ) → Behaviour

@@ -13,9 +13,8 @@ use Rattle.edit_session.specs.Counts.{failed_assertions, fired_rules, successful
 use Rattle.edit_session.specs.declared.state.Shown.TheVariants as shown
 use Rattle.sch_words.specs.declared.status.Status.{Status}
 use Rattle.sch_words.specs.declared.status.Status.TheVariants.{Clean, Findings}
-use Rattle.sch_cli.specs.Following.{under}
 use Rattle.sch_cli.specs.Output.{Output, ended}
-use Rattle.sch_cli.specs.Telling.{Telling}
+use Rattle.sch_cli.specs.Telling.{Telling, under}
 
 -- the commands of a script make the document U of T
 pub data LeadsTo (telling : Telling) : Table → Script → Table → Type 0 where

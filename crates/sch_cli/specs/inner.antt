@@ -4,3 +4,6 @@ pub mod Carried
 pub mod Followers
 pub mod Counts
 pub mod Measurers
+pub mod Scripts
+pub mod Ways
+pub mod Undoing

@@ -8,21 +8,24 @@ ghost use Rattle.edit_script.specs.WellFormed.{WellFormedCommand};
 ghost use Rattle.edit_script.specs.declared.limits.TheConstants.{MAX_SCRIPT_BYTES};
 ghost use Rattle.edit_session.specs.Pairs.{pair_cap_for};
 ghost use Rattle.sch_words.specs.declared.status.Status.TheVariants as statuses;
+ghost use Rattle.name_scopes.specs.Scoping.{InScope};
+ghost use Rattle.sch_words.specs.declared.count.TheConstants.{MAX_UNDO_DEPTH};
 ghost use Rattle.sch_cli.specs.Behaviours.{BeginsStates, OpeningAll, States, StatesCost, behaviour};
 ghost use Rattle.sch_loading.specs.Reads.{Reads, file, schema_file};
 ghost use Rattle.sch_words.specs.Commands.{follow};
 ghost use Rattle.sch_stops.specs.EditLines.{edit_line, refused_line};
 ghost use Rattle.sch_cli.specs.Following.{then_shown};
-ghost use Rattle.sch_cli.specs.Steps.{EditsCost};
-ghost use Rattle.sch_cli.specs.Telling.{Telling};
+ghost use Rattle.sch_cli.specs.Telling.{Telling, by_plan};
 ghost use Rattle.sch_stops.specs.Stops.{counted_if, ends_with};
 ghost use Rattle.sch_cli.specs.inner.Carried.{Carried, Concludes};
 ghost use Rattle.sch_cli.specs.inner.Counts.{CountsAhead, CountsAlong, CountsOn, IsCosted, RoseFor};
 ghost use Rattle.sch_cli.specs.inner.Followers.{Beginning, Ending, Goes, IsReady, IsUndone, in_front_of, place_of, scripted_by};
+ghost use Rattle.sch_cli.specs.inner.Scripts.{EditsCost};
 ghost use Rattle.sch_cli.specs.inner.Sessions.{HasCost, IsUnevaluated, document_of};
 ghost use Rattle.sch_cli.specs.inner.Writing.{IsOfWriting, WroteText};
 
 use crate::followed::Followed;
+use crate::undoing::follow_undoing;
 use crate::validation::load_asked;
 use doc_tree::{EditRefusal, Tree};
 use edit_command_laws::{edits_keep_trees, edits_make_trees, one_edit, scripts_are_well_formed};
@@ -47,16 +50,43 @@ pub(crate) fn follow<S: Shelf, O: Sink, L: Ledger>(
     out: &mut O,
     steps: &mut Steps<L>,
 ) -> Result<Shown, Stop>
-    ensures carried { Carried (behaviour (Some (follow asked.entry.validation.phase.now asked.entry.validation.schema.now asked.entry.validation.document.now asked.entry.script.now)))
+    ensures carried { Carried (behaviour (Some (follow asked.entry.undos asked.entry.validation.phase.now asked.entry.validation.schema.now asked.entry.validation.document.now asked.entry.script.now)))
         (S.state shelf.old) (S.state shelf.new) (O.log out.old) (O.log out.new) steps.old steps.new result }
     ensures accepted { ends_with statuses.Usage result ≡ false }
 {
     let Scripted { session, script } = load_scripted(alloc, asked, shelf)?;
-    let bytes = script.as_slice();
+    follow_session(alloc, session, asked.undos, script.as_slice(), out, steps)
+}
+
+/// Writes the state of a document, and what comes of each command of a script, in which so many edits can be undone; answers what the
+/// states show.
+fn follow_session<O: Sink, L: Ledger>(
+    alloc: Global,
+    session: Session,
+    undos: u32,
+    script: &[u8],
+    out: &mut O,
+    steps: &mut Steps<L>,
+) -> Result<Shown, Stop>
+    requires cap { session.tree.pair_cap ≡ pair_cap_for session.plan }
+    requires scoped { InScope session.tree.nodes }
+    requires few { undos ≤ MAX_UNDO_DEPTH }
+    requires short { length script.now ≤ MAX_SCRIPT_BYTES }
+    requires unevaluated { IsUnevaluated (document_of session) }
+    ensures told { Concludes (States (by_plan session.plan) undos session.tree.nodes script.now) (λ _. ⊥)
+        (BeginsStates (by_plan session.plan) undos session.tree.nodes script.now) (Appends (O.log out.old).written (O.log out.new).written) result }
+    ensures writing { IfErr result IsOfWriting }
+    ensures write_faults { (O.log out.new).faults ≡ counted_if (ends_with statuses.WriteFault result) (O.log out.old).faults }
+    ensures counted { CountsAlong (StatesCost (by_plan session.plan) undos session.tree.nodes script.now) steps.old steps.new result }
+    ensures steps { steps.old ≤ steps.new }
+{
+    if undos != 0 {
+        return follow_undoing(alloc, session, undos, script, out, steps);
+    }
     session.laws();
-    script_has_cost(session.tree(), bytes);
+    script_has_cost(session.tree(), script);
     let mut session = session;
-    write_states(alloc, &mut session, bytes, out, steps)
+    write_states(alloc, &mut session, script, out, steps)
 }
 
 /// A document under a plan, and the bytes of a script for it.
@@ -77,6 +107,7 @@ pub(crate) fn load_scripted<S: Shelf>(
         (λ files. OpeningAll files asked.entry.validation.phase.now asked.entry.validation.schema.now asked.entry.validation.document.now asked.entry.script.now)
         scripted_by result }
     ensures cap { IfOk result (λ scripted. scripted.session.tree.pair_cap ≡ pair_cap_for scripted.session.plan) }
+    ensures scoped { IfOk result (λ scripted. InScope scripted.session.tree.nodes) }
     ensures unevaluated { IfOk result (λ scripted. IsUnevaluated (document_of scripted.session)) }
     ensures short { IfOk result (λ scripted. length scripted.script ≤ MAX_SCRIPT_BYTES) }
 {
@@ -116,11 +147,11 @@ pub(crate) fn write_states<F: Followed, O: Sink, L: Ledger>(
     requires short { length script.now ≤ MAX_SCRIPT_BYTES }
     requires costs { HasCost (F.document followed.old) (script_of script.now) }
     requires unevaluated { IsUnevaluated (F.document followed.old) }
-    ensures told { Concludes (States (F.document followed.old).telling (F.document followed.old).tree.nodes script.now) (λ _. ⊥)
-        (BeginsStates (F.document followed.old).telling (F.document followed.old).tree.nodes script.now) (Appends (O.log out.old).written (O.log out.new).written) result }
+    ensures told { Concludes (States (F.document followed.old).telling 0 (F.document followed.old).tree.nodes script.now) (λ _. ⊥)
+        (BeginsStates (F.document followed.old).telling 0 (F.document followed.old).tree.nodes script.now) (Appends (O.log out.old).written (O.log out.new).written) result }
     ensures writing { IfErr result IsOfWriting }
     ensures write_faults { (O.log out.new).faults ≡ counted_if (ends_with statuses.WriteFault result) (O.log out.old).faults }
-    ensures counted { CountsAlong (StatesCost (F.document followed.old).telling (F.document followed.old).tree.nodes script.now) steps.old steps.new result }
+    ensures counted { CountsAlong (StatesCost (F.document followed.old).telling 0 (F.document followed.old).tree.nodes script.now) steps.old steps.new result }
     ensures steps { steps.old ≤ steps.new }
 {
     let seen = followed.write_state(out, steps)?;
@@ -228,7 +259,7 @@ impl Follower<'_> {
 }
 
 /// Writes the line of a command that is refused; one that finds no memory ends the run.
-fn write_undone<O: Sink>(number: u64, error: ApplyError, out: &mut O) -> Result<(), Stop>
+pub(crate) fn write_undone<O: Sink>(number: u64, error: ApplyError, out: &mut O) -> Result<(), Stop>
     ensures { IsUndone number error (O.log out.old) (O.log out.new) result }
 {
     match error {
@@ -238,7 +269,11 @@ fn write_undone<O: Sink>(number: u64, error: ApplyError, out: &mut O) -> Result<
 }
 
 /// Writes the line of a refused command.
-fn write_refused<O: Sink>(number: u64, reason: EditRefusal, out: &mut O) -> Result<(), Stop>
+pub(crate) fn write_refused<O: Sink>(
+    number: u64,
+    reason: EditRefusal,
+    out: &mut O,
+) -> Result<(), Stop>
     ensures wrote { WroteText (O.log out.old) (O.log out.new) (refused_line number reason) result }
     ensures memory { ends_with statuses.Memory result ≡ false }
 {
@@ -249,7 +284,7 @@ fn write_refused<O: Sink>(number: u64, reason: EditRefusal, out: &mut O) -> Resu
 }
 
 /// What the states so far show, with one more.
-fn then_shown(seen: Shown, next: Shown) -> Shown
+pub(crate) fn then_shown(seen: Shown, next: Shown) -> Shown
     ensures { result ≡ then_shown seen next }
 {
     match seen {

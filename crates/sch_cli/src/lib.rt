@@ -9,6 +9,7 @@ mod measuring;
 mod notice;
 mod program;
 mod summing;
+mod undoing;
 mod validation;
 mod watching;
 

@@ -75,8 +75,12 @@ fn load_made(alloc: Global, items: u32) -> Result<Scripted, Stop>
         schema: &schema,
         document: &document,
     };
-    let script = &script;
-    load_from(alloc, ScriptedValidation { validation, script }, shelf)
+    let asked = ScriptedValidation {
+        validation,
+        script: &script,
+        undos: 0,
+    };
+    load_from(alloc, asked, shelf)
 }
 
 /// The document and the script that are asked for, of a shelf in memory.
@@ -118,7 +122,7 @@ fn measure_states<O: Sink, L: Ledger>(
         (Appends (O.log out.old).written (O.log out.new).written) result }
     ensures writing { IfErr result IsOfWriting }
     ensures write_faults { (O.log out.new).faults ≡ counted_if (ends_with statuses.WriteFault result) (O.log out.old).faults }
-    ensures counted { CountsAlong (StatesCost (by_plan session.plan) session.tree.nodes script.now) steps.old steps.new result }
+    ensures counted { CountsAlong (StatesCost (by_plan session.plan) 0 session.tree.nodes script.now) steps.old steps.new result }
     ensures steps { steps.old ≤ steps.new }
 {
     session.laws();

@@ -1,6 +1,7 @@
 //! A validation: the schema and the document read, then the state of the document by the schema.
 
 ghost use Rattle.std.specs.Prelude.{◌≡◌, ◌≤◌, ◌+◌, false, [], ◌∷◌, Some, IfOk, OnOk};
+ghost use Rattle.name_scopes.specs.Scoping.{InScope};
 ghost use Rattle.sch_compiled.specs.Soundness.{IsSound};
 ghost use Rattle.edit_session.specs.Pairs.{pair_cap_for};
 ghost use Rattle.edit_session.specs.State.{shows, state_text};
@@ -38,6 +39,7 @@ fn load_under<S: Shelf>(
     requires { IsSound plan }
     ensures reads { Reads (S.state shelf.old) (S.state shelf.new) (file name ∷ []) (λ files. Treeing files plan name) treed_by result }
     ensures cap { IfOk result (λ session. session.tree.pair_cap ≡ pair_cap_for session.plan) }
+    ensures scoped { IfOk result (λ session. InScope session.tree.nodes) }
     ensures unevaluated { IfOk result (λ session. IsUnevaluated (document_of session)) }
 {
     let tree = load_document(alloc, name, shelf)?;
@@ -59,6 +61,7 @@ pub(crate) fn load_asked<S: Shelf>(
     ensures reads { Reads (S.state shelf.old) (S.state shelf.new) (schema_file asked.entry.schema.now ∷ file asked.entry.document.now ∷ [])
         (λ files. Opening files asked.entry.phase.now asked.entry.schema.now asked.entry.document.now) treed_by result }
     ensures cap { IfOk result (λ session. session.tree.pair_cap ≡ pair_cap_for session.plan) }
+    ensures scoped { IfOk result (λ session. InScope session.tree.nodes) }
     ensures unevaluated { IfOk result (λ session. IsUnevaluated (document_of session)) }
 {
     let document = Text::copy(alloc, asked.document.as_str())?;
@@ -106,7 +109,7 @@ fn write_once<O: Sink, L: Ledger>(
 }
 
 /// What stops a run whose state is not written whole.
-fn stop_of(error: ReportError) -> Stop
+pub(crate) fn stop_of(error: ReportError) -> Stop
     ensures { result ≡ of_report error }
 {
     match error {

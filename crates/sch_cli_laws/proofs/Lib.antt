@@ -7,3 +7,4 @@ pub mod OneCost
 pub mod Ways
 pub mod SomeOutput
 pub mod SomeCost
+pub mod Undone

@@ -1,8 +1,8 @@
 -- A run that comes to its end has visits.
-use Rattle.std.proofs.Common.{◌≡◌, ℕ, ◌+◌, List, Option, None, Some, refl}
+use Rattle.std.proofs.Common.{◌≡◌, ℕ, ◌+◌, List, [], ◌∷◌, take, Option, None, Some, refl}
 use Rattle.sch_io.specs.Files.{Files}
 use Rattle.doc_tree.specs.Table.{Table}
-use Rattle.edit_script.specs.Script.{Script, script_of}
+use Rattle.edit_script.specs.Undos as item
 use Rattle.edit_session.specs.declared.state.Shown.{Shown}
 use Rattle.sch_words.specs.Commands.{Command, tell, expand, validate, follow, measure, summarize, watch, command_of}
 use Rattle.sch_words.specs.declared.status.Status.TheVariants.{Usage}
@@ -10,27 +10,37 @@ use Rattle.sch_stops.specs.Output.{Output, stopped, usage_line}
 use Rattle.sch_loading.specs.Loading.{Expanding, Reporting}
 use Rattle.sch_loading.specs.Stages.{Is, Stage, Then, goes, halts}
 use Rattle.sch_loading.proofs.StageLemmas.{through}
-use Rattle.sch_cli.specs.Telling.{Telling, by_plan, by_watches}
+use Rattle.sch_cli.specs.Telling.{Telling, by_plan, by_watches, edit_cost, under}
 use Rattle.sch_cli.specs.Behaviours.{Any, Making, Measures, Opening, OpeningAll, States, StatesCost, WatchingAll, behaviour}
-use Rattle.sch_cli.specs.Following.{Follows, comes_to_end, edits, refuses, stops_at, then_shown}
+use Rattle.sch_cli.specs.Following.{Earlier, Follows, comes_to_end, earlier_of, edits, has_no_history, items_of, lacks_numbers, refuses, stops_at, then_shown, undoes}
 use Rattle.sch_cli.specs.Output.{expanded, notice_output, state, summed_up}
-use Rattle.sch_cli.specs.Steps.{EditsCost, at_a_fault, at_the_end, of_edited, of_refused}
+use Rattle.sch_cli.specs.Steps.{EditsCost, at_a_fault, at_the_end, of_edited, of_lacking, of_none, of_refused, of_undone}
+use Rattle.sch_cli.proofs.WayLemmas.{touches}
 use Rattle.sch_cli_laws.specs.Ended.{SomeCost}
 
--- what is written for the commands of a script has visits
-module _ (telling : Telling) where
-  follows-cost : (T : Table) (number : ℕ) (seen : Shown) (script : Script) (output : Output) → Follows telling T number seen script output → (cost : ℕ) × EditsCost telling T script cost
-  follows-cost T number seen _ _ (comes_to_end _ _ _) = (0, at_the_end T)
-  follows-cost T number seen _ _ (stops_at _ _ _ fault) = (0, at_a_fault T fault)
-  follows-cost T number seen _ _ (refuses _ _ _ command reason rest output some follows) =
-      let later = follows-cost T (number + 1) seen rest output follows in (later.0, of_refused T command reason rest later.0 some later.1)
-  follows-cost T number seen _ _ (edits _ U _ _ command rest output none makes follows) =
-      let later = follows-cost U (number + 1) (then_shown seen (telling.shows U)) rest output follows in
-      (telling.edit_cost T command U + later.0, of_edited T U command rest later.0 none makes later.1)
+-- what is written for the commands and undos of a script has visits
+module _ (telling : Telling) (undos : ℕ) where
+  follows-cost : (T : Table) (backs : List Earlier) (number : ℕ) (seen : Shown) (items : item.Items) (output : Output) → Follows telling undos T backs number seen items output →
+      (cost : ℕ) × EditsCost telling undos T backs items cost
+  follows-cost T backs number seen _ _ (comes_to_end _ _ _ _) = (0, at_the_end T backs)
+  follows-cost T backs number seen _ _ (stops_at _ _ _ _ fault) = (0, at_a_fault T backs fault)
+  follows-cost T backs number seen _ _ (refuses _ _ _ _ command reason rest output some follows) =
+      let later = follows-cost T backs (number + 1) seen rest output follows in (later.0, of_refused T backs command reason rest later.0 some later.1)
+  follows-cost T backs number seen _ _ (edits _ U _ _ _ command rest output none makes follows) =
+      let later = follows-cost U (take undos (earlier_of T command ∷ backs)) (number + 1) (then_shown seen (telling.shows U)) rest output follows in
+      (edit_cost telling T command U + later.0, of_edited T U backs command rest later.0 none makes later.1)
+  follows-cost T _ number seen _ _ (undoes _ U back backs _ _ rest output taken follows) =
+      let later = follows-cost U backs (number + 1) (then_shown seen (telling.shows U)) rest output follows in
+      let cells = touches (under telling T) (under telling U) back.commands taken.done in
+      (telling.cost_anew T cells.0 U + later.0, of_undone T U back backs cells.0 rest later.0 taken cells.1 later.1)
+  follows-cost T _ number seen _ _ (lacks_numbers _ back backs _ _ rest output less follows) =
+      let later = follows-cost T (back ∷ backs) (number + 1) seen rest output follows in (later.0, of_lacking T back backs rest later.0 less later.1)
+  follows-cost T _ number seen _ _ (has_no_history _ _ _ rest output follows) =
+      let later = follows-cost T [] (number + 1) seen rest output follows in (later.0, of_none T rest later.0 later.1)
 
-  states-cost : (T : Table) (bytes : List ℕ) (output : Output) → States telling T bytes output → (cost : ℕ) × StatesCost telling T bytes cost
+  states-cost : (T : Table) (bytes : List ℕ) (output : Output) → States telling undos T bytes output → (cost : ℕ) × StatesCost telling undos T bytes cost
   states-cost T bytes output states =
-      let later = follows-cost T 1 (telling.shows T) (script_of bytes) states.0 states.1 in (telling.first_cost T + later.0, (later.0, later.1, refl))
+      let later = follows-cost T [] 1 (telling.shows T) (items_of undos bytes) states.0 states.1 in (telling.first_cost T + later.0, (later.0, later.1, refl))
 
 -- behind stages that make a value ready
 visited : {A : Type 0} (ready : Stage A) (outputs : A → Output → Type 0) (visits : A → ℕ → Type 0) → ((value : A) (output : Output) → outputs value output → (cost : ℕ) × visits value cost) →
@@ -62,15 +72,15 @@ asked-cost files (Some (summarize report)) = written (Then (Reporting files repo
 asked-cost files (Some (validate phase schema document)) =
     visited (Opening files phase schema document) (λ at output. output ≡ state at.plan at.tree) (λ at cost. cost ≡ (by_plan at.plan).first_cost at.tree)
     (λ at output is. ((by_plan at.plan).first_cost at.tree, refl))
-asked-cost files (Some (follow phase schema document script)) =
-    visited (OpeningAll files phase schema document script) (λ at. States (by_plan at.treed.plan) at.treed.tree at.script) (λ at. StatesCost (by_plan at.treed.plan) at.treed.tree at.script)
-    (λ at. states-cost (by_plan at.treed.plan) at.treed.tree at.script)
+asked-cost files (Some (follow undos phase schema document script)) =
+    visited (OpeningAll files phase schema document script) (λ at. States (by_plan at.treed.plan) undos at.treed.tree at.script) (λ at. StatesCost (by_plan at.treed.plan) undos at.treed.tree at.script)
+    (λ at. states-cost (by_plan at.treed.plan) undos at.treed.tree at.script)
 asked-cost files (Some (watch named document script)) =
-    visited (WatchingAll files named document script) (λ at. States (by_watches at.watched.expressions) at.watched.tree at.script)
-    (λ at. StatesCost (by_watches at.watched.expressions) at.watched.tree at.script) (λ at. states-cost (by_watches at.watched.expressions) at.watched.tree at.script)
+    visited (WatchingAll files named document script) (λ at. States (by_watches at.watched.expressions) 0 at.watched.tree at.script)
+    (λ at. StatesCost (by_watches at.watched.expressions) 0 at.watched.tree at.script) (λ at. states-cost (by_watches at.watched.expressions) 0 at.watched.tree at.script)
 asked-cost files (Some (measure items)) =
-    visited (Making items) (λ at. Measures at.treed.plan at.treed.tree at.script) (λ at. StatesCost (by_plan at.treed.plan) at.treed.tree at.script)
-    (λ at output measures. states-cost (by_plan at.treed.plan) at.treed.tree at.script measures.followed measures.states)
+    visited (Making items) (λ at. Measures at.treed.plan at.treed.tree at.script) (λ at. StatesCost (by_plan at.treed.plan) 0 at.treed.tree at.script)
+    (λ at output measures. states-cost (by_plan at.treed.plan) 0 at.treed.tree at.script measures.followed measures.states)
 
 pub some-cost : SomeCost
 some-cost words files = asked-cost files (command_of words)

@@ -1,5 +1,5 @@
 -- Stages that go on with a value, or halt the run.
-use Rattle.std.proofs.Common.{List, [], ◌++◌, ℕ, Bool, true, false, Option, None, Some, refl}
+use Rattle.std.proofs.Common.{◌≡◌, List, [], ◌++◌, ℕ, Bool, true, false, Option, None, Some, refl}
 use Rattle.sch_stops.specs.Output.{Output}
 use Rattle.sch_loading.specs.Stages.{Is, Stage, Then, goes, halt_at, halt_if, halts}
 use Rattle.sch_loading.proofs.StageLemmas.{goes-first, halts-first}
@@ -28,9 +28,9 @@ then-ends first next holds later (halted opened output stops) each = halted open
 pub goes-ends : {A : Type 0} (value : A) (holds : A → Type 0) → holds value → Ends (Is (goes value)) holds
 goes-ends value holds is = on_with [] value (refl, refl) is
 
-pub halt-if-ends : {A : Type 0} (test : Bool) (output : Output) (value : A) (holds : A → Type 0) → holds value → Ends (Is (halt_if test output value)) holds
+pub halt-if-ends : {A : Type 0} (test : Bool) (output : Output) (value : A) (holds : A → Type 0) → (test ≡ false → holds value) → Ends (Is (halt_if test output value)) holds
 halt-if-ends true output value holds is = halted [] output (refl, refl)
-halt-if-ends false output value holds is = on_with [] value (refl, refl) is
+halt-if-ends false output value holds is = on_with [] value (refl, refl) (is refl)
 
 pub halt-at-ends : {A F : Type 0} (fault : Option F) (output : F → Output) (value : A) (holds : A → Type 0) → holds value → Ends (Is (halt_at fault output value)) holds
 halt-at-ends (Some fault) output value holds is = halted [] (output fault) (refl, refl)

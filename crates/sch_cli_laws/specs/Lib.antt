@@ -1,3 +1,4 @@
 pub mod Decided
 pub mod Ended
+pub mod Undone
 pub mod WholeSchemas

@@ -2,10 +2,16 @@
 
 ghost use Rattle.sch_cli_laws.specs.Decided.{BegunIsFront, OneCost};
 ghost use Rattle.sch_cli_laws.specs.Ended.{SomeCost, SomeOutput};
+ghost use Rattle.sch_cli_laws.specs.Undone.{UndoneEditsShowTheSame};
 ghost use Rattle.sch_cli_laws.specs.WholeSchemas.{WholeSchemasStay};
 
+use edit_cap_laws::edits_stay_within;
 use edit_command_laws::{edits_keep_trees, edits_make_trees, one_edit, scripts_are_well_formed};
-use name_scopes::one_tree;
+use edit_session::pair_cap_is_for_pairs;
+use edit_undo_laws::{commands_are_undone, undoings_are_formed};
+use edit_way_laws::{edits_stay_in_scope, items_are_well_formed, numbers_grow};
+use history_laws::histories_stand;
+use name_scopes::{one_tree, text_comes_back};
 use name_scopes_laws::documents_have_trees;
 use sch_flat_laws::{
     expansion_is_accepted_again, expansions_are_documents, flat_texts_have_no_fault,
@@ -15,6 +21,7 @@ use sch_include::one_inclusion;
 use sch_include_laws::each_inclusion_ends;
 use sch_plan::one_plan;
 use sch_plan_laws::{each_phase_is_compiled, plans_need_no_places};
+use state_iso_laws::{same_trees_show_the_same, saved_documents_show_the_same};
 use watch_lines_laws::{each_file_is_read, one_reading};
 
 /// What an expansion writes needs no other file and stands for the schema that was expanded: its own expansion writes the same
@@ -60,9 +67,17 @@ pub fn some_output()
     documents_have_trees();
     each_inclusion_ends();
     each_phase_is_compiled();
+    pair_cap_is_for_pairs();
     edits_make_trees();
     edits_keep_trees();
+    edits_stay_within();
+    edits_stay_in_scope();
+    numbers_grow();
+    commands_are_undone();
+    undoings_are_formed();
+    histories_stand();
     scripts_are_well_formed();
+    items_are_well_formed();
     each_file_is_read();
 }
 
@@ -70,3 +85,18 @@ pub fn some_output()
 pub fn some_cost()
     ensures { SomeCost }
 {}
+
+/// Where an edit is undone the document shows what it showed before, byte for byte; and so does one that was saved and is validated.
+pub fn undone_edits_show_the_same()
+    ensures { UndoneEditsShowTheSame }
+{
+    one_tree();
+    one_inclusion();
+    one_plan();
+    one_edit();
+    edits_keep_trees();
+    documents_have_trees();
+    text_comes_back();
+    same_trees_show_the_same();
+    saved_documents_show_the_same();
+}

@@ -3,4 +3,7 @@
 
 mod laws;
 
-pub use laws::{begun_is_front, one_cost, some_cost, some_output, whole_schemas_stay};
+pub use laws::{
+    begun_is_front, one_cost, some_cost, some_output, undone_edits_show_the_same,
+    whole_schemas_stay,
+};

@@ -3,6 +3,7 @@
 ghost use Rattle.std.specs.Prelude.{◌≡◌, ◌≤◌, true, [], ◌∷◌, IfOk, IfSome, length};
 ghost use Rattle.sch_io.specs.declared.reading.TheConstants.{MAX_FILE_BYTES};
 ghost use Rattle.doc_tree.specs.Kinds.{is_document};
+ghost use Rattle.name_scopes.specs.Scoping.{InScope};
 ghost use Rattle.sch_compiled.specs.Soundness.{IsSound};
 ghost use Rattle.edit_script.specs.declared.limits.TheConstants.{MAX_SCRIPT_BYTES};
 ghost use Rattle.sch_loading.specs.Reads.{Reads, ReadsUpTo, file, schema_file};
@@ -79,6 +80,7 @@ fn refused_file(name: Text, refusal: FileRefusal) -> Stop
 pub fn load_document<S: Shelf>(alloc: Global, name: Text, shelf: &mut S) -> Result<Tree, Stop>
     ensures reads { Reads (S.state shelf.old) (S.state shelf.new) (file name ∷ []) (λ files. Loading files name) (λ tree. tree.nodes) result }
     ensures document { IfOk result (λ tree. is_document tree.nodes ≡ true) }
+    ensures scoped { IfOk result (λ tree. InScope tree.nodes) }
 {
     let Some(bytes) = read_file(alloc, name, shelf)? else {
         return Err(refused_document(FileRefusal::TooLarge));

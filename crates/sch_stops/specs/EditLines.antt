@@ -29,3 +29,11 @@ refusal_words SameAttribute = codes "SameAttribute"
 -- the line of a refused command: its number, and the first reason against it
 unfoldable pub refused_line : ℕ → EditRefusal → List ℕ
 refused_line number reason = codes "?refused " ++ (decimal number ++ (codes " " ++ (refusal_words reason ++ codes "\n")))
+
+-- the line in front of the state to which an undo goes back, which tells its number; commands and undos are numbered together
+unfoldable pub undo_line : ℕ → List ℕ
+undo_line number = codes "?undo " ++ (decimal number ++ codes "\n")
+
+-- the line of an undo that is refused, since no edit is left that can be undone
+unfoldable pub no_history_line : ℕ → List ℕ
+no_history_line number = codes "?refused " ++ (decimal number ++ codes " NoHistory\n")

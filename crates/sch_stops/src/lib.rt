@@ -6,7 +6,7 @@ mod refusal;
 mod stop;
 mod watches;
 
-pub use edit_lines::{write_edit_line, write_refused_line};
+pub use edit_lines::{write_edit_line, write_no_history_line, write_refused_line, write_undo_line};
 pub use refusal::{DocumentRefusal, FileRefusal, SchemaRefusal, ScriptRefusal};
 pub use stop::Stop;
 pub use watches::WatchesRefusal;

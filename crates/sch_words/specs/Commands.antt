@@ -5,16 +5,17 @@ use Rattle.sch_words.specs.declared.command.Command.{Command as Borrowed}
 use Rattle.sch_words.specs.declared.command.Command.TheVariants as borrowed
 use Rattle.sch_words.specs.declared.notice.Notice.{Notice}
 use Rattle.sch_words.specs.declared.notice.Notice.TheVariants.{Help, Version}
-use Rattle.sch_words.specs.Counts.{count_of}
+use Rattle.sch_words.specs.Counts.{count_of, depth_of}
 
 -- what accepted words ask for: to say something of the program, to expand a schema, to validate by a phase and a schema a document, to
--- do the same after each command of an edit script, to measure that for a number of items, to sum up a report, or to evaluate the watched
--- expressions of a file over a document, and again after each command of an edit script
+-- do the same after each command of an edit script, where so many of the newest edits can be undone, to measure that for a number of
+-- items, to sum up a report, or to evaluate the watched expressions of a file over a document, and again after each command of an edit
+-- script
 pub data Command : Type 0 where
   tell : Notice → Command
   expand : List ℕ → Command
   validate : List ℕ → List ℕ → List ℕ → Command
-  follow : List ℕ → List ℕ → List ℕ → List ℕ → Command
+  follow : ℕ → List ℕ → List ℕ → List ℕ → List ℕ → Command
   measure : ℕ → Command
   summarize : List ℕ → Command
   watch : List ℕ → List ℕ → List ℕ → Command
@@ -66,11 +67,20 @@ abbrev pub validation_of : List ℕ → List ℕ → List ℕ → List ℕ → O
 validation_of verb phase schema document =
     if bytes_eq verb (codes "validate") && is_file_name schema && is_file_name document then Some (validate phase schema document) else None
 
--- `follow S D E`, under a phase
-abbrev pub following_of : List ℕ → List ℕ → List ℕ → List ℕ → List ℕ → Option Command
-following_of verb phase schema document script =
+-- how many edits can be undone, by `--undo K`
+abbrev pub undo_depth_of : List ℕ → List ℕ → Option ℕ
+undo_depth_of option word = if bytes_eq option (codes "--undo") then depth_of word else None
+
+-- `follow S D E`, under a phase, where so many edits can be undone
+abbrev pub following_of : ℕ → List ℕ → List ℕ → List ℕ → List ℕ → List ℕ → Option Command
+following_of depth verb phase schema document script =
     if bytes_eq verb (codes "follow") && is_file_name schema && is_file_name document && is_file_name script
-    then Some (follow phase schema document script) else None
+    then Some (follow depth phase schema document script) else None
+
+-- the same where the number is said; no command where it is not
+abbrev pub following_to : Option ℕ → List ℕ → List ℕ → List ℕ → List ℕ → List ℕ → Option Command
+following_to None verb phase schema document script = None
+following_to (Some depth) verb phase schema document script = following_of depth verb phase schema document script
 
 -- `watch W D E`
 abbrev pub watching_of : List ℕ → List ℕ → List ℕ → Option Command
@@ -80,10 +90,17 @@ watching_of watches document script =
 -- `watch W D E` or `follow S D E`
 abbrev pub of_three_names : List ℕ → List ℕ → List ℕ → List ℕ → Option Command
 of_three_names verb first document script =
-    if bytes_eq verb (codes "watch") then watching_of first document script else following_of verb default_phase first document script
+    if bytes_eq verb (codes "watch") then watching_of first document script else following_of 0 verb default_phase first document script
+
+-- `follow --phase P S D E` or `follow --undo K S D E`
+abbrev pub of_option : List ℕ → List ℕ → List ℕ → List ℕ → List ℕ → List ℕ → Option Command
+of_option verb option word schema document script =
+    if is_of_phase option word then following_of 0 verb word schema document script
+    else following_to (undo_depth_of option word) verb default_phase schema document script
 
 -- `--help`, `--version`, `expand S`, `measure N`, `summary R`, `validate S D`, `validate --phase P S D`, `follow S D E`,
--- `follow --phase P S D E`, where P is not empty, `watch W D E`; no other words are accepted
+-- `follow --phase P S D E`, `follow --undo K S D E`, `follow --phase P --undo K S D E`, where P is not empty, `watch W D E`; no other
+-- words are accepted
 abbrev pub command_of : List (List ℕ) → Option Command
 command_of (word ∷ []) = notice_of word
 command_of (verb ∷ word ∷ []) = of_one_name verb word
@@ -91,8 +108,9 @@ command_of (verb ∷ schema ∷ document ∷ []) = validation_of verb default_ph
 command_of (verb ∷ first ∷ document ∷ script ∷ []) = of_three_names verb first document script
 command_of (verb ∷ option ∷ phase ∷ schema ∷ document ∷ []) =
     if is_of_phase option phase then validation_of verb phase schema document else None
-command_of (verb ∷ option ∷ phase ∷ schema ∷ document ∷ script ∷ []) =
-    if is_of_phase option phase then following_of verb phase schema document script else None
+command_of (verb ∷ option ∷ word ∷ schema ∷ document ∷ script ∷ []) = of_option verb option word schema document script
+command_of (verb ∷ option ∷ phase ∷ other ∷ word ∷ schema ∷ document ∷ script ∷ []) =
+    if is_of_phase option phase then following_to (undo_depth_of other word) verb phase schema document script else None
 command_of words = None
 
 -- what the program's own type of command says
@@ -100,7 +118,8 @@ abbrev pub shown : Borrowed → Command
 shown (borrowed.Tell notice) = tell notice
 shown (borrowed.Expand schema) = expand schema.now
 shown (borrowed.Validate asked) = validate asked.phase.now asked.schema.now asked.document.now
-shown (borrowed.Follow asked) = follow asked.validation.phase.now asked.validation.schema.now asked.validation.document.now asked.script.now
+shown (borrowed.Follow asked) =
+    follow asked.undos asked.validation.phase.now asked.validation.schema.now asked.validation.document.now asked.script.now
 shown (borrowed.Measure items) = measure items
 shown (borrowed.Summarize report) = summarize report.now
 shown (borrowed.Watch asked) = watch asked.watches.now asked.document.now asked.script.now

@@ -12,6 +12,8 @@ help_lines =
     ∷ codes "sch validate --phase PHASE SCHEMA DOCUMENT"
     ∷ codes "sch follow SCHEMA DOCUMENT SCRIPT"
     ∷ codes "sch follow --phase PHASE SCHEMA DOCUMENT SCRIPT"
+    ∷ codes "sch follow --undo COUNT SCHEMA DOCUMENT SCRIPT"
+    ∷ codes "sch follow --phase PHASE --undo COUNT SCHEMA DOCUMENT SCRIPT"
     ∷ codes "sch watch WATCHES DOCUMENT SCRIPT"
     ∷ codes "sch expand SCHEMA"
     ∷ codes "sch measure COUNT"

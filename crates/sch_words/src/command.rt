@@ -1,37 +1,16 @@
 //! Which words are accepted, and what they ask for.
 
-ghost use Rattle.std.specs.Prelude.{◌≡◌, MatchOption, Some, None};
-ghost use Rattle.sch_words.specs.Commands.{command_of, expansion_of, following_of, is_file_name, is_of_phase, measuring_of, notice_of, of_one_name, of_three_names, shown, summary_of, validation_of, watching_of};
+ghost use Rattle.std.specs.Prelude.{◌≡◌, ◌≤◌, IfSome, MatchOption, Some, None};
+ghost use Rattle.sch_words.specs.Commands.{command_of, expansion_of, following_of, following_to, is_file_name, is_of_phase, measuring_of, notice_of, of_one_name, of_option, of_three_names, shown, summary_of, undo_depth_of, validation_of, watching_of};
+ghost use Rattle.sch_words.specs.declared.count.TheConstants.{MAX_UNDO_DEPTH};
 
-use crate::count::count_of;
+use crate::asked::{ScriptedValidation, Validation, Watching};
+use crate::count::{count_of, depth_of};
 use crate::notice::Notice;
 use sch_base::Text;
 
 /// The phase where none is named: the one that the schema chooses.
 pub const DEFAULT_PHASE: &str = "#DEFAULT";
-
-/// What a validation is asked for: the document, by the schema under the phase.
-#[derive(Clone, Copy)]
-pub struct Validation<'a> {
-    pub phase: &'a str,
-    pub schema: &'a Text,
-    pub document: &'a Text,
-}
-
-/// What is followed: a validation, and the same after each command of the script.
-#[derive(Clone, Copy)]
-pub struct ScriptedValidation<'a> {
-    pub validation: Validation<'a>,
-    pub script: &'a Text,
-}
-
-/// What is watched: the expressions of a file over a document, and again after each command of the script.
-#[derive(Clone, Copy)]
-pub struct Watching<'a> {
-    pub watches: &'a Text,
-    pub document: &'a Text,
-    pub script: &'a Text,
-}
 
 /// What accepted words ask for.
 #[derive(Drop)]
@@ -135,23 +114,55 @@ fn validation_of<'a>(verb: &Text, asked: Validation<'a>) -> Option<Command<'a>>
     }
 }
 
+/// How many edits can be undone, as the words say it.
+fn undo_depth_of(option: &Text, word: &Text) -> Option<u32>
+    ensures depth { result ≡ undo_depth_of option.now word.now }
+    ensures within { IfSome result (λ undos. undos ≤ MAX_UNDO_DEPTH) }
+{
+    if option.as_str() == "--undo" {
+        depth_of(word.as_str())
+    } else {
+        None
+    }
+}
+
 /// The script that the words ask to follow.
-fn following_of<'a>(
+fn following_of<'a>(verb: &Text, asked: ScriptedValidation<'a>) -> Option<Command<'a>>
+    ensures { MatchOption result (following_of asked.entry.undos verb.now asked.entry.validation.phase.now asked.entry.validation.schema.now asked.entry.validation.document.now asked.entry.script.now ≡ None)
+        (λ command. following_of asked.entry.undos verb.now asked.entry.validation.phase.now asked.entry.validation.schema.now asked.entry.validation.document.now asked.entry.script.now ≡ Some (shown command)) }
+{
+    if verb.as_str() == "follow"
+        && is_file_name(asked.validation.schema)
+        && is_file_name(asked.validation.document)
+        && is_file_name(asked.script)
+    {
+        Some(Command::Follow(asked))
+    } else {
+        None
+    }
+}
+
+/// The script that the words ask to follow, where an option and its word say how many edits can be undone.
+fn following_to<'a>(
     verb: &Text,
+    option: &Text,
+    word: &Text,
     validation: Validation<'a>,
     script: &'a Text,
 ) -> Option<Command<'a>>
-    ensures { MatchOption result (following_of verb.now validation.entry.phase.now validation.entry.schema.now validation.entry.document.now script.now ≡ None)
-        (λ command. following_of verb.now validation.entry.phase.now validation.entry.schema.now validation.entry.document.now script.now ≡ Some (shown command)) }
+    ensures { MatchOption result (following_to (undo_depth_of option.now word.now) verb.now validation.entry.phase.now validation.entry.schema.now validation.entry.document.now script.now ≡ None)
+        (λ command. following_to (undo_depth_of option.now word.now) verb.now validation.entry.phase.now validation.entry.schema.now validation.entry.document.now script.now ≡ Some (shown command)) }
 {
-    if verb.as_str() == "follow"
-        && is_file_name(validation.schema)
-        && is_file_name(validation.document)
-        && is_file_name(script)
-    {
-        Some(Command::Follow(ScriptedValidation { validation, script }))
-    } else {
-        None
+    match undo_depth_of(option, word) {
+        Some(undos) => following_of(
+            verb,
+            ScriptedValidation {
+                validation,
+                script,
+                undos,
+            },
+        ),
+        None => None,
     }
 }
 
@@ -185,12 +196,56 @@ fn of_three_names<'a>(
             script,
         });
     }
-    let asked = Validation {
+    let validation = Validation {
         phase: DEFAULT_PHASE,
         schema: first,
         document,
     };
-    following_of(verb, asked, script)
+    let undos = 0;
+    let asked = ScriptedValidation {
+        validation,
+        script,
+        undos,
+    };
+    following_of(verb, asked)
+}
+
+/// What a verb, an option and its word, and three words behind them ask for.
+fn of_option<'a>(
+    verb: &Text,
+    option: &Text,
+    word: &'a Text,
+    schema: &'a Text,
+    document: &'a Text,
+    script: &'a Text,
+) -> Option<Command<'a>>
+    ensures { MatchOption result (of_option verb.now option.now word.now schema.now document.now script.now ≡ None)
+        (λ command. of_option verb.now option.now word.now schema.now document.now script.now ≡ Some (shown command)) }
+{
+    if is_of_phase(option, word) {
+        let phase = word.as_str();
+        let validation = Validation {
+            phase,
+            schema,
+            document,
+        };
+        let undos = 0;
+        return following_of(
+            verb,
+            ScriptedValidation {
+                validation,
+                script,
+                undos,
+            },
+        );
+    }
+    let phase = DEFAULT_PHASE;
+    let validation = Validation {
+        phase,
+        schema,
+        document,
+    };
+    following_to(verb, option, word, validation, script)
 }
 
 /// What the words ask for, or None where they are not accepted.
@@ -219,14 +274,18 @@ pub fn command_of(words: &[Text]) -> Option<Command<'_>>
             };
             validation_of(verb, asked)
         }
-        [verb, option, phase, schema, document, script] if is_of_phase(option, phase) => {
+        [verb, option, word, schema, document, script] => {
+            of_option(verb, option, word, schema, document, script)
+        }
+        [verb, option, phase, other, word, schema, document, script]
+            if is_of_phase(option, phase) => {
             let phase = phase.as_str();
-            let asked = Validation {
+            let validation = Validation {
                 phase,
                 schema,
                 document,
             };
-            following_of(verb, asked, script)
+            following_to(verb, other, word, validation, script)
         }
         _ => None,
     }

@@ -30,6 +30,8 @@ impl Notice {
                     "sch validate --phase PHASE SCHEMA DOCUMENT\n",
                     "sch follow SCHEMA DOCUMENT SCRIPT\n",
                     "sch follow --phase PHASE SCHEMA DOCUMENT SCRIPT\n",
+                    "sch follow --undo COUNT SCHEMA DOCUMENT SCRIPT\n",
+                    "sch follow --phase PHASE --undo COUNT SCHEMA DOCUMENT SCRIPT\n",
                     "sch watch WATCHES DOCUMENT SCRIPT\n",
                     "sch expand SCHEMA\n",
                     "sch measure COUNT\n",

@@ -12,7 +12,6 @@ use Rattle.sch_words.specs.declared.status.Status.TheVariants as status
 use Rattle.sch_stops.specs.declared.stop.Stop.{Stop}
 use Rattle.sch_stops.specs.declared.stop.Stop.TheVariants.{Memory}
 use Rattle.sch_stops.specs.EditLines.{refused_line}
-use Rattle.sch_cli.specs.Following.{Begins, Follows}
 use Rattle.sch_stops.specs.Output.{Output}
 use Rattle.sch_cli.specs.Output.{in_front}
 use Rattle.sch_cli.specs.Runs.{Fronted}
@@ -23,6 +22,7 @@ use Rattle.sch_cli.specs.declared.following.Scripted.{Scripted as Borrowed}
 use Rattle.sch_cli.specs.declared.watching.Watched.{Watched as BorrowedWatched}
 use Rattle.xp_watch.specs.Watching.{Watching}
 use Rattle.sch_cli.specs.Behaviours.{Scripted, Treed, Watched, WatchedScript, tree_under, watched_on}
+use Rattle.sch_cli.specs.inner.Scripts.{Begins, Follows}
 use Rattle.sch_cli.specs.inner.Sessions.{Document, HasCost}
 use Rattle.sch_cli.specs.inner.Writing.{IsOfWriting, WroteText}
 

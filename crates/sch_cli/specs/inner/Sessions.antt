@@ -1,5 +1,5 @@
 -- Documents that are followed: what is told of each, and what its next state is to evaluate.
-use Rattle.std.specs.Prelude.{◌≡◌, ℕ, List}
+use Rattle.std.specs.Prelude.{◌≡◌, ℕ}
 use Rattle.doc_tree.specs.Table.{Contents}
 use Rattle.edit_costs.specs.Costs as units
 use Rattle.kept_state.specs.Running.{IsFresh, to_run}
@@ -9,8 +9,8 @@ use Rattle.edit_session.specs.Standing.{Standing, seen_by}
 use Rattle.xp_watch.specs.Costs as watches
 use Rattle.xp_watch.specs.Kept as kept
 use Rattle.xp_watch.specs.Watching.{Watching}
-use Rattle.sch_cli.specs.Steps.{EditsCost}
-use Rattle.sch_cli.specs.Telling.{Telling, by_plan, by_watches}
+use Rattle.sch_cli.specs.Telling.{Telling, by_plan, by_watches, edit_cost}
+use Rattle.sch_cli.specs.inner.Scripts.{EditsCost}
 
 -- what is told of a document, its tree as it stands, and the visits of what its next state evaluates
 pub record Document : Type 0 where
@@ -24,7 +24,7 @@ IsUnevaluated at = at.next ≡ at.telling.first_cost at.tree.nodes
 
 -- a command made the later document of it, of which the rest is as it was
 abbrev pub LeavesDirty : Document → Edit → Document → Type 0
-LeavesDirty at command later = later.next ≡ at.telling.edit_cost at.tree.nodes command later.tree.nodes
+LeavesDirty at command later = later.next ≡ edit_cost at.telling at.tree.nodes command later.tree.nodes
 
 -- the visits for the states behind the commands of a script
 abbrev pub ScriptCost : Document → Script → ℕ → Type 0

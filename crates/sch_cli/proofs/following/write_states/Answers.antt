@@ -15,7 +15,7 @@ pub returns-in_err-seen-clause-told : goal.returns-in_err-seen-clause-told
 returns-in_err-seen-clause-told g c =
     let error = err_from_is_err_and c.from_residual.result c.from_residual.ensures.1 in
     let at = g.F.Followed.document c.args.followed.now in
-    first_stops at.telling at.tree.nodes c.args.script.now _ _ c.in_err-seen.field-0.0 c.from_residual.result (error.1 ∙ ap Err error.2) c.in_err-seen.ensures.wrote
+    first_stops at.telling 0 at.tree.nodes c.args.script.now _ _ c.in_err-seen.field-0.0 c.from_residual.result (error.1 ∙ ap Err error.2) c.in_err-seen.ensures.wrote
 
 pub returns-in_err-seen-clause-writing : goal.returns-in_err-seen-clause-writing
 returns-in_err-seen-clause-writing g c =

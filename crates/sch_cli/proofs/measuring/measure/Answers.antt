@@ -12,7 +12,7 @@ pub returns-in_err-session-clause-carried : goal.returns-in_err-session-clause-c
 returns-in_err-session-clause-carried g c = λ state.
     let error = err_from_is_err_and c.from_residual.result c.from_residual.ensures.1 in
     stopped_before [] (λ files. Making c.args.items) scripted_by
-    (λ at. Measures at.treed.plan at.treed.tree at.script) (λ at. MeasuresText at.treed.plan at.treed.tree at.script) (λ at. StatesCost (by_plan at.treed.plan) at.treed.tree at.script) true state state _ _
+    (λ at. Measures at.treed.plan at.treed.tree at.script) (λ at. MeasuresText at.treed.plan at.treed.tree at.script) (λ at. StatesCost (by_plan at.treed.plan) 0 at.treed.tree at.script) true state state _ _
     c.in_err-session.field-0.0 c.from_residual.result (error.1 ∙ ap Err error.2) (c.in_err-session.ensures.reads state)
 
 pub returns-in_err-session-clause-accepted : goal.returns-in_err-session-clause-accepted
@@ -24,13 +24,13 @@ pub returns-clause-carried : goal.returns-clause-carried
 returns-clause-carried g c = λ state.
     let opened = c.in_ok-session.field-0 in
     carried [] (λ files. Making c.args.items) scripted_by
-    (λ at. Measures at.treed.plan at.treed.tree at.script) (λ at. MeasuresText at.treed.plan at.treed.tree at.script) (λ at. StatesCost (by_plan at.treed.plan) at.treed.tree at.script) true state state _ _ _ _
+    (λ at. Measures at.treed.plan at.treed.tree at.script) (λ at. MeasuresText at.treed.plan at.treed.tree at.script) (λ at. StatesCost (by_plan at.treed.plan) 0 at.treed.tree at.script) true state state _ _ _ _
     opened c.measure_states.result (c.in_ok-session.ensures.reads state)
     (record {
       whole = rw c.as_slice.ensures at c.measure_states.ensures.told;
       writing = c.measure_states.ensures.writing;
       write_faults = c.measure_states.ensures.write_faults;
-      counted = along_by (StatesCost (by_plan opened.session.plan) opened.session.tree.nodes opened.script) _ _ c.measure_states.result c.measure_states.ensures.writing
+      counted = along_by (StatesCost (by_plan opened.session.plan) 0 opened.session.tree.nodes opened.script) _ _ c.measure_states.result c.measure_states.ensures.writing
           (rw c.as_slice.ensures at c.measure_states.ensures.counted);
       unevaluated = λ idle. absurd (true≢false idle);
       rises = c.measure_states.ensures.steps;

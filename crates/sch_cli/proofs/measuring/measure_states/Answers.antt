@@ -130,7 +130,7 @@ returns-clause-counted g c =
     let ends = c.in_ok-measure_rest.ensures.ends 1 (shows plan T) (ap (λ (m : Measured). m.counts.faulted) c.in_ok-first.ensures.measured ∙ sym (shows-fault plan T)) in
     let later = place_at c.measure_rest.new.self ends.0.number ends.0.seen in
     let whole : Result Shown Stop = Ok ends.0.seen in
-    counts-end (StatesCost (by_plan plan) T c.args.script.now) _ _ ends.0.seen c.measure_rest.new.self.faulted _ _ (text_of_both c.in_ok-first.first c.measure_rest.new.self.last) c.conclude_measure.result
+    counts-end (StatesCost (by_plan plan) 0 T c.args.script.now) _ _ ends.0.seen c.measure_rest.new.self.faulted _ _ (text_of_both c.in_ok-first.first c.measure_rest.new.self.last) c.conclude_measure.result
     (states_count (document_of c.args.session) c.args.script.now first c.args.steps.now c.measure_state.new.steps c.measure_rest.new.steps whole c.requires.unevaluated
     (ap by_plan c.in_ok-first.ensures.plan) c.in_ok-first.ensures.tree (ap script_left c.new-script.ensures) c.in_ok-first.ensures.rose
     (rest_counts first later c.measure_state.new.steps c.measure_rest.new.steps ends.0.moved.costed ends.1))

@@ -55,14 +55,14 @@ returns-in-Some-Validate-clause-usage g c =
 pub returns-in-Some-Follow-clause-carried : goal.returns-in-Some-Follow-clause-carried
 returns-in-Some-Follow-clause-carried g c =
     let at = c.in-Some-Follow in
-    carries c.args.words.now (follow at.asked.validation.phase.now at.asked.validation.schema.now at.asked.validation.document.now at.asked.script.now) _ _ _ _ _ _ c.follow.result
+    carries c.args.words.now (follow at.asked.undos at.asked.validation.phase.now at.asked.validation.schema.now at.asked.validation.document.now at.asked.script.now) _ _ _ _ _ _ c.follow.result
     (rw (← c.as_slice.ensures) (asks c.as_slice.result.now c.command_of.result (borrowed.Follow at.asked) c.command_of.ensures (at.is ∙ ap Some at.field-0-is)))
     c.follow.ensures.carried
 
 pub returns-in-Some-Follow-clause-usage : goal.returns-in-Some-Follow-clause-usage
 returns-in-Some-Follow-clause-usage g c =
     let at = c.in-Some-Follow in
-    accepted (command_of c.args.words.now) (follow at.asked.validation.phase.now at.asked.validation.schema.now at.asked.validation.document.now at.asked.script.now) c.follow.result
+    accepted (command_of c.args.words.now) (follow at.asked.undos at.asked.validation.phase.now at.asked.validation.schema.now at.asked.validation.document.now at.asked.script.now) c.follow.result
     (rw (← c.as_slice.ensures) (asks c.as_slice.result.now c.command_of.result (borrowed.Follow at.asked) c.command_of.ensures (at.is ∙ ap Some at.field-0-is)))
     c.follow.ensures.accepted
 

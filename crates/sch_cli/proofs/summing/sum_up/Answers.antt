@@ -1,5 +1,5 @@
 -- The report is read and its summary written, or the run is stopped before.
-use Rattle.std.proofs.Common.{◌∙◌, ◌≡◌, [], ◌∷◌, false, Err, ap, refl, sym, subst, arith}
+use Rattle.std.proofs.Common.{◌∙◌, ◌≡◌, [], ◌∷◌, false, Err, ap, refl, arith}
 use Rattle.std.proofs.lemmas.Result.{err_from_is_err_and}
 use Rattle.svrl_read.specs.declared.value.SvrlReport.{SvrlReport}
 use Rattle.svrl_summary.specs.Lines.{summary_lines}

@@ -1,7 +1,8 @@
 -- The file is a tree that is not too large for the plan, or the document is refused.
-use Rattle.std.proofs.Common.{◌∙◌, [], ◌∷◌, Err, Ok, ap, refl, sym}
+use Rattle.std.proofs.Common.{◌∙◌, [], ◌∷◌, Err, Ok, ap, refl, subst, sym}
 use Rattle.std.proofs.lemmas.Result.{err_from_is_err_and}
 use Rattle.doc_tree.specs.Table.{Contents}
+use Rattle.name_scopes.specs.Scoping.{InScope}
 use Rattle.edit_session.specs.Pairs.{has_too_many_pairs, pair_cap_for}
 use Rattle.sch_stops.specs.declared.refusal.DocumentRefusal.TheVariants.{TooManyPairs}
 use Rattle.sch_stops.specs.declared.stop.Stop.TheVariants.{DocumentRefused, Memory}
@@ -30,6 +31,9 @@ returns-in-Ok-clause-reads g c =
 
 pub returns-in-Ok-clause-cap : goal.returns-in-Ok-clause-cap
 returns-in-Ok-clause-cap g c = ap (λ (tree : Contents). tree.pair_cap) c.in-Ok.ensures.tree ∙ ap pair_cap_for (sym c.in-Ok.ensures.plan)
+
+pub returns-in-Ok-clause-scoped : goal.returns-in-Ok-clause-scoped
+returns-in-Ok-clause-scoped g c = subst (λ (tree : Contents). InScope tree.nodes) (sym c.in-Ok.ensures.tree) c.in_ok-tree.ensures.scoped
 
 pub returns-in-Ok-clause-unevaluated : goal.returns-in-Ok-clause-unevaluated
 returns-in-Ok-clause-unevaluated g c =

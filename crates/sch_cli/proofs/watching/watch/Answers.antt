@@ -17,8 +17,8 @@ returns-in_err-watch-clause-carried g c =
     let asked = c.args.asked in
     stopped_before (file asked.watches.now ∷ file asked.document.now ∷ file asked.script.now ∷ [])
     (λ files. WatchingAll files asked.watches.now asked.document.now asked.script.now) watched_script
-    (λ at. States (by_watches at.watched.expressions) at.watched.tree at.script) (λ at. BeginsStates (by_watches at.watched.expressions) at.watched.tree at.script)
-    (λ at. StatesCost (by_watches at.watched.expressions) at.watched.tree at.script) true _ _ _ _
+    (λ at. States (by_watches at.watched.expressions) 0 at.watched.tree at.script) (λ at. BeginsStates (by_watches at.watched.expressions) 0 at.watched.tree at.script)
+    (λ at. StatesCost (by_watches at.watched.expressions) 0 at.watched.tree at.script) true _ _ _ _
     c.in_err-watch.field-0.0 c.from_residual.result (error.1 ∙ ap Err error.2) c.in_err-watch.ensures.reads
 
 pub returns-in_err-watch-clause-accepted : goal.returns-in_err-watch-clause-accepted
@@ -36,14 +36,14 @@ returns-clause-carried g c =
     let opened = c.in_ok-watch.field-0 in
     carried (file asked.watches.now ∷ file asked.document.now ∷ file asked.script.now ∷ [])
     (λ files. WatchingAll files asked.watches.now asked.document.now asked.script.now) watched_script
-    (λ at. States (by_watches at.watched.expressions) at.watched.tree at.script) (λ at. BeginsStates (by_watches at.watched.expressions) at.watched.tree at.script)
-    (λ at. StatesCost (by_watches at.watched.expressions) at.watched.tree at.script) true _ _ _ _ _ _
+    (λ at. States (by_watches at.watched.expressions) 0 at.watched.tree at.script) (λ at. BeginsStates (by_watches at.watched.expressions) 0 at.watched.tree at.script)
+    (λ at. StatesCost (by_watches at.watched.expressions) 0 at.watched.tree at.script) true _ _ _ _ _ _
     opened c.write_states.result c.in_ok-watch.ensures.reads
     (record {
       whole = rw c.as_slice-bytes.ensures at c.write_states.ensures.told;
       writing = c.write_states.ensures.writing;
       write_faults = c.write_states.ensures.write_faults;
-      counted = along_by (StatesCost (by_watches opened.watch.expressions) opened.watch.tree.nodes opened.script) _ _ c.write_states.result c.write_states.ensures.writing
+      counted = along_by (StatesCost (by_watches opened.watch.expressions) 0 opened.watch.tree.nodes opened.script) _ _ c.write_states.result c.write_states.ensures.writing
           (rw c.as_slice-bytes.ensures at c.write_states.ensures.counted);
       unevaluated = λ idle. absurd (true≢false idle);
       rises = c.write_states.ensures.steps;

@@ -1,5 +1,4 @@
 -- The stale ones are evaluated, and then all are told.
-use Rattle.std.proofs.Common.{◌∙◌, ◌≡◌, Result, Err, ap, refl}
 use Rattle.std.proofs.lemmas.Result.{err_from_is_err_and}
 use Rattle.watch_out.specs.Lines.{watch_text}
 use Rattle.sch_cli.specs.inner.Sessions.{IsWatched}
