@@ -15,7 +15,7 @@ use Rattle.xp_outcome.specs.Recorded.{CellSet, NamesSet, Recorded, cell_cmp, nam
 use Rattle.xp_outcome.specs.declared.names_along.NamesAlong.{NamesAlong}
 use Rattle.xp_outcome.proofs.Sets.{cell_cmp_antisymmetric, cell_cmp_total, from_list-filter, names_cmp_antisymmetric, names_cmp_total}
 use Rattle.cover_laws.specs.Covering.{HeldAlike, is_upward, names_at, other_names, spelled_cells, upward_cells}
-use Rattle.cover_laws.proofs.SetLemmas.{any_from_list, any_joined, none_in, tied}
+use Rattle.xp_outcome.proofs.SetTests.{any_from_list, any_joined, none_in, tied}
 use Rattle.cell_covers.specs.Bare.{IsBare}
 use Rattle.cell_covers.specs.inner.Dropping.{Leaves, StandsFor, is_covered, is_wide}
 use Rattle.cell_covers.specs.inner.Naming.{with_names}

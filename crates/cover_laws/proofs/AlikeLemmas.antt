@@ -17,7 +17,7 @@ use Rattle.xp_outcome.specs.Recorded.{CellSet, node_of}
 use Rattle.xp_outcome.proofs.Sets.{cell_cmp_antisymmetric, cell_cmp_total}
 use Rattle.cover_laws.specs.Covering.{Alike, AreOfLive, CoveringIsTouched, covers, has_touched}
 use Rattle.cover_laws.proofs.CoverLemmas.{covers-covered, touched-live}
-use Rattle.cover_laws.proofs.SetLemmas.{found_in, held_in, in_left, same_test}
+use Rattle.xp_outcome.proofs.SetTests.{found_in, held_in, in_left, same_test}
 
 module _ (touched : Cell → Bool) where
   pub touched-alike : (T : Table) (held reads : CellSet) →

@@ -22,7 +22,7 @@ use Rattle.xp_outcome.specs.declared.names_along.NamesAlong.{NamesAlong}
 use Rattle.xp_outcome.proofs.Sets.{cell_cmp_antisymmetric, cell_cmp_total, names_cmp_antisymmetric, names_cmp_total}
 use Rattle.cover_laws.specs.Covering.{Alike, AreOfLive, HeldAlike, IsOfLive, has_touched, has_touched_name, holds_touched, is_upward, names_at, other_names, spelled_cells, upward_cells}
 use Rattle.cover_laws.proofs.AlikeLemmas.{stay-alike}
-use Rattle.cover_laws.proofs.SetLemmas.{Found, all_joined_alike, all_left, any_empty, any_from_list, any_insert, any_joined, any_left, any_or, any_union, found_in, none_in, tied}
+use Rattle.xp_outcome.proofs.SetTests.{Found, all_joined_alike, all_left, any_empty, any_from_list, any_insert, any_joined, any_left, any_or, any_union, found_in, none_in, tied}
 use Rattle.cover_laws.proofs.UpwardLemmas.{upward-alike}
 
 -- Cells of reads, one by one

@@ -1,4 +1,3 @@
-pub mod SetLemmas
 mod WayLemmas
 mod CoverLemmas
 mod AlikeLemmas

@@ -25,7 +25,7 @@ use Rattle.xp_outcome.specs.declared.names_along.NamesAlong.{NamesAlong}
 use Rattle.xp_outcome.proofs.Sets.{names_cmp_antisymmetric, names_cmp_total}
 use Rattle.cover_laws.specs.Covering.{is_upward, names_at, upward_cells}
 use Rattle.cover_laws.proofs.CoverLemmas.{up-live}
-use Rattle.cover_laws.proofs.SetLemmas.{all_joined_alike}
+use Rattle.xp_outcome.proofs.SetTests.{all_joined_alike}
 
 -- what is above a live node lives
 higher-live : (T : Table) → IsTree T → (n m : ℕ) → is_live T n ≡ true → mem m (ancestors T n) ≡ true → is_live T m ≡ true

@@ -34,7 +34,7 @@ mem-push m n (x ∷ xs) = by (eqb m x) (mem-push m n xs)
     by true e = refl
     by false e = e
 
-plain-kid : (o : Option Kind) → can_be_kid o ≡ true → is_attribute_kind o ≡ false
+pub plain-kid : (o : Option Kind) → can_be_kid o ≡ true → is_attribute_kind o ≡ false
 plain-kid None h = refl
 plain-kid (Some kinds.Root) h = refl
 plain-kid (Some kinds.Element) h = refl

@@ -11,6 +11,6 @@ mod walks;
 
 pub use axes::axis_nodes;
 pub use laws::{axes_by_cells, axes_partition};
-pub use node_test::passes;
+pub use node_test::{is_principal, passes};
 pub use passing::push_passing;
 pub use sets::{into_document_order, union_in_order};

@@ -27,8 +27,8 @@ pub fn passes(tree: &Tree, n: NodeId, axis: Axis, test: &NodeTest) -> bool
     }
 }
 
-/// Whether the kind is the one that names test on the axis.
-fn is_principal(axis: Axis, kind: Kind) -> bool
+/// Whether the kind is the one that names test on the axis: its principal kind (XPath 1.0, section 2.3).
+pub fn is_principal(axis: Axis, kind: Kind) -> bool
     ensures { result ≡ is_principal axis (Some kind) }
 {
     match axis {

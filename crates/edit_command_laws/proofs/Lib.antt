@@ -1,5 +1,5 @@
 pub mod OnePiece
 mod OneEdit
 pub mod TreesKept
-mod ScriptsFormed
+pub mod ScriptsFormed
 mod SomeEdit

@@ -19,13 +19,13 @@ use Rattle.edit_script.proofs.PieceLemmas.{formed_from}
 use Rattle.edit_command_laws.specs.SomeEdit.{ScriptsAreWellFormed}
 
 -- the bytes of some lines, each with its line end
-abbrev size : List (List ℕ) → ℕ
+abbrev pub size : List (List ℕ) → ℕ
 size lines = length (joined lines)
 
-size-cons : (line : List ℕ) (lines : List (List ℕ)) → size (line ∷ lines) ≡ suc (length line) + size lines
+pub size-cons : (line : List ℕ) (lines : List (List ℕ)) → size (line ∷ lines) ≡ suc (length line) + size lines
 size-cons line lines = omega (arith, length-append (with_end line) (joined lines), length-append line (10 ∷ []))
 
-size-append : (lines more : List (List ℕ)) → size (lines ++ more) ≡ size lines + size more
+pub size-append : (lines more : List (List ℕ)) → size (lines ++ more) ≡ size lines + size more
 size-append lines more = ap length (flat_map-append with_end lines more) ∙ length-append (joined lines) (joined more)
 
 -- the lines of a script are no longer than it, but for one line end
@@ -47,14 +47,14 @@ last-size : (bytes : List ℕ) → size (last_line bytes) ≤ suc (length bytes)
 last-size [] = omega arith
 last-size (b ∷ bytes) = omega (arith, size-cons (b ∷ bytes) [])
 
-lines-size : (bytes : List ℕ) → size (lines_of bytes) ≤ suc (length bytes)
+pub lines-size : (bytes : List ℕ) → size (lines_of bytes) ≤ suc (length bytes)
 lines-size bytes = omega (arith, size-append (ended_lines bytes) (last_line (unended bytes)), ended-size bytes, last-size (unended bytes))
 
 abbrev AllFormed : Script → Type 0
 AllFormed script = All WellFormedCommand script.commands
 
 -- between commands, or within the fragment of an insert, the lines still to come fit into a script
-abbrev Fits : Option Opened → List (List ℕ) → Type 0
+abbrev pub Fits : Option Opened → List (List ℕ) → Type 0
 Fits None lines = size lines ≤ suc MAX_SCRIPT_BYTES
 Fits (Some insert) lines = IsPath insert.path × IsPlace insert.at × (size insert.lines + size lines ≤ suc MAX_SCRIPT_BYTES)
 

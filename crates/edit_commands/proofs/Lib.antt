@@ -1,8 +1,8 @@
-mod AttributeLemmas
+pub mod AttributeLemmas
 mod CommandLemmas
 mod DeleteLemmas
 pub mod DepthLemmas
 mod InsertLemmas
 pub mod MeetingLemmas
-mod RenamingLemmas
+pub mod RenamingLemmas
 pub mod TextLemmas

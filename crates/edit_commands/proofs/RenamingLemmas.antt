@@ -61,11 +61,11 @@ module _ (T : Table) (n : ℕ) (prefix : List ℕ) (free : renaming_refusal T n 
   parts : (not (is_element (kind_of T n)) ≡ false) × (is_unbound T n prefix ≡ false) × (bytes_eq prefix xmlns_prefix ≡ false)
   parts = none-of-three (not (is_element (kind_of T n))) (is_unbound T n prefix) (bytes_eq prefix xmlns_prefix) WrongKind NoPrefix XmlnsName free
 
-  named-element : kind_of T n ≡ Some Element
+  pub named-element : kind_of T n ≡ Some Element
   named-element = is-element (kind_of T n) (not-true (is_element (kind_of T n)) parts.0)
 
   -- its prefix is in scope
-  prefix-known : namespace_at T n prefix ≡ Some (unwrap_or (namespace_at T n prefix) [])
+  pub prefix-known : namespace_at T n prefix ≡ Some (unwrap_or (namespace_at T n prefix) [])
   prefix-known =
       there (namespace_at T n prefix)
       (in-each (scope_at T n) prefix
@@ -88,7 +88,7 @@ rename-done scopes before after n name form spelt free done path =
     }
 
 -- two names of an attribute against which nothing speaks: the second one alone
-free-name : (T : Table) (n : ℕ) (old_prefix old_local prefix local : List ℕ) → name_pair_refusal T n old_prefix old_local prefix local ≡ None →
+pub free-name : (T : Table) (n : ℕ) (old_prefix old_local prefix local : List ℕ) → name_pair_refusal T n old_prefix old_local prefix local ≡ None →
     name_refusal T n prefix local ≡ None
 free-name T n old_prefix old_local prefix local free =
     let parts = none-of-four (not (is_element (kind_of T n))) (is_unbound T n old_prefix || is_unbound T n prefix)

@@ -1,5 +1,5 @@
 -- An attribute that got another name has its own again.
-use Rattle.std.proofs.Common.{◌≡◌, ◌≢◌, ℕ, true, false, not, ◌||◌, List, [], ◌∷◌, length, Option, None, Some, is_some, refl, sym, ap, ap₂, ◌∙◌, subst, ⊎_elim, true≢false, arith, eq-eqb, unwrap_or}
+use Rattle.std.proofs.Common.{◌≡◌, ◌≢◌, ℕ, true, false, not, List, [], ◌∷◌, length, Option, None, Some, is_some, refl, sym, ap, ap₂, ◌∙◌, subst, ⊎_elim, true≢false, arith, eq-eqb, unwrap_or}
 use Rattle.std.specs.Option.{option_or}
 use Rattle.sch_base.specs.Names.{QNamesSplit}
 use Rattle.doc_table.proofs.Appending.{holder-live}
@@ -10,7 +10,7 @@ use Rattle.doc_edits.specs.Changes.{renamed}
 use Rattle.doc_edits.specs.Fitting.{MayRename}
 use Rattle.doc_edits.proofs.RenamingLemmas.{name-other, name-renamed}
 use Rattle.doc_tree.specs.kind.Kind.TheVariants.{Element}
-use Rattle.doc_tree.specs.declared.refusal.EditRefusal.TheVariants.{WrongKind, NoPrefix, SameAttribute, XmlnsName}
+use Rattle.doc_tree.specs.declared.refusal.EditRefusal.TheVariants.{WrongKind, NoPrefix, XmlnsName}
 use Rattle.doc_tree.specs.Edited.{attribute_name_at, attribute_renamed, with_other_name}
 use Rattle.doc_tree.specs.Kinds.{holds_kids, is_element}
 use Rattle.doc_tree.specs.Laws.{WellFormed}
@@ -22,7 +22,7 @@ use Rattle.doc_tree.specs.SameTree.{SameTree}
 use Rattle.doc_tree.specs.Scope.{attribute_namespace, scope_at}
 use Rattle.doc_tree.specs.Table.{Contents, Name, Table, attrs_of, expanded_in, kind_of, name_of}
 use Rattle.doc_tree.proofs.AttributeLemmas.{found-member, known, owner}
-use Rattle.doc_tree.proofs.RefusalLemmas.{find-in, none-of-four, none-of-three, or-false, or-none}
+use Rattle.doc_tree.proofs.RefusalLemmas.{find-in, none-of-three, or-none}
 use Rattle.doc_tree.proofs.RenamingLemmas.{may-rename-attribute}
 use Rattle.doc_undo_laws.proofs.ContentBack.{renamed-back}
 use Rattle.name_scopes.specs.QNames.{local_part, prefix_part}
@@ -34,6 +34,7 @@ use Rattle.edit_commands.specs.Commands.{IsEdited, refusal_where}
 use Rattle.edit_commands.specs.Paths.{node_named}
 use Rattle.edit_iso_laws.proofs.GoingOnLemmas.{renamed-length}
 use Rattle.edit_paths.specs.Entries.{attribute_renaming_undone, numbers_where, undoing_where}
+use Rattle.edit_commands.proofs.RenamingLemmas.{free-name}
 use Rattle.edit_undo_laws.specs.Undoing.{AttributeRenamesAreUndone, TakesBack}
 use Rattle.edit_undo_laws.proofs.AttributesFound.{expanded-has, meant-is, refusal-kept}
 use Rattle.edit_undo_laws.proofs.OwnAttributes.{IsOwn, own, own-free, own-known, pair_of}
@@ -41,18 +42,6 @@ use Rattle.edit_undo_laws.proofs.SettingUndone.{one-done}
 use Rattle.edit_undo_laws.proofs.RenamingUndone.{attributes-after, kind-after, path-after, scope-after, tree-after}
 
 -- what speaks against one of two names of an attribute, and against both
-new-free : (T : Table) (n : ℕ) (old_prefix old_local prefix local : List ℕ) → name_pair_refusal T n old_prefix old_local prefix local ≡ None →
-    name_refusal T n prefix local ≡ None
-new-free T n old_prefix old_local prefix local free =
-    let parts = none-of-four (not (is_element (kind_of T n))) (is_unbound T n old_prefix || is_unbound T n prefix)
-    (are_two (attribute_meant T n old_prefix old_local) (attribute_meant T n prefix local))
-    (declares_namespace old_prefix old_local || declares_namespace prefix local) WrongKind NoPrefix SameAttribute XmlnsName free in
-    rw (
-      parts.0,
-      (or-false (is_unbound T n old_prefix) (is_unbound T n prefix) parts.1).1,
-      (or-false (declares_namespace old_prefix old_local) (declares_namespace prefix local) parts.3).1,
-    ) refl
-
 name-parts : (T : Table) (n : ℕ) (prefix local : List ℕ) → name_refusal T n prefix local ≡ None →
     (not (is_element (kind_of T n)) ≡ false) × (is_unbound T n prefix ≡ false) × (declares_namespace prefix local ≡ false)
 name-parts T n prefix local free =
@@ -89,7 +78,7 @@ module _ (splits : QNamesSplit) (before : Contents) (path : List PathStep) (form
   may = may-rename-attribute T n a (prefix_part former) (local_part former) prefix local form free found
 
   alone : name_refusal T n prefix local ≡ None
-  alone = new-free T n (prefix_part former) (local_part former) prefix local free
+  alone = free-name T n (prefix_part former) (local_part former) prefix local free
 
   kind : kind_of T n ≡ Some Element
   kind = owner T n prefix local alone

@@ -3,12 +3,9 @@ use Rattle.std.proofs.Common.{◌≡◌, ◌≢◌, ℕ, ◌+◌, ◌-◌, ◌�
 use Rattle.std.specs.Prelude.{All, count_by, sum_by}
 use Rattle.std.proofs.lemmas.List.Elements.{All-append, All-take}
 use Rattle.std.proofs.lemmas.List.Sums.{sum_by-append, sum_by-cons}
-use Rattle.std.proofs.lemmas.Str.{IsUtf8-nil, chars-nil}
 use Rattle.sch_base.specs.Names.{QNamesSplit}
 use Rattle.pyx_core.specs.declared.event.Event.{Event}
 use Rattle.pyx_core.specs.declared.event.Event.TheVariants as event
-use Rattle.pyx_core.specs.Nesting.{of_chars}
-use Rattle.pyx_core.proofs.TextLemmas.{made_of}
 use Rattle.doc_table.proofs.Forests.{formed-of}
 use Rattle.doc_table.proofs.ListLemmas.{In, In-mem, mem-In, occurs-append, occurs-head}
 use Rattle.doc_table.proofs.TreeLaws.{ordered, ways-up}
@@ -24,13 +21,14 @@ use Rattle.doc_tree.specs.Lists.{place_in}
 use Rattle.doc_tree.specs.NameTests.{attribute_meant}
 use Rattle.doc_tree.specs.QNames.{written_in}
 use Rattle.doc_tree.specs.Refusals.{renaming_refusal}
-use Rattle.doc_tree.specs.Scope.{Decl, scope_at}
-use Rattle.doc_tree.specs.Table.{Content, Contents, Table, root, element, attribute, text, comment, instruction, attrs_of, content_of, is_root, kids_above, kids_of, kind_of, name_of, parent_of, value_at, value_of}
+use Rattle.doc_tree.specs.Scope.{scope_at}
+use Rattle.doc_tree.specs.Table.{Contents, Table, text, attrs_of, is_root, kids_above, kids_of, kind_of, name_of, parent_of, value_of}
 use Rattle.doc_tree.specs.Walks.{below, text_bytes}
 use Rattle.doc_tree.proofs.AttributeLemmas.{found-member}
 use Rattle.doc_tree.proofs.RefusalLemmas.{none-of-two, not-true}
 use Rattle.name_scopes.specs.QNames.{local_part, prefix_part}
-use Rattle.name_scopes.specs.Scoping.{ContentInScope, InScope}
+use Rattle.name_scopes.specs.Scoping.{InScope}
+use Rattle.name_scopes_laws.proofs.ScopeLemmas.{value-made}
 use Rattle.name_scopes.proofs.ItemNames.{spelled}
 use Rattle.subtree_events.specs.Events.{events_below}
 use Rattle.subtree_events.specs.Subtrees.{IsSubtree, SubtreesAreFragments}
@@ -116,22 +114,6 @@ module _ (T : Table) (form : WellFormed T) where
 
   place-formed : (n : ℕ) → IsPlace (place_of T n)
   place-formed n = record { low = omega arith; high = omega (arith, place-most n (kids_above T (parent_of T n)), few-at (parent_of T n)) }
-
--- texts of a tree in scope are made of Chars
-empty-made : of_chars [] ≡ true
-empty-made = made_of [] IsUtf8-nil (rw chars-nil refl)
-
-value-made : (T : Table) → InScope T → (n : ℕ) → of_chars (value_of T n) ≡ true
-value-made T scoped n = by (scope_at T n) (content_of T n) (scoped n)
-  where
-    by : (scope : List Decl) (o : Option Content) → ContentInScope scope o → of_chars (value_at o) ≡ true
-    by scope None h = empty-made
-    by scope (Some root) h = empty-made
-    by scope (Some (element _ _)) h = empty-made
-    by scope (Some (attribute _ _)) h = h.made
-    by scope (Some (text _)) h = h
-    by scope (Some (comment _)) h = h
-    by scope (Some (instruction _ _)) h = h.made
 
 module _ (splits : QNamesSplit) (fragments : SubtreesAreFragments) (before : Contents) (form : WellFormed before.nodes) (scoped : InScope before.nodes) where
   abbrev T : Table

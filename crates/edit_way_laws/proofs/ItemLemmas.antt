@@ -1,59 +1,20 @@
 -- Each command of a script with undos is well formed: a command line says what is, and a fragment is no longer than its script.
-use Rattle.std.proofs.Common.{◌≡◌, ℕ, suc, ◌+◌, ◌≤◌, Bool, true, false, if◌then◌else◌, List, [], ◌∷◌, ◌++◌, length, length-append, Option, None, Some, Result, Ok, Err, refl, ◌∙◌, ap, arith}
-use Rattle.std.proofs.lemmas.List.Concat.{flat_map-append}
+use Rattle.std.proofs.Common.{◌≡◌, ℕ, suc, ◌≤◌, Bool, true, false, if◌then◌else◌, List, [], ◌∷◌, Option, None, Some, Result, Ok, Err, refl, arith}
 use Rattle.sch_base.specs.Lists.{is_nil}
-use Rattle.pyx_core.specs.Lines.{ended_lines, is_line_end, onto_ended, unended}
 use Rattle.pyx_core.specs.Nesting.{EventsNest}
-use Rattle.pyx_core.proofs.LinesLemmas.{has_end, none_ended}
 use Rattle.edit_script.specs.declared.command.Command.TheVariants.{Insert}
 use Rattle.edit_script.specs.declared.command.Said.{Said}
 use Rattle.edit_script.specs.declared.command.Said.TheVariants.{Whole, Opening}
 use Rattle.edit_script.specs.declared.fault.ScriptKind.{ScriptKind}
 use Rattle.edit_script.specs.declared.limits.TheConstants.{MAX_SCRIPT_BYTES}
 use Rattle.edit_script.specs.CommandLine.{command_line}
-use Rattle.edit_script.specs.Script.{Opened, is_dot, is_piece, joined, last_line, lines_of, opened_in, payload_fault, piece_of, with_end, with_line}
+use Rattle.edit_script.specs.Script.{Opened, is_dot, is_piece, joined, lines_of, opened_in, payload_fault, piece_of, with_line}
 use Rattle.edit_script.specs.Undos.{Items, breaks, edits, is_undo, items_at, items_behind, items_on, undoes}
 use Rattle.edit_script.specs.WellFormed.{IsPath, IsPlace}
 use Rattle.edit_script.proofs.FormedLemmas.{opening_formed, whole_formed}
 use Rattle.edit_script.proofs.PieceLemmas.{formed_from}
+use Rattle.edit_command_laws.proofs.ScriptsFormed.{Fits, lines-size, size, size-append, size-cons}
 use Rattle.edit_way_laws.specs.Items.{AreFormed, ItemsAreWellFormed}
-
--- the bytes of some lines, each with its line end
-abbrev size : List (List ℕ) → ℕ
-size lines = length (joined lines)
-
-size-cons : (line : List ℕ) (lines : List (List ℕ)) → size (line ∷ lines) ≡ suc (length line) + size lines
-size-cons line lines = omega (arith, length-append (with_end line) (joined lines), length-append line (10 ∷ []))
-
-size-append : (lines more : List (List ℕ)) → size (lines ++ more) ≡ size lines + size more
-size-append lines more = ap length (flat_map-append with_end lines more) ∙ length-append (joined lines) (joined more)
-
--- the lines of a script are no longer than it, but for one line end
-onto-size : (b : ℕ) (lines : List (List ℕ)) → size (onto_ended b lines) ≤ suc (size lines)
-onto-size b [] = omega arith
-onto-size b (line ∷ lines) = omega (arith, size-cons (b ∷ line) lines, size-cons line lines)
-
-ended-size : (bytes : List ℕ) → size (ended_lines bytes) + length (unended bytes) ≤ length bytes
-ended-size [] = omega arith
-ended-size (b ∷ bytes) = by (is_line_end b) refl (has_end bytes) refl (ended-size bytes)
-  where
-    by : (ends : Bool) → is_line_end b ≡ ends → (some : Bool) → has_end bytes ≡ some → size (ended_lines bytes) + length (unended bytes) ≤ length bytes →
-        size (ended_lines (b ∷ bytes)) + length (unended (b ∷ bytes)) ≤ length (b ∷ bytes)
-    by true is some also rest = rw is (omega (arith, rest, size-cons [] (ended_lines bytes)))
-    by false is true also rest = rw (is, also) (omega (arith, rest, onto-size b (ended_lines bytes)))
-    by false is false also rest = rw (is, also, none_ended bytes also) (omega arith)
-
-last-size : (bytes : List ℕ) → size (last_line bytes) ≤ suc (length bytes)
-last-size [] = omega arith
-last-size (b ∷ bytes) = omega (arith, size-cons (b ∷ bytes) [])
-
-lines-size : (bytes : List ℕ) → size (lines_of bytes) ≤ suc (length bytes)
-lines-size bytes = omega (arith, size-append (ended_lines bytes) (last_line (unended bytes)), ended-size bytes, last-size (unended bytes))
-
--- between items, or within the fragment of an insert, the lines still to come fit into a script
-abbrev Fits : Option Opened → List (List ℕ) → Type 0
-Fits None lines = size lines ≤ suc MAX_SCRIPT_BYTES
-Fits (Some insert) lines = IsPath insert.path × IsPlace insert.at × (size insert.lines + size lines ≤ suc MAX_SCRIPT_BYTES)
 
 behind-formed : EventsNest → (insert : Opened) (rest : Items) → IsPath insert.path → IsPlace insert.at → size insert.lines ≤ MAX_SCRIPT_BYTES → AreFormed rest →
     AreFormed (items_behind insert rest)

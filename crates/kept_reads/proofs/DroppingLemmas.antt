@@ -17,7 +17,7 @@ use Rattle.kept_reads.specs.declared.kept_reads.KeptReads.{KeptReads}
 use Rattle.kept_reads.specs.Reads.{has_kept, may_be_stale, reads_at}
 use Rattle.kept_reads.specs.Marking.{Marks, Thinned, entry_stays, entry_dropped, Thins, reads_touched}
 use Rattle.kept_reads.specs.inner.Dropping.{DropsReads, DropsTouched, IsFreeOf, is_touched}
-use Rattle.kept_reads.proofs.Sets.{passes_there}
+use Rattle.xp_outcome.proofs.SetTests.{listed}
 
 -- Flags
 
@@ -124,11 +124,11 @@ module _ (T : Table) (touched : Cell → Bool) where
   touched_there : (held : Recorded) (r : Read) → is_touched T touched r ≡ true → has_kept (Some held) r ≡ true → holds_touched T touched held ≡ true
   touched_there held (cell c) hit there =
       or_left (has_touched touched held.cells) (has_touched_name T touched held.names)
-      (passes_there cell_cmp_total cell_cmp_antisymmetric touched c (or_right_false (touched c) hit) (items held.cells)
+      (listed cell_cmp_total cell_cmp_antisymmetric touched c (or_right_false (touched c) hit) (items held.cells)
       (sym (contains-items held.cells c) ∙ there))
   touched_there held (names_along axis n) hit there =
       or_right (has_touched touched held.cells) (has_touched_name T touched held.names)
-      (passes_there names_cmp_total names_cmp_antisymmetric (λ a. list_any touched (names_at T a)) (record { axis = axis; node = n }) hit
+      (listed names_cmp_total names_cmp_antisymmetric (λ a. list_any touched (names_at T a)) (record { axis = axis; node = n }) hit
       (items held.names)
       (sym (contains-items held.names (record { axis = axis; node = n })) ∙ there))
   touched_there held (variable slot) hit there = absurd (false≢true there)

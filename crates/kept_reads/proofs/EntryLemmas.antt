@@ -25,13 +25,13 @@ use Rattle.kept_reads.specs.declared.lets_read.LetsRead.TheVariants.{Stale}
 use Rattle.kept_reads.specs.Reads.{has_kept, kept_count, lets_kept, lets_told, reads_at}
 use Rattle.kept_reads.specs.inner.Entries.{StaleHasNone, entries_of, kept_of}
 use Rattle.kept_reads.specs.inner.LetsRead.{slots_at, slots_of}
-use Rattle.kept_reads.proofs.Sets.{same_bool}
+use Rattle.xp_outcome.proofs.SetTests.{same_test as one_test}
 
 -- Sets of cells and of names along axes
 
 -- the order of cells ties those that are one
 same_test : (c d : Cell) → eq_by_cmp cell_cmp c d ≡ is_cell c d
-same_test c d = same_bool (eq_by_cmp cell_cmp c d) (is_cell c d)
+same_test c d = one_test (eq_by_cmp cell_cmp c d) (is_cell c d)
     (λ tied. ap (is_cell c) (sym (cell_cmp_antisymmetric c d ((Equal-is (cell_cmp c d)).0 tied))) ∙ is_cell-self c)
     (λ is. ap (eq_by_cmp cell_cmp c) (sym (is_cell-is c d is)) ∙ ap is_eq (tied_itself cell_cmp_total c))
 

@@ -12,7 +12,7 @@ use Rattle.kept_reads.specs.Forgetting.{Forgets, ForgetsReaders, flag_at, reads_
 use Rattle.kept_reads.specs.Reads.{lets_kept, lets_told, may_be_stale, reads_at}
 use Rattle.kept_reads.specs.inner.Forgetting.{Fades, ForgetsBelow, ForgetsIf}
 use Rattle.kept_reads.proofs.DroppingLemmas.{flag_still, flag_there, none_there}
-use Rattle.kept_reads.proofs.Sets.{any-from_list}
+use Rattle.xp_outcome.proofs.SetTests.{any_from_list}
 
 was_false : (a b : Bool) → (a ≡ true → b ≡ true) → b ≡ false → a ≡ false
 was_false true b on clean = absurd (true≢false (sym (on refl) ∙ clean))
@@ -51,7 +51,7 @@ pub told_some : (flags : List Bool) (slots : List ℕ) (entry : Option Recorded)
 told_some flags slots None is = absurd (cc)
 told_some flags slots (Some held) is =
     let same : from_list slots ≡ held.lets = cc in
-    sym (any-from_list nat_cmp_total nat_cmp-IsAntisymmetric (flag_at flags) slots)
+    sym (any_from_list nat_cmp_total nat_cmp-IsAntisymmetric (flag_at flags) slots)
     ∙ ap (λ (lets : LetSet). list_any (flag_at flags) (items lets)) same ∙ flagged_none flags held
 
 pub told_none : (flags : List Bool) (entry : Option Recorded) → lets_told None ≡ lets_kept entry → true ≡ is_none (unless_flagged flags entry)
@@ -63,7 +63,7 @@ pub told_hit : (flags : List Bool) (slots : List ℕ) (entry : Option Recorded) 
 told_hit flags slots None is = absurd (cc)
 told_hit flags slots (Some held) is =
     let same : from_list slots ≡ held.lets = cc in
-    sym (any-from_list nat_cmp_total nat_cmp-IsAntisymmetric (flag_at flags) slots) ∙ ap (λ (lets : LetSet). list_any (flag_at flags) (items lets)) same
+    sym (any_from_list nat_cmp_total nat_cmp-IsAntisymmetric (flag_at flags) slots) ∙ ap (λ (lets : LetSet). list_any (flag_at flags) (items lets)) same
 
 pub told_miss : (flags : List Bool) (entry : Option Recorded) → lets_told None ≡ lets_kept entry → false ≡ reads_flagged flags entry
 told_miss flags None is = refl

@@ -1,4 +1,3 @@
-pub mod Sets
 pub mod EntryLemmas
 pub mod DroppingLemmas
 pub mod TouchedLemmas

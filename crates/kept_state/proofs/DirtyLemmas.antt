@@ -22,7 +22,7 @@ use Rattle.edit_costs.specs.Laws.{LetsNeedThoseBefore, SameOutcomesAreEqual}
 use Rattle.edit_costs.specs.SameOutcome.{same_outcome}
 use Rattle.edit_costs.specs.Units.{ValidationUnit, in_force, under, reads_of}
 use Rattle.cover_laws.specs.Covering.{EditsTouchHeldAlike, HeldAlike, HeldStaysAlike, IsOfLive, ReadsAreTouched, holds_touched}
-use Rattle.cover_laws.proofs.SetLemmas.{any_or, found_in}
+use Rattle.xp_outcome.proofs.SetTests.{any_or, found_in}
 use Rattle.kept_state.specs.Kept.{IsUnit, LetsLive, noted, reads_under}
 use Rattle.kept_state.specs.Laws.{DirtyAreRun}
 use Rattle.unit_live_laws.specs.LiveReads.{UnitsReadLiveCells}

@@ -25,7 +25,7 @@ use Rattle.edit_costs.specs.Laws.{IsBefore, LetsNeedThoseBefore, SameOutcomesAre
 use Rattle.edit_costs.specs.SameOutcome.{same_outcome}
 use Rattle.edit_costs.specs.Units.{ValidationUnit, in_force, under, let_reads}
 use Rattle.cover_laws.specs.Covering.{HeldAlike}
-use Rattle.cover_laws.proofs.SetLemmas.{held_in}
+use Rattle.xp_outcome.proofs.SetTests.{held_in}
 use Rattle.kept_state.specs.Kept.{IsTyped, IsUnit, LetsLive, LetsPass, Stands, let_gives, noted, reads_under}
 use Rattle.kept_state.specs.Laws.{LetsKeep}
 use Rattle.kept_state.specs.Steps.{LiveBelow, SameGiven, differs, unless_changed}

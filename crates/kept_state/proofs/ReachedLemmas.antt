@@ -21,7 +21,7 @@ use Rattle.kept_state.specs.Running.{GoesOn, IsDone, is_run, is_stale}
 use Rattle.kept_state.specs.Steps.{StaysAs, differs, unless_changed}
 use Rattle.kept_state.proofs.LetLemmas.{unchanged}
 use Rattle.kept_state.proofs.RightLemmas.{no_let}
-use Rattle.cover_laws.proofs.SetLemmas.{any_or, found_in, held_in, same_test}
+use Rattle.xp_outcome.proofs.SetTests.{any_or, found_in, held_in, same_test}
 
 -- Units in order
 

@@ -24,7 +24,7 @@ use Rattle.sch_units.specs.Validity.{outcome_of}
 use Rattle.sch_locality_laws.specs.Locality.{GivenLetsAreLocal}
 use Rattle.edit_costs.specs.Units.{ValidationUnit, in_force, under, let_reads}
 use Rattle.cover_laws.specs.Covering.{has_touched, has_touched_name, holds_touched, names_at}
-use Rattle.cover_laws.proofs.SetLemmas.{none_in}
+use Rattle.xp_outcome.proofs.SetTests.{none_in}
 use Rattle.kept_state.specs.Kept.{Gave, IsTyped, IsUnit, Kept, LetsPass, let_gives, noted, reads_under}
 use Rattle.kept_state.specs.Steps.{SameGiven}
 use Rattle.kept_state.proofs.ReadLemmas.{each_of_set}

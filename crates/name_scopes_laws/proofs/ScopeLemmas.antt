@@ -138,7 +138,7 @@ removal-scoped T n formed scoped = by (parent_of T n) refl
 empty-made : of_chars [] ≡ true
 empty-made = made_of [] IsUtf8-nil (rw chars-nil refl)
 
-value-made : (T : Table) → InScope T → (n : ℕ) → of_chars (value_of T n) ≡ true
+pub value-made : (T : Table) → InScope T → (n : ℕ) → of_chars (value_of T n) ≡ true
 value-made T scoped n = by (scope_at T n) (content_of T n) (scoped n)
   where
     by : (scope : List Decl) (o : Option Content) → ContentInScope scope o → of_chars (value_at o) ≡ true

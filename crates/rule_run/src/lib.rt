@@ -15,7 +15,7 @@ mod validator;
 pub use kept::{Kept, KeptLet};
 pub use kept_matches::KeptMatches;
 pub use letting::run_let;
-pub use pairing::{PlanRun, outcome_of_pair, run_pair, run_pair_with};
+pub use pairing::{PlanRun, run_pair, run_pair_with};
 pub use xp_eval::Caller;
 pub use xp_meaning::Lets;
 pub use xp_outcome::{Recorder, Steps};

@@ -63,6 +63,49 @@ pub struct PlanRun<'r> {
     pub plan: &'r Plan,
 }
 
+impl PlanRun<'_> {
+    /// The outcome that `run_pair_with` keeps, for a caller that lends the recorder: what it held is forgotten, and then it holds what is
+    /// read for the outcome. So one recorder, with its memory, serves for many nodes.
+    #[tactic(auto, using(xp_outcome::proofs::SlotLemmas::kept_whole))]
+    pub fn outcome_of_pair<L: Ledger>(
+        &self,
+        p: u32,
+        n: NodeId,
+        kept: &mut KeptMatches,
+        lets: &mut Lets,
+        reads: &mut Recorder,
+        steps: &mut Steps<L>,
+    ) -> Result<Outcome, AllocError>
+        requires counted { IsCounted self.now.plan.now }
+        requires active { p < length self.now.plan.now.patterns }
+        requires live { is_live self.now.caller.tree.now.nodes n ≡ true }
+        requires room { length lets.old ≤ length self.now.plan.now.lets }
+        requires kept { AreKeptFor self.now.plan.now self.now.caller.tree.now.nodes p lets.old kept.old }
+        ensures ran { Ran (unit_pair self.now.plan.now self.now.caller.tree.now.nodes lets.old p n)
+            (outcome_told result) nothing_read reads.new steps.old steps.new }
+        ensures counted { steps.old < steps.new }
+        ensures slots { lets.new ≡ lets.old }
+        ensures kept { AreKeptFor self.now.plan.now self.now.caller.tree.now.nodes p lets.old kept.new }
+    {
+        first_match_fires();
+        lets.laws();
+        let plan = self.plan;
+        reads.clear();
+        steps.tick();
+        let count = plan.let_count();
+        let validator = Validator {
+            caller: self.caller,
+            node: n,
+            count,
+        };
+        let pattern = &plan.patterns.as_slice()[p as usize];
+        let outcome = validator.first_rule(pattern.rules.as_slice(), kept, lets, reads, steps);
+        lets.cut(count);
+        reads.cut_lets(count);
+        keep_outcome(outcome)
+    }
+}
+
 /// `run_pair`, with what is kept of the pattern's rules for the same tree and the same lets in force.
 ///
 /// A rule whose context has steps with positional predicates costs what `matches_with` does.
@@ -86,47 +129,6 @@ pub fn run_pair_with<L: Ledger>(
     ensures kept { AreKeptFor run.now.plan.now run.now.caller.tree.now.nodes p lets.old kept.new }
 {
     let mut reads = Recorder::new(run.caller.alloc);
-    let outcome = outcome_of_pair(run, p, n, kept, lets, &mut reads, steps)?;
+    let outcome = run.outcome_of_pair(p, n, kept, lets, &mut reads, steps)?;
     Ok(Kept { outcome, reads })
-}
-
-/// The outcome that `run_pair_with` keeps, for a caller that lends the recorder: what it held is forgotten, and then it holds what is
-/// read for the outcome. So one recorder, with its memory, serves for many nodes.
-#[tactic(auto, using(xp_outcome::proofs::SlotLemmas::kept_whole))]
-pub fn outcome_of_pair<L: Ledger>(
-    run: &PlanRun<'_>,
-    p: u32,
-    n: NodeId,
-    kept: &mut KeptMatches,
-    lets: &mut Lets,
-    reads: &mut Recorder,
-    steps: &mut Steps<L>,
-) -> Result<Outcome, AllocError>
-    requires counted { IsCounted run.now.plan.now }
-    requires active { p < length run.now.plan.now.patterns }
-    requires live { is_live run.now.caller.tree.now.nodes n ≡ true }
-    requires room { length lets.old ≤ length run.now.plan.now.lets }
-    requires kept { AreKeptFor run.now.plan.now run.now.caller.tree.now.nodes p lets.old kept.old }
-    ensures ran { Ran (unit_pair run.now.plan.now run.now.caller.tree.now.nodes lets.old p n)
-        (outcome_told result) nothing_read reads.new steps.old steps.new }
-    ensures counted { steps.old < steps.new }
-    ensures slots { lets.new ≡ lets.old }
-    ensures kept { AreKeptFor run.now.plan.now run.now.caller.tree.now.nodes p lets.old kept.new }
-{
-    first_match_fires();
-    lets.laws();
-    let plan = run.plan;
-    reads.clear();
-    steps.tick();
-    let count = plan.let_count();
-    let validator = Validator {
-        caller: run.caller,
-        node: n,
-        count,
-    };
-    let pattern = &plan.patterns.as_slice()[p as usize];
-    let outcome = validator.first_rule(pattern.rules.as_slice(), kept, lets, reads, steps);
-    lets.cut(count);
-    reads.cut_lets(count);
-    keep_outcome(outcome)
 }

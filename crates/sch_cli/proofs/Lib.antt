@@ -1,16 +1,1 @@
-pub mod CarryLemmas
-pub mod CostLemmas
-pub mod EndLemmas
-pub mod EventLemmas
-pub mod FollowLemmas
 pub mod RunLemmas
-pub mod OneOutput
-pub mod ScriptCases
-pub mod SessionLemmas
-pub mod StepLemmas
-pub mod MeasureLemmas
-pub mod WatchLemmas
-pub mod AloneLemmas
-pub mod WayLemmas
-pub mod ItemLemmas
-pub mod UndoLemmas

@@ -9,9 +9,10 @@ use Rattle.sch_words.specs.Commands.{command_of}
 use Rattle.sch_words.specs.declared.status.Status.{Status}
 use Rattle.sch_words.specs.declared.status.Status.TheVariants as status
 use Rattle.sch_stops.specs.Stops.{counted_if, is_status}
-use Rattle.sch_cli.specs.Behaviours.{asked_by}
+use Rattle.sch_commands.specs.Behaviours.{asked_by}
 use Rattle.sch_cli.specs.Headline.{Headline}
-use Rattle.sch_cli.specs.Runs.{IsLineOf, OpensFiles, Tells, extent_of_status, may_evaluate, may_write}
+use Rattle.sch_commands.specs.Written.{may_write}
+use Rattle.sch_cli.specs.Runs.{IsLineOf, OpensFiles, Tells, extent_of_status, may_evaluate}
 
 -- each field is the clause of `run` with its name
 pub record Ran (words : List (List ℕ)) (shelf_old shelf_new : ShelfState) (out_old out_new err_old err_new : SinkLog) (ends : Status) (steps_old steps_new : ℕ) : Type 0 where

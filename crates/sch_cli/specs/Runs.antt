@@ -1,9 +1,9 @@
 -- What `run` promises of its outside, for each status.
-use Rattle.std.specs.Prelude.{◌≡◌, ℕ, ◌⊎◌, ◌&&◌, Bool, true, false, List, [], ◌∷◌, ◌++◌, Option, None, Some, IfSome, Result}
+use Rattle.std.specs.Prelude.{◌≡◌, ℕ, ◌⊎◌, ◌&&◌, Bool, List, [], ◌∷◌, ◌++◌, Option, None, Some, IfSome, Result}
 use Rattle.sch_io.specs.Files.{Files}
 use Rattle.sch_io.specs.ReadThrough.{Extent, all_files, all_but_last, all_or_but_last}
 use Rattle.sch_io.specs.SinkLog.{SinkLog}
-use Rattle.sch_io.specs.Wrote.{Appends, Wrote}
+use Rattle.sch_io.specs.Wrote.{Wrote}
 use Rattle.sch_io.specs.declared.error.Failed.{Failed}
 use Rattle.sch_words.specs.declared.status.Status.{Status}
 use Rattle.sch_words.specs.declared.status.Status.TheVariants.{Clean, Findings, Usage, SchemaRefused, DocumentRefused, ScriptRefused, Faulted, Missing, ReadFault, WriteFault, Memory}
@@ -12,15 +12,12 @@ use Rattle.sch_stops.specs.declared.refusal.SchemaRefusal.{SchemaRefusal}
 use Rattle.sch_stops.specs.declared.refusal.ScriptRefusal.{ScriptRefusal}
 use Rattle.sch_stops.specs.Refusals.{document_refused_line, file_in, schema_refused_line, script_refused_line}
 use Rattle.sch_stops.specs.Output.{Output, usage_line, missing_line, read_fault_line, write_fault_line, memory_line}
-use Rattle.sch_cli.specs.Output.{faulted_line}
+use Rattle.sch_commands.specs.Output.{faulted_line}
 use Rattle.sch_loading.specs.Stages.{goes, unread}
-use Rattle.sch_cli.specs.Steps.{CountsBy}
-use Rattle.sch_cli.specs.Behaviours.{Behaviour, IsEnd, asked_by}
+use Rattle.sch_commands.specs.Steps.{CountsBy}
+use Rattle.sch_commands.specs.Behaviours.{Behaviour, IsEnd, asked_by}
+use Rattle.sch_commands.specs.Written.{Fronted, may_write}
 use Rattle.sch_loading.specs.Reads.{Named, Opens}
-
--- a front of the text was appended
-abbrev pub AppendsFront : Option (List ℕ) → Option (List ℕ) → List ℕ → Type 0
-AppendsFront old new text = (done left : List ℕ) × (text ≡ done ++ left) × Appends old new done
 
 -- the line was written to the error output, or a front of it where a fault of it was counted; where there is none, nothing was asked of it
 abbrev pub Tells : SinkLog → SinkLog → List ℕ → Type 0
@@ -44,15 +41,6 @@ pub record Decided (is_output : Output → Type 0) (written told : List ℕ → 
   pub ends : output.ends ≡ status
   pub out : written output.out
   pub err : told output.err
-
--- a front was written of a text that the run comes to write
-pub record Fronted (comes_to_write written : List ℕ → Type 0) : Type 0 where
-  pub text : List ℕ
-  pub comes : comes_to_write text
-  pub done : List ℕ
-  pub left : List ℕ
-  pub is_front : text ≡ done ++ left
-  pub out : written done
 
 -- a file to which the run comes was not read, and nothing was written
 pub record Unread (comes_to : List ℕ → Type 0) (written told : List ℕ → Type 0) : Type 0 where
@@ -119,15 +107,6 @@ extent_of_status ReadFault = all_but_last
 extent_of_status WriteFault = all_files
 extent_of_status Memory = all_or_but_last
 
--- a run that ends so may have written to the output
-abbrev pub may_write : Status → Bool
-may_write Usage = false
-may_write SchemaRefused = false
-may_write DocumentRefused = false
-may_write Missing = false
-may_write ReadFault = false
-may_write status = true
-
--- and may have evaluated, where it was asked for evaluations
+-- a run that ends so may have evaluated, where it was asked for evaluations
 abbrev pub may_evaluate : List (List ℕ) → Status → Bool
 may_evaluate words status = (asked_by words).evaluates && may_write status

@@ -1,9 +1,1 @@
-pub mod Writing
-pub mod Sessions
-pub mod Carried
-pub mod Followers
-pub mod Counts
-pub mod Measurers
-pub mod Scripts
-pub mod Ways
-pub mod Undoing
+pub mod Ended

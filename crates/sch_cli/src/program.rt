@@ -4,26 +4,22 @@ ghost use Rattle.std.specs.Prelude.{◌≡◌, ◌≤◌, ◌++◌, ℕ, List, �
 ghost use Rattle.sch_io.specs.ReadThrough.{ReadsThrough};
 ghost use Rattle.sch_io.specs.Wrote.{Appends};
 ghost use Rattle.sch_words.specs.declared.status.Status.TheVariants as statuses;
-ghost use Rattle.sch_cli.specs.Behaviours.{asked_by};
+ghost use Rattle.sch_commands.specs.Behaviours.{asked_by};
 ghost use Rattle.sch_words.specs.Commands.{command_of};
 ghost use Rattle.sch_cli.specs.Headline.{Headline};
-ghost use Rattle.sch_cli.specs.Output.{line_shown};
+ghost use Rattle.sch_commands.specs.Output.{line_shown};
 ghost use Rattle.sch_stops.specs.Output.{memory_line};
-ghost use Rattle.sch_cli.specs.Runs.{Tells, IsLineOf, OpensFiles, extent_of_status, may_evaluate, may_write};
+ghost use Rattle.sch_cli.specs.Runs.{Tells, IsLineOf, OpensFiles, extent_of_status, may_evaluate};
 ghost use Rattle.sch_stops.specs.Stops.{counted_if, is_status};
-ghost use Rattle.sch_cli.specs.inner.Carried.{Carried, HasStatus, line_of_end, status_of_end};
+ghost use Rattle.sch_commands.specs.Carried.{line_of_end, status_of_end};
+ghost use Rattle.sch_commands.specs.Written.{may_write};
+ghost use Rattle.sch_cli.specs.inner.Ended.{HasStatus};
 
-use crate::expansion::expand_schema;
-use crate::following::follow;
-use crate::measuring::measure;
-use crate::notice::write_notice;
-use crate::summing::sum_up;
-use crate::validation::validate;
-use crate::watching::watch;
 use edit_session::Shown;
+use sch_commands::carry_out;
 use sch_io::{Shelf, Sink, write_all};
 use sch_stops::Stop;
-use sch_words::{Command, Status, Words, command_of};
+use sch_words::{Status, Words};
 use std::alloc::Global;
 use std::sync::ledger::Ledger;
 use xp_outcome::Steps;
@@ -68,30 +64,6 @@ pub fn end_without_words<E: Sink>(err: &mut E) -> Status
     ensures line { Tells (E.log err.old) (E.log err.new) memory_line }
 {
     conclude(Err(Stop::Memory), err)
-}
-
-/// Does what the words ask for; answers what was written.
-#[tactic(auto, using(crate::proofs::RunLemmas::not_usage))]
-fn carry_out<S: Shelf, O: Sink, L: Ledger>(
-    alloc: Global,
-    words: &Words,
-    shelf: &mut S,
-    out: &mut O,
-    steps: &mut Steps<L>,
-) -> Result<Shown, Stop>
-    ensures carried { Carried (asked_by words.now) (S.state shelf.old) (S.state shelf.new) (O.log out.old) (O.log out.new) steps.old steps.new result }
-    ensures usage { (status_of_end result ≡ statuses.Usage) ↔ (command_of words.now ≡ None) }
-{
-    match command_of(words.as_slice()) {
-        None => Err(Stop::Usage),
-        Some(Command::Tell(notice)) => write_notice(notice, out),
-        Some(Command::Expand { schema }) => expand_schema(alloc, schema, shelf, out),
-        Some(Command::Validate(asked)) => validate(alloc, asked, shelf, out, steps),
-        Some(Command::Follow(asked)) => follow(alloc, asked, shelf, out, steps),
-        Some(Command::Watch(asked)) => watch(alloc, asked, shelf, out, steps),
-        Some(Command::Measure { items }) => measure(alloc, items, out, steps),
-        Some(Command::Summarize { report }) => sum_up(alloc, report, shelf, out),
-    }
 }
 
 /// Tells the line of how a run ended, and says the status.

@@ -2,6 +2,7 @@ pub mod MadeLines
 pub mod PlainWalks
 pub mod FlatNames
 pub mod WholeSchemas
+pub mod OneOutput
 pub mod Fronts
 pub mod OneCost
 pub mod Ways

@@ -19,6 +19,7 @@ use Rattle.sch_include.specs.Included.{Included, Schema, WholeFile, as_it_is, no
 use Rattle.sch_include.specs.Includes.{is_include}
 use Rattle.sch_include.specs.Parts.{Choice, InTurn, Part, Standing, Stopped, Then, Told, With, followed_by}
 use Rattle.sch_include.specs.Taking.{From, Loading, Opening, Placing, Reading, Source, Taking, Walked, fitting, included_name, included_source, loaded}
+use Rattle.sch_include.proofs.PartLemmas.{Done, Fault, Outcome, ok-same}
 
 -- each of a list, part by part
 pub each-append : {A : Type 0} (P : A → Type 0) (xs ys : List A) → Each P xs → Each P ys → Each P (xs ++ ys)
@@ -145,18 +146,6 @@ made-by-lines T numbered h n = by (content_of T n) (opens-each MadeLine T number
 -- a part gives lines that are made so
 abbrev MadePart : Part → Type 0
 MadePart part = (before after : Standing) (told : List Line) → part before after (Ok told) → Each MadeLine told
-
-abbrev Outcome : Type 0
-Outcome = Result (List Line) IncludeFault
-
-abbrev Done : List Line → Outcome
-Done told = Ok told
-
-abbrev Fault : IncludeFault → Outcome
-Fault fault = Err fault
-
-ok-same : (a b : List Line) → Done a ≡ Done b → a ≡ b
-ok-same a b h = cc
 
 ok≢err : (a : List Line) (fault : IncludeFault) → Done a ≡ Fault fault → ⊥
 ok≢err a fault h = cc

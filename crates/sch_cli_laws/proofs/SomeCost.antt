@@ -10,13 +10,13 @@ use Rattle.sch_stops.specs.Output.{Output, stopped, usage_line}
 use Rattle.sch_loading.specs.Loading.{Expanding, Reporting}
 use Rattle.sch_loading.specs.Stages.{Is, Stage, Then, goes, halts}
 use Rattle.sch_loading.proofs.StageLemmas.{through}
-use Rattle.sch_cli.specs.Telling.{Telling, by_plan, by_watches, edit_cost, under}
-use Rattle.sch_cli.specs.Behaviours.{Any, Making, Measures, Opening, OpeningAll, States, StatesCost, WatchingAll, behaviour}
-use Rattle.sch_cli.specs.Following.{Earlier, Follows, comes_to_end, earlier_of, edits, has_no_history, items_of, lacks_numbers, refuses, stops_at, then_shown, undoes}
-use Rattle.sch_cli.specs.Output.{expanded, notice_output, state, summed_up}
-use Rattle.sch_cli.specs.Steps.{EditsCost, at_a_fault, at_the_end, of_edited, of_lacking, of_none, of_refused, of_undone}
-use Rattle.sch_cli.proofs.WayLemmas.{touches}
-use Rattle.sch_cli_laws.specs.Ended.{SomeCost}
+use Rattle.sch_commands.specs.Telling.{Telling, by_plan, by_watches, edit_cost, under}
+use Rattle.sch_commands.specs.Behaviours.{Any, Making, Measures, Opening, OpeningAll, States, StatesCost, WatchingAll, behaviour}
+use Rattle.sch_commands.specs.Following.{Earlier, Follows, comes_to_end, earlier_of, edits, has_no_history, items_of, lacks_numbers, refuses, stops_at, then_shown, undoes}
+use Rattle.sch_commands.specs.Output.{expanded, notice_output, state, summed_up}
+use Rattle.sch_commands.specs.Steps.{EditsCost, at_a_fault, at_the_end, of_edited, of_lacking, of_none, of_refused, of_undone}
+use Rattle.sch_commands.proofs.WayLemmas.{touches}
+use Rattle.sch_cli_laws.specs.Decided.{SomeCost}
 
 -- what is written for the commands and undos of a script has visits
 module _ (telling : Telling) (undos : ℕ) where

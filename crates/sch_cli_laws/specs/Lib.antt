@@ -1,4 +1,3 @@
 pub mod Decided
-pub mod Ended
 pub mod Undone
 pub mod WholeSchemas

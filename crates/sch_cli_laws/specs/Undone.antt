@@ -25,10 +25,10 @@ use Rattle.sch_stops.specs.EditLines.{edit_line, refused_line, undo_line}
 use Rattle.sch_stops.specs.Output.{Output}
 use Rattle.sch_loading.specs.Loading.{Planning}
 use Rattle.sch_loading.specs.Stages.{goes}
-use Rattle.sch_cli.specs.Behaviours.{IsWhole}
-use Rattle.sch_cli.specs.Following.{Earlier, Follows, IsTakenBack, items_of}
-use Rattle.sch_cli.specs.Output.{state}
-use Rattle.sch_cli.specs.Telling.{by_plan, under}
+use Rattle.sch_commands.specs.Behaviours.{IsWhole}
+use Rattle.sch_commands.specs.Following.{Earlier, Follows, IsTakenBack, items_of}
+use Rattle.sch_commands.specs.Output.{state}
+use Rattle.sch_commands.specs.Telling.{by_plan, under}
 
 -- the document behind an undo has the state of that from before the edit: the same text, which shows the same
 abbrev pub UndosShowTheSame : Type 0

@@ -1,7 +1,6 @@
 //! Laws of the definitions, as calls that do nothing.
 
-ghost use Rattle.sch_cli_laws.specs.Decided.{BegunIsFront, OneCost};
-ghost use Rattle.sch_cli_laws.specs.Ended.{SomeCost, SomeOutput};
+ghost use Rattle.sch_cli_laws.specs.Decided.{BegunIsFront, OneCost, OneOutput, SomeCost, SomeOutput};
 ghost use Rattle.sch_cli_laws.specs.Undone.{UndoneEditsShowTheSame};
 ghost use Rattle.sch_cli_laws.specs.WholeSchemas.{WholeSchemasStay};
 
@@ -24,8 +23,7 @@ use sch_plan_laws::{each_phase_is_compiled, plans_need_no_places};
 use state_iso_laws::{same_trees_show_the_same, saved_documents_show_the_same};
 use watch_lines_laws::{each_file_is_read, one_reading};
 
-/// What an expansion writes needs no other file and stands for the schema that was expanded: its own expansion writes the same
-/// bytes, and documents have the same reports by it.
+/// What an expansion writes needs no other file: it expands to the same bytes, and documents have by it the reports that they have by the schema.
 pub fn whole_schemas_stay()
     ensures { WholeSchemasStay }
 {
@@ -36,6 +34,17 @@ pub fn whole_schemas_stay()
     expansion_is_accepted_again();
     flat_texts_have_no_fault();
     plans_need_no_places();
+}
+
+/// The words and the files have one output alone.
+pub fn one_output()
+    ensures { OneOutput }
+{
+    one_tree();
+    one_inclusion();
+    one_plan();
+    one_edit();
+    one_reading();
 }
 
 /// A text that a run comes to write is a front of the bytes of its output.

@@ -4,6 +4,6 @@
 mod laws;
 
 pub use laws::{
-    begun_is_front, one_cost, some_cost, some_output, undone_edits_show_the_same,
+    begun_is_front, one_cost, one_output, some_cost, some_output, undone_edits_show_the_same,
     whole_schemas_stay,
 };

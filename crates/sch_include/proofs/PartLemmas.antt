@@ -12,16 +12,16 @@ use Rattle.sch_include.specs.Parts.{Choice, InTurn, Part, Standing, Then, Told, 
 use Rattle.sch_include.specs.Taking.{Walked}
 use Rattle.sch_include.specs.inner.Joining.{Gives}
 
-abbrev Outcome : Type 0
+abbrev pub Outcome : Type 0
 Outcome = Result (List Line) IncludeFault
 
-abbrev Done : List Line → Outcome
+abbrev pub Done : List Line → Outcome
 Done told = Ok told
 
-abbrev Fault : IncludeFault → Outcome
+abbrev pub Fault : IncludeFault → Outcome
 Fault fault = Err fault
 
-ok-same : (a b : List Line) → Done a ≡ Done b → a ≡ b
+pub ok-same : (a b : List Line) → Done a ≡ Done b → a ≡ b
 ok-same a b h = cc
 
 err≢ok : (e : IncludeFault) (a : List Line) → Fault e ≡ Done a → ⊥

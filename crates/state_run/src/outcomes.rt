@@ -14,7 +14,7 @@ ghost use Rattle.state_run.specs.Outcomes.{Holds, LetsHold};
 ghost use Rattle.state_run.specs.inner.Running.{HoldsTo, under_node};
 
 use doc_tree::{NodeId, Tree};
-use rule_run::{Caller, KeptMatches, Lets, PlanRun, Recorder, outcome_of_pair, run_let};
+use rule_run::{Caller, KeptMatches, Lets, PlanRun, Recorder, run_let};
 use sch_compiled::{Findings, Plan};
 use sch_units::lets_stand_in_order;
 use std::alloc::{AllocError, Global};
@@ -273,15 +273,9 @@ impl Outcomes {
         ensures spent { SpentOn at.now.run.plan.now at.now.run.caller.tree.now.nodes (under at.now.pattern n ∷ []) steps.old steps.new }
     {
         lets_stand_in_order();
-        let outcome = outcome_of_pair(
-            &at.run,
-            at.pattern,
-            n,
-            matches,
-            &mut self.lets,
-            reads,
-            steps,
-        )?;
+        let outcome = at
+            .run
+            .outcome_of_pair(at.pattern, n, matches, &mut self.lets, reads, steps)?;
         self.found.put(at.pattern, n, outcome)
     }
 }

@@ -37,7 +37,7 @@ told-lines T found nodes rules p told low =
     untold T rules (outcome_at found p n) (false_from_ne_true (is_told (outcome_at found p n)) (λ (is : is_told (outcome_at found p n) ≡ true).
     let there : told.among n ≡ true = told.all p n low is in absurd (cc))))
 
-mem-filter : (n : ℕ) (among : ℕ → Bool) (ns : List ℕ) → mem n (filter among ns) ≡ true → mem n ns ≡ true
+pub mem-filter : (n : ℕ) (among : ℕ → Bool) (ns : List ℕ) → mem n (filter among ns) ≡ true → mem n ns ≡ true
 mem-filter n among [] there = there
 mem-filter n among (m ∷ ns) there = by (among m) (n == m) refl (mem-filter n among ns) there
   where

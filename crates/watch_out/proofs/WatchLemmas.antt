@@ -1,5 +1,5 @@
 -- Watches told one after another.
-use Rattle.std.proofs.Common.{◌≡◌, ◌∙◌, ◌⊎◌, inl, inr, ℕ, ◌+◌, ◌<◌, ◌≤◌, ◌==◌, Bool, true, false, ◌||◌, if◌then◌else◌, filter, List, [], ◌∷◌, length, take, slice_get, slice_index_or, is_none, is_some, IfOk, Option, None, Some, Result, Ok, Err, refl, sym, ap, subst, arith, true≢false}
+use Rattle.std.proofs.Common.{◌≡◌, ◌∙◌, ◌⊎◌, inl, inr, ℕ, ◌+◌, ◌<◌, ◌≤◌, Bool, true, false, ◌||◌, List, [], length, take, slice_get, slice_index_or, is_none, is_some, IfOk, Option, None, Some, Result, Ok, Err, refl, sym, ap, subst, arith, true≢false}
 use Rattle.std.specs.List.{list_any}
 use Rattle.std.proofs.lemmas.List.FromFn.{get_or-range_with_len, length-range_with_len}
 use Rattle.std.proofs.lemmas.List.Folds.{list_any_at, list_any_more}
@@ -19,6 +19,7 @@ use Rattle.xp_values.specs.declared.values.EvalFault.{EvalFault}
 use Rattle.xp_values.specs.declared.values.Value.{Value}
 use Rattle.svrl_out.specs.Report.{Reported}
 use Rattle.svrl_out.specs.declared.report.OutError.{OutError}
+use Rattle.svrl_out.proofs.ToldLemmas.{mem-filter}
 use Rattle.xp_watch.specs.Costs.{has_fault}
 use Rattle.xp_watch.specs.Kept.{IsFresh, Kept, is_stale}
 use Rattle.xp_watch.specs.Watched.{root_alone, watched, watches_of}
@@ -72,15 +73,6 @@ proper_given T proper formed expr (Ok v) is =
     no_let : (place : ℕ) (v : Value) → slice_index_or no_lets place None ≡ Some (Ok v) → ⊥
     no_let place v is = cc
 proper_given T proper formed expr (Err fault) is = tt
-
-mem-filter : (n : ℕ) (among : ℕ → Bool) (ns : List ℕ) → mem n (filter among ns) ≡ true → mem n ns ≡ true
-mem-filter n among [] there = there
-mem-filter n among (m ∷ ns) there = by (among m) (n == m) refl (mem-filter n among ns) there
-  where
-    by : (b c : Bool) → (n == m) ≡ c → (mem n (filter among ns) ≡ true → mem n ns ≡ true) → mem n (if b then m ∷ filter among ns else filter among ns) ≡ true → (c || mem n ns) ≡ true
-    by b true e rest is = refl
-    by true false e rest is = rest (sym (ap (λ (c : Bool). c || mem n (filter among ns)) e) ∙ is)
-    by false false e rest is = rest is
 
 -- the nodes of a node-set live
 pub set_live : (T : Table) (nodes : List ℕ) → Ordered T → IsNodeSet T nodes → (n : ℕ) → mem n nodes ≡ true → is_live T n ≡ true

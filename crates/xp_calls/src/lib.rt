@@ -18,4 +18,4 @@ pub use arguments::wanted;
 pub use caller::Caller;
 pub use converting::nodes_of;
 pub use operators::negate;
-pub use reading::{read_axis, read_name, read_names};
+pub use reading::{is_by_name, read_axis, read_name, read_names};

@@ -60,7 +60,7 @@ pub fn read_axis(tree: &Tree, axis: Axis, n: NodeId, reads: &mut Recorder) -> Re
 }
 
 /// Whether a node test looks at names; the target of an instruction is none (XPath 1.0, section 2.3).
-fn is_by_name(test: &NodeTest) -> bool
+pub fn is_by_name(test: &NodeTest) -> bool
     ensures { result ≡ is_by_name test.now }
 {
     matches!(test, NodeTest::InNamespace { .. } | NodeTest::Named { .. })

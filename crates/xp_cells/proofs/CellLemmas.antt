@@ -13,7 +13,7 @@ use Rattle.xp_outcome.specs.Evaluation.{Read, cell, names_along, variable}
 use Rattle.xp_outcome.specs.Recorded.{CellSet, NamesSet, Recorded, cell_cmp, note, note_all, nothing_read}
 use Rattle.xp_outcome.proofs.Sets.{cell_cmp_antisymmetric, cell_cmp_total, names_cmp_antisymmetric, names_cmp_total}
 use Rattle.xp_cells.specs.EveryCell.{NotedCellsAreRead, every_cell, names_for}
-use Rattle.xp_cells.proofs.Sets.{any-from_list, any-insert}
+use Rattle.xp_outcome.proofs.SetTests.{any_from_list, any_insert}
 
 or_none : (a : Bool) → a ≡ (a || false)
 or_none true = refl
@@ -67,7 +67,7 @@ module _ (T : Table) (c : Cell) where
       sym (contains-from_list cell_cmp_total cells c) ∙ ap (λ (s : CellSet). contains s c) same in
       let along : is_among c (flat_map (names_for T) names) ≡ named_in held.names =
       any-flat_map (eq_by_cmp cell_cmp c) (names_for T) names
-      ∙ sym (any-from_list names_cmp_total names_cmp_antisymmetric stands_for names) ∙ ap named_in named in
+      ∙ sym (any_from_list names_cmp_total names_cmp_antisymmetric stands_for names) ∙ ap named_in named in
       contains-from_list cell_cmp_total (cells ++ flat_map (names_for T) names) c
       ∙ list_any-append (eq_by_cmp cell_cmp c) cells (flat_map (names_for T) names)
       ∙ (λ i. one i || along i)
@@ -80,7 +80,7 @@ module _ (T : Table) (c : Cell) where
       ∙ more_first (eq_by_cmp cell_cmp c d) (contains held.cells c) (named_in held.names)
   noted held (names_along axis n) =
       ap (λ b. contains held.cells c || b)
-      (any-insert names_cmp_total names_cmp_antisymmetric stands_for held.names (record { axis = axis; node = n }))
+      (any_insert names_cmp_total names_cmp_antisymmetric stands_for held.names (record { axis = axis; node = n }))
       ∙ more_last (is_among c (cells_of T (names_along axis n))) (contains held.cells c) (named_in held.names)
   noted held (variable slot) = or_none (contains held.cells c || named_in held.names)
 
@@ -94,7 +94,7 @@ module _ (T : Table) (c : Cell) where
       ∙ or_over (contains held.cells c || named_in held.names) (is_among c (cells_of T x)) (list_any (λ y. is_among c (cells_of T y)) xs)
 
   none_noted : (contains {R = cell_cmp} empty c || named_in empty) ≡ false
-  none_noted = λ i. contains-empty cell_cmp c i || any-from_list names_cmp_total names_cmp_antisymmetric stands_for [] i
+  none_noted = λ i. contains-empty cell_cmp c i || any_from_list names_cmp_total names_cmp_antisymmetric stands_for [] i
 
 -- what follows of a value, where there is one
 pub if_ok : {A E : Type 0} {P Q : A → Type 0} (r : Result A E) → ((v : A) → P v → Q v) → IfOk r P → IfOk r Q

@@ -1,5 +1,5 @@
 -- A pattern of one path, and a path of one step.
-use Rattle.std.proofs.Common.{◌≡◌, ℕ, ◌<◌, ◌≤◌, Bool, true, false, cond, ◌||◌, ◌&&◌, List, [], ◌∷◌, ◌++◌, length, get_or, map, refl, sym, ap, ap₂, ◌∙◌, append-nil, arith, true≢false}
+use Rattle.std.proofs.Common.{◌≡◌, ℕ, Bool, true, false, cond, ◌||◌, ◌&&◌, List, [], ◌∷◌, length, get_or, map, refl, sym, ap, ap₂, ◌∙◌, append-nil, arith, true≢false}
 use Rattle.std.specs.Prelude.{◌==◌, not, bytes_eq}
 use Rattle.doc_tree.specs.cell.Cell.TheVariants.{Name}
 use Rattle.doc_tree.specs.declared.axes.Axis.{Axis}
@@ -12,14 +12,13 @@ use Rattle.xp_typed_tree.specs.declared.pattern.TypedPatternStep.{TypedPatternSt
 use Rattle.xp_typed_tree.specs.TypedTree.{TypedPatternStepTree, TypedPathTree}
 use Rattle.xp_typed_tree.specs.TypedView.{path_seen, paths_seen, pattern_step_seen}
 use Rattle.xp_outcome.specs.Cells.{names_on}
-use Rattle.xp_outcome.specs.Evaluation.{Evaluation, done, bind, all_reading, cell}
+use Rattle.xp_outcome.specs.Evaluation.{done, bind, all_reading, cell}
 use Rattle.xp_outcome.proofs.Outcomes.{bind_alike, bind-done, bind-right}
 use Rattle.xp_outcome.proofs.Runs.{next_item, no_item}
-use Rattle.xp_values.specs.declared.values.EvalFault.{EvalFault}
 use Rattle.xp_meaning.specs.Evaluation.{Lets}
 use Rattle.xp_meaning.specs.Reads.{is_by_name}
 use Rattle.xslt_match.specs.Matching.{path_matches, some_path}
-use Rattle.xslt_match.specs.Names.{pattern_names, place_names, standing_places, step_names}
+use Rattle.xslt_match.specs.Names.{pattern_names, step_names}
 use Rattle.xslt_match.specs.inner.Ends.{ends_elsewhere}
 use Rattle.xslt_match.proofs.Chaining.{chains_elsewhere}
 use Rattle.xslt_match.proofs.Filters.{or-false}
@@ -36,9 +35,6 @@ none_behind (x ∷ xs) h = absurd (grind arith)
 
 module _ (T : Table) (n : ℕ) where
   -- the last step of a path stands at the node itself
-  pub last_names : (s : TypedPatternStepTree) → step_names T n (s ∷ []) ≡ place_names T s.axis s.test (n ∷ [])
-  last_names s = refl
-
   names_alone : (s : TypedPatternStepTree) → is_by_name s.test ≡ true → step_names T n (s ∷ []) ≡ map cell (names_on T s.axis (n ∷ []))
   names_alone s by_name = ap (λ (b : Bool). cond b (map cell (names_on T s.axis (n ∷ []))) []) by_name
 

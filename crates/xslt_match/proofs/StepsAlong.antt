@@ -1,5 +1,5 @@
 -- Where the steps of a path pattern lead, along the way to a node.
-use Rattle.std.proofs.Common.{◌≡◌, ℕ, ◌≤◌, zero, suc, Bool, true, false, not, cond, ◌||◌, ◌&&◌, List, [], ◌∷◌, ◌++◌, length, eqb, Option, None, Some, refl, sym, ap, ap₂, ◌∙◌, subst, ⊎_elim, true≢false, arith, append_assoc, eqb-true, eq-eqb}
+use Rattle.std.proofs.Common.{◌≡◌, ℕ, Bool, true, false, not, cond, ◌||◌, ◌&&◌, List, [], ◌∷◌, ◌++◌, length, eqb, Option, None, Some, refl, sym, ap, ap₂, ◌∙◌, subst, ⊎_elim, true≢false, arith, append_assoc, eqb-true, eq-eqb}
 use Rattle.std.proofs.Math.Bool.{or_comm}
 use Rattle.std.specs.Prelude.{filter}
 use Rattle.std.specs.List.{list_any, filter_map}
@@ -7,17 +7,18 @@ use Rattle.doc_tree.specs.kind.Kind.{Kind}
 use Rattle.doc_tree.specs.kind.Kind.TheVariants as kinds
 use Rattle.doc_tree.specs.declared.axes.Axis.{Axis}
 use Rattle.doc_tree.specs.declared.axes.Axis.TheVariants as axes
-use Rattle.doc_tree.specs.Kinds.{holds_kids, can_be_kid}
+use Rattle.doc_tree.specs.Kinds.{holds_kids}
 use Rattle.doc_tree.specs.Lists.{mem}
 use Rattle.doc_tree.specs.Table.{Table, parent_of, kids_of, attrs_of, is_live, kind_of}
 use Rattle.doc_tree.specs.Walks.{ancestors, above, order}
 use Rattle.doc_tree.specs.Order.{Nested}
 use Rattle.doc_tree.specs.Laws.{WellFormed, Ordered, HasWaysUp}
-use Rattle.doc_tree.proofs.ListLemmas.{In, In-mem, mem-In, In-cons, In-length, mem-append, mem-one, mem-head, mem-tail}
+use Rattle.doc_tree.proofs.ListLemmas.{In, In-mem, mem-In, mem-append, mem-one, mem-head, mem-tail}
 use Rattle.doc_axes.specs.Axes.{backwards, is_attribute, is_attribute_kind, is_one, on_axis}
 use Rattle.doc_axes.specs.NodeTests.{passes}
 use Rattle.doc_axes.proofs.SubLists.{sub-one, filter-sub, filter-none, filter-same, backwards-twice}
 use Rattle.doc_axes.proofs.AxisLemmas.{ancestor_or_self_axis}
+use Rattle.doc_axes.proofs.AxisLemmas.{plain-kid}
 use Rattle.xp_typed_tree.specs.TypedTree.{TypedPatternStepTree}
 use Rattle.xp_typed_tree.specs.WellTyped.{is_pattern_axis, PatternStepsTyped}
 use Rattle.xslt_ways.specs.Ways.{is_anywhere, looks_at, looks_there, OnOneWay}
@@ -74,15 +75,6 @@ pub record Going (T : Table) (steps rest : List TypedPatternStepTree) (nodes : L
   pub passed : List TypedPatternStepTree
   pub parted : steps ≡ rest ++ passed
   pub lead_on : nodes ≡ filter (λ k. reaches T passed (k ∷ []) n) (order T)
-
-plain-kid : (o : Option Kind) → can_be_kid o ≡ true → is_attribute_kind o ≡ false
-plain-kid None h = refl
-plain-kid (Some kinds.Root) h = refl
-plain-kid (Some kinds.Element) h = refl
-plain-kid (Some kinds.Attribute) h = absurd (true≢false (sym h))
-plain-kid (Some kinds.Text) h = refl
-plain-kid (Some kinds.Comment) h = refl
-plain-kid (Some kinds.Pi) h = refl
 
 plain-holder : (o : Option Kind) → holds_kids o ≡ true → is_attribute_kind o ≡ false
 plain-holder None h = refl

@@ -14,10 +14,12 @@ ghost use Rattle.xslt_match.specs.Names.{pattern_names, step_names};
 
 use crate::chains::PlacedPath;
 use crate::kept::KeptSteps;
-use crate::names::{has_name, is_by_name, is_named_on, read_step_names};
+use crate::names::{has_name, read_step_names};
+use doc_axes::is_principal;
 use doc_tree::{Cell, NodeId, Tree};
 use std::alloc::Global;
 use std::sync::ledger::Ledger;
+use xp_calls::is_by_name;
 use xp_eval::{Caller, Evaluator};
 use xp_meaning::Lets;
 use xp_outcome::{Recorder, Steps};
@@ -179,7 +181,7 @@ impl Matcher<'_> {
         ensures kept { IsKeptFor self.now.evaluator.caller.tree.now.nodes self.now.evaluator.lets.now self.now.pattern.now kept.new }
     {
         let tree = self.evaluator.caller.tree;
-        if !is_named_on(step.step.axis, tree.kind(self.node)) {
+        if !is_principal(step.step.axis, tree.kind(self.node)) {
             return Ok(false);
         }
         reads.add(Cell::Name(self.node))?;

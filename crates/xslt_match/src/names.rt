@@ -14,9 +14,10 @@ ghost use Rattle.xslt_match.specs.Names.{pattern_names, place_names, some_anywhe
 
 use crate::matching::Matcher;
 use crate::one_chain::{ancestor_over, is_anywhere};
-use doc_axes::passes;
-use doc_tree::{Axis, Cell, Kind, NodeId, NodeTest, Tree};
+use doc_axes::{is_principal, passes};
+use doc_tree::{Axis, Cell, NodeId, NodeTest, Tree};
 use std::alloc::AllocError;
+use xp_calls::is_by_name;
 use xp_outcome::Recorder;
 use xp_typed_tree::TypedPatternStep;
 
@@ -95,13 +96,6 @@ fn read_place_names(
     }
 }
 
-/// Whether a node test looks at names; the target of an instruction is none (XPath 1.0, section 2.3).
-pub(crate) fn is_by_name(test: &NodeTest) -> bool
-    ensures { result ≡ is_by_name test.now }
-{
-    matches!(test, NodeTest::InNamespace { .. } | NodeTest::Named { .. })
-}
-
 /// Records the names of the nodes at which a step can stand that leads to a node by the steps behind it, where they are of an
 /// axis's principal kind.
 fn read_places(
@@ -168,29 +162,19 @@ fn read_name(tree: &Tree, axis: Axis, m: NodeId, reads: &mut Recorder) -> Result
     ensures { (count : ℕ) → Ran (all_reading (map cell (names_on tree.now.nodes axis (m ∷ []))) (done tt))
         (shown_alloc result) reads.old reads.new count count }
 {
-    if !is_principal(tree, axis, m) {
+    if !has_principal(tree, axis, m) {
         return Ok(());
     }
     reads.add(Cell::Name(m))
 }
 
 /// Whether the node is of the kind that names test on the axis.
-fn is_principal(tree: &Tree, axis: Axis, m: NodeId) -> bool
+fn has_principal(tree: &Tree, axis: Axis, m: NodeId) -> bool
     ensures { result ≡ is_principal axis (kind_of tree.now.nodes m) }
 {
     match tree.kind_of(m) {
-        Some(kind) => is_named_on(axis, kind),
+        Some(kind) => is_principal(axis, kind),
         None => false,
-    }
-}
-
-/// Whether the kind is the one that names test on the axis.
-pub(crate) fn is_named_on(axis: Axis, kind: Kind) -> bool
-    ensures { result ≡ is_principal axis (Some kind) }
-{
-    match axis {
-        Axis::Attribute => kind == Kind::Attribute,
-        _ => kind == Kind::Element,
     }
 }
 

@@ -1,10 +1,9 @@
 -- What was carried out is told and counted under its status.
 use Rattle.std.proofs.Common.{◌∙◌, Bool, ap, sym, ◌&&◌}
-use Rattle.sch_cli.specs.Behaviours.{asked_by}
+use Rattle.sch_commands.specs.Behaviours.{asked_by}
 use Rattle.sch_stops.specs.Stops.{counted_if}
-use Rattle.sch_cli.specs.inner.Carried.{line_of_end}
-use Rattle.sch_cli.proofs.RunLemmas.{last_named, line_named, read_so_far, run_ends}
-use Rattle.sch_cli.proofs.StepLemmas.{run_counts}
+use Rattle.sch_commands.specs.Carried.{line_of_end}
+use Rattle.sch_cli.proofs.RunLemmas.{last_named, line_named, read_so_far, run_counts, run_ends}
 use Rattle.sch_cli.proofs.program.run.Goals as goal
 
 pub returns-clause-headline : goal.returns-clause-headline

@@ -1,0 +1,15 @@
+pub mod AskLemmas
+pub mod CarryLemmas
+pub mod CostLemmas
+pub mod EndLemmas
+pub mod EventLemmas
+pub mod FollowLemmas
+pub mod ScriptCases
+pub mod SessionLemmas
+pub mod StepLemmas
+pub mod MeasureLemmas
+pub mod WatchLemmas
+pub mod AloneLemmas
+pub mod WayLemmas
+pub mod ItemLemmas
+pub mod UndoLemmas

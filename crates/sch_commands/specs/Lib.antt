@@ -1,0 +1,9 @@
+pub mod Output
+pub mod Telling
+pub mod Following
+pub mod Steps
+pub mod Measuring
+pub mod Behaviours
+pub mod Written
+pub mod Carried
+pub mod inner

@@ -1,0 +1,9 @@
+pub mod Writing
+pub mod Sessions
+pub mod Behind
+pub mod Followers
+pub mod Counts
+pub mod Measurers
+pub mod Scripts
+pub mod Ways
+pub mod Undoing
