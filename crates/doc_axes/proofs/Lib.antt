@@ -1,4 +1,5 @@
 pub mod SubLists
+pub mod Backwards
 pub mod Merging
 pub mod NodeSets
 pub mod Segments

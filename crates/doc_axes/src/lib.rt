@@ -2,9 +2,11 @@
 #![tactic(auto)]
 
 mod axes;
+mod judged;
 mod laws;
 mod node_test;
 mod passing;
+mod placed;
 mod sets;
 mod siblings;
 mod walks;
@@ -13,4 +15,5 @@ pub use axes::axis_nodes;
 pub use laws::{axes_by_cells, axes_partition};
 pub use node_test::{is_principal, passes};
 pub use passing::push_passing;
+pub use placed::{Placed, passing_at};
 pub use sets::{into_document_order, union_in_order};

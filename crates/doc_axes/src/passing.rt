@@ -9,8 +9,8 @@ ghost use Rattle.doc_axes.specs.NodeTests.{passes};
 ghost use Rattle.doc_axes.specs.inner.Found.{found_on};
 
 use crate::axes::{axis_nodes, kids_beside, push_axis};
+use crate::judged::{Judged, passes_by};
 use crate::laws::axes_by_cells;
-use crate::node_test::passes;
 use crate::siblings::kids_behind;
 use doc_tree::{Axis, NodeId, NodeList, NodeTest, Tree};
 use std::alloc::{AllocError, Global};
@@ -44,7 +44,7 @@ pub fn push_passing(
 }
 
 /// The nodes on the axis from a live node, where the tree keeps them as a list.
-fn lent_nodes(tree: &Tree, n: NodeId, axis: Axis) -> Option<&[NodeId]>
+pub(crate) fn lent_nodes(tree: &Tree, n: NodeId, axis: Axis) -> Option<&[NodeId]>
     requires { is_live tree.now.nodes n ≡ true }
     ensures { IfSome result (λ nodes. nodes.now ≡ axis_nodes tree.now.nodes axis n) }
 {
@@ -82,7 +82,8 @@ fn push_all_on(tree: &Tree, axis: Axis, n: NodeId, list: &mut NodeList) -> Resul
     Ok(list.len() - before)
 }
 
-/// Puts those of some live nodes that pass the test at the end of the list, and tells how many nodes there are.
+/// Puts those of some live nodes that pass the test at the end of the list, and tells how many nodes there are. A name is compared where it is
+/// not known yet.
 fn push_those(
     tree: &Tree,
     axis: Axis,
@@ -94,8 +95,10 @@ fn push_those(
     ensures pushed { OnOk result (list.new ≡ list.old ++ filter (passes tree.now.nodes axis test.now) nodes.now) }
     ensures counted { IfOk result (λ count. count ≡ length nodes.now) }
 {
+    let mut judged = Judged::nothing();
     for n in nodes {
-        list.push_if(*n, passes(tree, *n, axis, test))?;
+        let stays = passes_by(tree, *n, axis, test, &mut judged);
+        list.push_if(*n, stays)?;
     }
     Ok(nodes.len())
 }

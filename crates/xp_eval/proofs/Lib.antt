@@ -6,3 +6,4 @@ pub mod DeadNodes
 pub mod LoneLets
 pub mod OneNode
 mod OwnNode
+pub mod Places

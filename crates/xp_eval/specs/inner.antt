@@ -3,3 +3,4 @@ pub mod Candidates
 pub mod OwnNode
 pub mod Reaching
 pub mod Wants
+pub mod Places

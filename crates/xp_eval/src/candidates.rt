@@ -55,8 +55,7 @@ impl Evaluator<'_> {
         Ok(list)
     }
 
-    /// Puts the nodes on the axis from a node that pass the test at the end of the list, in the axis's own order. Records
-    /// what the axis and the test look at, and counts a step for the node and one for each node on its axis.
+    /// Puts the nodes on the axis from a node that pass the test at the end of the list, in the axis's own order, and looks the axis over.
     fn push_candidates<L: Ledger>(
         &self,
         step: &TypedStep,
@@ -69,11 +68,27 @@ impl Evaluator<'_> {
         ensures pushed { OnOk result (list.new ≡ list.old ++ found self.now.caller.tree.now.nodes step.now n) }
     {
         let Caller { alloc, tree } = self.caller;
+        let count = push_found(alloc, tree, step, n, list)?;
+        self.look_over(step, n, count, reads, steps)
+    }
+
+    /// Records what a step's axis and test look at from a node, and counts a step for the node and one for each node on the axis.
+    pub(crate) fn look_over<L: Ledger>(
+        &self,
+        step: &TypedStep,
+        n: NodeId,
+        on_axis: usize,
+        reads: &mut Recorder,
+        steps: &mut Steps<L>,
+    ) -> Result<(), AllocError>
+        requires { on_axis ≡ length (axis_nodes self.now.caller.tree.now.nodes (out-TypedStep step.now).axis n) }
+        ensures { Ran (candidates_of self.now.caller.tree.now.nodes step.now n) (shown_found (found self.now.caller.tree.now.nodes step.now n) result) reads.old reads.new steps.old steps.new }
+    {
+        let tree = self.caller.tree;
         read_axis(tree, step.axis, n, reads)?;
         read_names(step.axis, &step.test, n, reads)?;
-        let count = push_found(alloc, tree, step, n, list)?;
         steps.tick();
-        steps.tick_times(count);
+        steps.tick_times(on_axis);
         Ok(())
     }
 }

@@ -16,6 +16,7 @@ ghost use Rattle.xp_meaning.specs.Functions.{applied};
 ghost use Rattle.xp_meaning.specs.Paths.{kept, filtered, step_at, step_from, path};
 ghost use Rattle.xp_meaning.specs.Evaluation.{meaning, meanings, some_true, all_true, compared, combined, values, start_nodes, comparands_meant, combinands_meant, steps_meant};
 ghost use Rattle.xp_eval.specs.Steps.{step_meant};
+ghost use Rattle.xp_eval.specs.inner.Places.{IsAskedAt};
 ghost use Rattle.xp_eval.specs.inner.Reaching.{nodes_reached, shown_reached};
 ghost use Rattle.xp_eval.specs.inner.Wants.{wanted_by};
 
@@ -25,7 +26,9 @@ use crate::answers::{
 use crate::candidates::{in_document_order, is_plain, to_document_order};
 use crate::choosing::{joined, lone, lone_slot, size_of, union_of, wanted_by};
 use crate::own_node::own_comparison;
+use crate::positions::{behind_first, keep_at, place_asked, placed_candidate};
 use crate::reached::Reached;
+use doc_axes::Placed;
 use doc_tree::{NodeId, NodeList};
 use sch_base::ItemList;
 use std::sync::ledger::Ledger;
@@ -438,6 +441,9 @@ impl Evaluator<'_> {
     ) -> Result<NodeList, EvalError>
         ensures { Ran (step_at self.now.caller.tree.now.nodes (step_meant self.now.caller.tree.now.nodes self.now.lets.now step.now) current n) (shown result) reads.old reads.new steps.old steps.new }
     {
+        if let Some(placed) = placed_candidate(self.caller.tree, step, n) {
+            return self.step_to_place(step, placed, current, n, reads, steps);
+        }
         match self.candidates(step, n, reads, steps) {
             Ok(nodes) => {
                 if nodes.is_empty() {
@@ -445,6 +451,29 @@ impl Evaluator<'_> {
                 } else {
                     self.filter(&step.predicates, current, nodes, reads, steps)
                 }
+            }
+            Err(error) => Err(error),
+        }
+    }
+
+    /// `step_at` where the first predicate asks for a place: the candidate there is filtered by the others.
+    #[cycle(evaluation)]
+    fn step_to_place<L: Ledger>(
+        &self,
+        step: &TypedStep,
+        placed: Placed,
+        current: NodeId,
+        n: NodeId,
+        reads: &mut Recorder,
+        steps: &mut Steps<L>,
+    ) -> Result<NodeList, EvalError>
+        requires { IsAskedAt self.now.caller.tree.now.nodes step.now n placed }
+        ensures { Ran (step_at self.now.caller.tree.now.nodes (step_meant self.now.caller.tree.now.nodes self.now.lets.now step.now) current n) (shown result) reads.old reads.new steps.old steps.new }
+    {
+        match self.take_place(step, placed, n, reads, steps) {
+            Ok(nodes) => {
+                let others = behind_first(&step.predicates);
+                self.filter(others, current, nodes, reads, steps)
             }
             Err(error) => Err(error),
         }
@@ -464,9 +493,27 @@ impl Evaluator<'_> {
     {
         let mut nodes = nodes;
         for predicate in predicates {
-            nodes = self.keep(predicate, current, nodes.as_slice(), reads, steps)?;
+            nodes = self.keep_by(predicate, current, nodes.as_slice(), reads, steps)?;
         }
         Ok(nodes)
+    }
+
+    /// The nodes for which a predicate holds. One that asks for a place is not evaluated at each node.
+    #[cycle(evaluation)]
+    fn keep_by<L: Ledger>(
+        &self,
+        predicate: &TypedExpr,
+        current: NodeId,
+        nodes: &[NodeId],
+        reads: &mut Recorder,
+        steps: &mut Steps<L>,
+    ) -> Result<NodeList, EvalError>
+        ensures { Ran (kept (meaning self.now.caller.tree.now.nodes self.now.lets.now (typed_tree_of predicate.now)) current nodes.now) (shown result) reads.old reads.new steps.old steps.new }
+    {
+        match place_asked(predicate) {
+            Some(asked) => keep_at(self.caller.alloc, asked.place(nodes.len()), nodes, steps),
+            None => self.keep(predicate, current, nodes, reads, steps),
+        }
     }
 
     /// The nodes for which a predicate holds, each at its position in the list.

@@ -8,6 +8,7 @@ mod choosing;
 mod evaluator;
 mod let_calls;
 mod own_node;
+mod positions;
 mod reached;
 mod variables;
 

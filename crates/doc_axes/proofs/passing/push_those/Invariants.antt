@@ -1,6 +1,10 @@
 use Rattle.std.proofs.Common.{◌≡◌, ◌++◌, filter, take}
 use Rattle.doc_axes.specs.NodeTests.{passes}
+use Rattle.doc_axes.specs.inner.Judging.{IsJudged}
 use Rattle.doc_axes.proofs.passing.push_those.Given as goal
 
 abbrev pub invariant-loop-n : goal.invariant-loop-n
-invariant-loop-n l = l.list ≡ l.initial.list ++ filter (passes l.tree.nodes l.fn.axis l.test) (take l.n-index l.nodes)
+invariant-loop-n l = record {
+  found : l.list ≡ l.initial.list ++ filter (passes l.tree.nodes l.fn.axis l.test) (take l.n-index l.nodes);
+  judged : IsJudged l.tree.names l.test l.judged;
+}

@@ -5,7 +5,7 @@ use Rattle.doc_axes.specs.Sets.{in_order}
 use Rattle.xp_typed_tree.specs.declared.expr.Compared.{out-Compared}
 use Rattle.xp_typed_tree.specs.declared.expr.TypedStep.{out-TypedStep}
 use Rattle.xp_typed_tree.specs.TypedView.{typed_tree_of, typed_seen}
-use Rattle.xp_outcome.specs.Evaluation.{Evaluation, done, bind}
+use Rattle.xp_outcome.specs.Evaluation.{Evaluation, done, bind, visit}
 use Rattle.xp_outcome.proofs.Runs.{next_item, no_item, ran_alike, ran_bind, ran_stop, ran_done, ran_late, onto_alike, onto_bind, onto_stop, onto_done, onto_late, onto_end}
 use Rattle.xp_values.specs.declared.values.Value.{Value}
 use Rattle.xp_values.specs.declared.values.Value.TheVariants.{NodeSet, Truth, Number, Chars}
@@ -13,13 +13,14 @@ use Rattle.xp_values.specs.declared.values.EvalFault.{EvalFault}
 use Rattle.xp_meaning.specs.Conversions.{nodes_of, compare_in, as_wanted}
 use Rattle.xp_meaning.proofs.Exits.{exit_same, exit_memory, exit_fault, ran_given, ran_ticked, ran_done_at}
 use Rattle.xp_meaning.specs.Paths.{Meaning, holds_at, chosen, placed, kept, filtered, step_at, step_from}
-use Rattle.xp_meaning.specs.Functions.{applied}
+use Rattle.xp_meaning.specs.Functions.{applied, counted}
 use Rattle.xp_meaning.specs.Evaluation.{meaning, meanings}
 use Rattle.xp_eval.specs.Steps.{step_meant}
 use Rattle.xp_eval.specs.inner.Reaching.{nodes_reached}
 use Rattle.xp_eval.specs.inner.Wants.{wanted_by}
 use Rattle.xp_eval.proofs.Loops.{some_true-next, some_true-end, all_true-next, all_true-end, filtered-next, filtered-end, compared-next, compared-end, combined-next, combined-end, path-next, path-end, plain_meant, filtered_none}
 use Rattle.xp_eval.proofs.OneNode.{from_one, turned_in_order}
+use Rattle.xp_eval.proofs.Places.{step-parted}
 use Rattle.xp_eval.proofs.Handing.{ran_as, answered, ran_ok, ran_err, ran_reached}
 use Rattle.xp_eval.proofs.Runs.{onto_goes, onto_stops, chosen_yes, chosen_no, gather_goes, gather_stops, gather_ends, gather_begins, gather_begins_alone, ran_given_fault, ran_given_ok, placed_is}
 use Rattle.xp_eval.proofs.Views.{view-Or, view-And, view-Compare, view-Arith, view-Negate, view-Union, view-Path, view-Filter, view-Variable, view-Literal, literal_bound, view-Number, view-Call, view-Root, view-Here, view-From}
@@ -330,6 +331,28 @@ filter-loop-predicate-preserved g t c =
 pub filter-returns : goal.filter-returns
 filter-returns g t c =
     onto_done (onto_alike (filtered-end c.args.self.now.caller.tree.now.nodes c.args.self.now.lets.now c.args.predicates.now c.loop-predicate.predicate-index c.args.current c.loop-predicate.nodes c.loop-predicate-test.false) c.loop-predicate.invariant)
+
+pub keep_by-returns-in-Some : goal.keep_by-returns-in-Some
+keep_by-returns-in-Some g t c =
+    c.keep_at.ensures (meaning c.args.self.now.caller.tree.now.nodes c.args.self.now.lets.now (typed_tree_of c.args.predicate.now)) c.args.current c.args.reads.now
+    (λ position n. c.in-Some.ensures c.args.self.now.caller.tree.now.nodes c.args.self.now.lets.now (placed c.args.current (length c.args.nodes.now) position n)
+    ∙ ap (λ (place : ℕ). visit (done (counted place))) (sym c.place.ensures))
+
+pub step_to_place-returns-in-Ok : goal.step_to_place-returns-in-Ok
+step_to_place-returns-in-Ok g t c =
+    let T = c.args.self.now.caller.tree.now.nodes in
+    let L = c.args.self.now.lets.now in
+    ran_alike (step-parted T L c.args.step.now c.args.current c.args.n c.requires.first c.requires.rest c.requires.predicates)
+    (ran_bind (λ ks. filtered (meanings T L (typed_seen c.requires.rest)) c.args.current ks)
+    (c.in-Ok.ensures (meaning T L (typed_tree_of c.requires.first)) c.args.current (c.requires.keeps L c.args.current))
+    (ran_alike (ap (λ ps. filtered (meanings T L (typed_seen ps)) c.args.current c.in-Ok.nodes) (sym (c.behind_first-others.ensures c.requires.first c.requires.rest (c.deref.ensures.value ∙ c.requires.predicates)))) c.filter.ensures))
+
+pub step_to_place-returns-in-Err : goal.step_to_place-returns-in-Err
+step_to_place-returns-in-Err g t c =
+    let T = c.args.self.now.caller.tree.now.nodes in
+    let L = c.args.self.now.lets.now in
+    ran_alike (step-parted T L c.args.step.now c.args.current c.args.n c.requires.first c.requires.rest c.requires.predicates)
+    (ran_stop _ _ (c.in-Err.ensures (meaning T L (typed_tree_of c.requires.first)) c.args.current (c.requires.keeps L c.args.current)))
 
 pub keep-returns-in_err-size : goal.keep-returns-in_err-size
 keep-returns-in_err-size g t c =

@@ -1,0 +1,126 @@
+//! The node at a place among those on an axis that pass a node test, found without a list of them (XPath 1.0, sections 2.3 and 2.4).
+
+ghost use Rattle.std.specs.Prelude.{◌≡◌, ◌+◌, ◌<◌, ◌++◌, ◌∷◌, [], ℕ, List, true, filter, IfSome};
+ghost use Rattle.doc_tree.specs.Lists.{mem};
+ghost use Rattle.doc_tree.specs.Table.{is_live};
+ghost use Rattle.doc_axes.specs.Axes.{axis_nodes, backwards};
+ghost use Rattle.doc_axes.specs.NodeTests.{passes};
+ghost use Rattle.doc_axes.specs.Places.{IsPlaced};
+ghost use Rattle.doc_axes.specs.inner.Seeing.{Tells};
+
+use crate::axes::kids_beside;
+use crate::judged::{Judged, passes_by};
+use crate::laws::axes_by_cells;
+use crate::passing::lent_nodes;
+use crate::siblings::kids_before;
+use doc_tree::{Axis, NodeId, NodeTest, Tree};
+
+/// How many nodes an axis has, how many of them pass a node test, and the one of these at a place.
+#[derive(Clone, Copy)]
+pub struct Placed {
+    pub on_axis: usize,
+    pub passing: usize,
+    pub node: Option<NodeId>,
+}
+
+/// What is seen of nodes that pass a test while they are gone over: how many they are, and the one at the place.
+#[derive(Clone, Copy)]
+pub(crate) struct Seen {
+    pub(crate) place: usize,
+    pub(crate) count: usize,
+    pub(crate) node: Option<NodeId>,
+}
+
+/// Of the nodes on the axis from a live node that pass the test, the one at the place, counted from 1 in the axis's own order. None where the tree
+/// keeps no list of the axis's nodes.
+///
+/// Costs a look at each node on the axis, and no memory.
+pub fn passing_at(
+    tree: &Tree,
+    axis: Axis,
+    test: &NodeTest,
+    n: NodeId,
+    place: usize,
+) -> Option<Placed>
+    requires { is_live tree.now.nodes n ≡ true }
+    ensures { IfSome result (IsPlaced place (axis_nodes tree.now.nodes axis n) (filter (passes tree.now.nodes axis test.now) (axis_nodes tree.now.nodes axis n))) }
+{
+    tree.laws();
+    axes_by_cells(tree);
+    if let Some(nodes) = lent_nodes(tree, n, axis) {
+        return Some(at_from_start(tree, axis, test, nodes, place));
+    }
+    match axis {
+        Axis::PrecedingSibling => {
+            let nodes = kids_before(kids_beside(tree, n), n);
+            Some(at_from_end(tree, axis, test, nodes, place))
+        }
+        _ => None,
+    }
+}
+
+/// The node at the place among those of some live nodes that pass the test.
+fn at_from_start(tree: &Tree, axis: Axis, test: &NodeTest, nodes: &[NodeId], place: usize) -> Placed
+    requires { (m : ℕ) → mem m nodes.now ≡ true → is_live tree.now.nodes m ≡ true }
+    ensures { IsPlaced place nodes.now (filter (passes tree.now.nodes axis test.now) nodes.now) result }
+{
+    let on_axis = nodes.len();
+    let mut judged = Judged::nothing();
+    let mut seen = Seen::nothing(place);
+    for n in nodes {
+        if passes_by(tree, *n, axis, test, &mut judged) {
+            seen.see(*n);
+        }
+    }
+    Placed {
+        on_axis,
+        passing: seen.count,
+        node: seen.node,
+    }
+}
+
+/// The same where the nodes stand in the order from their end.
+fn at_from_end(tree: &Tree, axis: Axis, test: &NodeTest, nodes: &[NodeId], place: usize) -> Placed
+    requires { (m : ℕ) → mem m nodes.now ≡ true → is_live tree.now.nodes m ≡ true }
+    ensures { IsPlaced place (backwards nodes.now) (filter (passes tree.now.nodes axis test.now) (backwards nodes.now)) result }
+{
+    let on_axis = nodes.len();
+    let mut judged = Judged::nothing();
+    let mut seen = Seen::nothing(place);
+    for behind in 0..on_axis {
+        let n = nodes[on_axis - 1 - behind];
+        if passes_by(tree, n, axis, test, &mut judged) {
+            seen.see(n);
+        }
+    }
+    Placed {
+        on_axis,
+        passing: seen.count,
+        node: seen.node,
+    }
+}
+
+impl Seen {
+    /// Nothing is seen yet.
+    fn nothing(place: usize) -> Seen
+        ensures { Tells place [] result }
+    {
+        Seen {
+            place,
+            count: 0,
+            node: None,
+        }
+    }
+
+    /// One more node passes.
+    fn see(&mut self, n: NodeId)
+        requires room { self.old.count < 18446744073709551615 }
+        ensures told { (place : ℕ) (found : List ℕ) → Tells place found self.old → Tells place (found ++ n ∷ []) self.new }
+        ensures counted { self.new.count ≡ self.old.count + 1 }
+    {
+        self.count += 1;
+        if self.count == self.place {
+            self.node = Some(n);
+        }
+    }
+}
