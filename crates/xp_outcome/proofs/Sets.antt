@@ -1,12 +1,12 @@
 -- Sets that lists stand for: the order of the items and repeats don't matter.
-use Rattle.std.proofs.Common.{◌≡◌, ℕ, Bool, true, false, cond, ◌||◌, ◌&&◌, List, [], ◌∷◌, ◌++◌, refl, sym, ◌∙◌, ap}
+use Rattle.std.proofs.Common.{◌≡◌, ℕ, Bool, true, false, cond, ◌||◌, ◌&&◌, List, [], ◌∷◌, ◌++◌, refl, sym, ◌∙◌, ap, ap₂}
 use Rattle.std.specs.Prelude.{Option, Some, None, Result, Ok, Err, OnOk, OnErr, slice_get}
 use Rattle.std.specs.declared.cmp.Ordering.{Ordering}
 use Rattle.std.specs.declared.cmp.Ordering.TheVariants.{Less, Equal, Greater}
 use Rattle.std.specs.Ordering.{nat_cmp, eq_by_cmp, ordering_then}
 use Rattle.std.specs.Cmp.{IsTotalOrder, Equal-is, nat_cmp_total, on_total, then_total}
 use Rattle.std.specs.FinMap.{IsAntisymmetric, nat_cmp-IsAntisymmetric}
-use Rattle.std.specs.FinSet.{from_list, from_list_push, insert, retain, contains-from_list, contains-retain, same_set}
+use Rattle.std.specs.FinSet.{FinSet, contains, from_list, from_list_push, insert, retain, union, contains-from_list, contains-retain, contains-union, same_set}
 use Rattle.std.specs.List.{list_any, filter, dedup, dedup_from}
 use Rattle.std.specs.List.Sorted.{IsPermutation}
 use Rattle.std.proofs.lemmas.List.Folds.{list_any-append, list_any_at}
@@ -56,6 +56,11 @@ and_false : (a : Bool) → false ≡ (a && false)
 and_false true = refl
 and_false false = refl
 
+or_moved : (a b c : Bool) → ((a || (b || false)) || c) ≡ (a || (b || c))
+or_moved true b c = refl
+or_moved false true c = refl
+or_moved false false c = refl
+
 or_nothing : (a : Bool) → a ≡ (a || false)
 or_nothing true = refl
 or_nothing false = refl
@@ -104,11 +109,46 @@ module _ {T : Type 0} {eq : T → T → Bool} where
     found = λ exact test. adds_nothing xs place x test exact is (test x) refl ∙ sym (list_any-append test xs (x ∷ []));
   }
 
+  -- items of which the first stands in the list already, and the others too
+  pub stand_already : (xs : List T) (place : ℕ) (x : T) (ms : List T) → is_item_at eq xs place x ≡ true → SameItems eq (xs ++ x ∷ ms) (xs ++ ms)
+  stand_already xs place x ms is = record {
+    found = λ exact test.
+        list_any-append test xs ms
+        ∙ ap (λ b. b || list_any test ms) ((stands_already xs place x is).found exact test ∙ list_any-append test xs (x ∷ []))
+        ∙ or_moved (list_any test xs) (test x) (list_any test ms)
+        ∙ sym (list_any-append test xs (x ∷ ms));
+  }
+
+  -- a list has its own items
+  pub same_list : {xs ys : List T} → xs ≡ ys → SameItems eq xs ys
+  same_list is = record { found = λ exact test. ap (list_any test) (sym is) }
+
+  -- the same items by way of a third list
+  pub same_through : {xs ys zs : List T} → SameItems eq xs ys → SameItems eq ys zs → SameItems eq xs zs
+  same_through first then = record { found = λ exact test. then.found exact test ∙ first.found exact test }
+
 module _ {K : Type 0} {R : K → K → Ordering} (o : IsTotalOrder R) (same : IsAntisymmetric R) where
   -- lists that hold the same items stand for the same set
   pub same_items : (eq : K → K → Bool) → IsExact eq → (xs ys : List K) → SameItems eq xs ys → from_list {R = R} ys ≡ from_list xs
   same_items eq exact xs ys alike =
       same_set o same _ _ (λ q. contains-from_list o ys q ∙ alike.found exact (eq_by_cmp R q) ∙ sym (contains-from_list o xs q))
+
+  -- with more items at the end of one, the other stands for both sets together
+  pub many_more : (eq : K → K → Bool) → IsExact eq → (xs ms ys : List K) → SameItems eq (xs ++ ms) ys →
+      from_list {R = R} ys ≡ union (from_list xs) (from_list ms)
+  many_more eq exact xs ms ys alike = same_set o same _ _ (λ q.
+      contains-from_list o ys q
+      ∙ alike.found exact (eq_by_cmp R q)
+      ∙ list_any-append (eq_by_cmp R q) xs ms
+      ∙ ap (λ b. b || list_any (eq_by_cmp R q) ms) (sym (contains-from_list o xs q))
+      ∙ ap (λ b. contains (from_list {R = R} xs) q || b) (sym (contains-from_list o ms q))
+      ∙ sym (contains-union o (from_list xs) (from_list ms) q))
+
+  -- a set whose items were kept, and then got those of another
+  pub joined_set : (eq : K → K → Bool) → IsExact eq → (xs ys ms zs : List K) {held more : FinSet R} → SameItems eq xs ys → SameItems eq (ys ++ ms) zs →
+      from_list {R = R} xs ≡ held → from_list {R = R} ms ≡ more → from_list {R = R} zs ≡ union held more
+  joined_set eq exact xs ys ms zs same_before joined first other =
+      many_more eq exact ys ms zs joined ∙ ap₂ union (same_items eq exact xs ys same_before ∙ first) other
 
   -- with one item more at the end of one, the other stands for the set with that item
   pub one_more : (eq : K → K → Bool) → IsExact eq → (xs : List K) (x : K) (ys : List K) → SameItems eq (xs ++ x ∷ []) ys →
@@ -144,6 +184,10 @@ module _ {K : Type 0} {R : K → K → Ordering} (o : IsTotalOrder R) (same : Is
 pub on_ok : {A E P Q : Type 0} (r : Result A E) → (P → Q) → OnOk r P → OnOk r Q
 on_ok (Ok v) next h = next h
 on_ok (Err e) next h = tt
+
+pub always_err : {A E Q : Type 0} (r : Result A E) → Q → OnErr r Q
+always_err (Ok v) h = tt
+always_err (Err e) h = h
 
 pub on_err : {A E P Q : Type 0} (r : Result A E) → (P → Q) → OnErr r P → OnErr r Q
 on_err (Ok v) next h = tt

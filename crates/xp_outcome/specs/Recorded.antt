@@ -83,6 +83,10 @@ abbrev pub note_all : Recorded → List Read → Recorded
 note_all held [] = held
 note_all held (x ∷ xs) = note_all (note held x) xs
 
+-- all that is held by one or the other
+abbrev pub joined : Recorded → Recorded → Recorded
+joined held more = record { cells = set.union held.cells more.cells; names = set.union held.names more.names; lets = set.union held.lets more.lets }
+
 -- what was read without the lets from a slot on
 abbrev pub without_lets_from : ℕ → Recorded → Recorded
 without_lets_from slot held = record { cells = held.cells; names = held.names; lets = set.retain held.lets (λ s. nat_lt s slot) }

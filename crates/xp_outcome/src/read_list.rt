@@ -1,6 +1,6 @@
 //! Lists of what was read, in which an item may stand more than once.
 
-ghost use Rattle.std.specs.Prelude.{◌≡◌, [], ◌∷◌, ◌++◌, true, filter, nat_lt, OnOk, OnErr};
+ghost use Rattle.std.specs.Prelude.{◌≡◌, ◌+◌, ◌≤◌, [], ◌∷◌, ◌++◌, true, filter, length, nat_lt, vec_capacity, vec_len, OnOk, OnErr};
 ghost use Rattle.xp_outcome.specs.inner.Settling.{SameItems, is_item_at};
 
 use std::alloc::{AllocError, Global};
@@ -61,7 +61,7 @@ impl<T: Ord + Copy + Drop> ReadList<T> {
         ensures again { result ≡ true → SameItems T.eq (self.old.items.items ++ item ∷ []) self.old.items.items }
     {
         if self.is_at(self.next, item) {
-            self.move_on();
+            self.move_by(1);
             return true;
         }
         self.is_at(self.items.len().saturating_sub(1), item)
@@ -77,11 +77,11 @@ impl<T: Ord + Copy + Drop> ReadList<T> {
         }
     }
 
-    /// Moves `next` on by one; after the last place comes the first.
-    fn move_on(&mut self)
+    /// Moves `next` on; after the last place comes the first.
+    fn move_by(&mut self, count: usize)
         ensures { self.new.items.items ≡ self.old.items.items }
     {
-        let after = self.next.saturating_add(1);
+        let after = self.next.saturating_add(count);
         self.next = if after < self.items.len() { after } else { 0 };
     }
 
@@ -104,6 +104,54 @@ impl<T: Ord + Copy + Drop> ReadList<T> {
         }
         self.settle();
         self.items.reserve_exact(self.items.len())
+    }
+
+    /// Makes room for so many items more. A long list that lacks it is freed of all repeats first.
+    pub(crate) fn make_room_for(&mut self, count: usize) -> Result<(), AllocError>
+        ensures same { SameItems T.eq self.old.items.items self.new.items.items }
+        ensures room { OnOk result (vec_len self.new.items + count ≤ vec_capacity self.new.items) }
+    {
+        if self.items.len() >= LONG && self.items.capacity() - self.items.len() < count {
+            self.settle();
+        }
+        self.items.reserve(count)
+    }
+
+    /// Adds items that there is room for, in one piece; none where all stand at `next` already, which then moves behind them.
+    pub(crate) fn join(&mut self, more: &[T])
+        requires room { vec_len self.old.items + length more.now ≤ vec_capacity self.old.items }
+        ensures joined { SameItems T.eq (self.old.items.items ++ more.now) self.new.items.items }
+    {
+        if self.stand_at_next(more) {
+            self.move_by(more.len());
+        } else {
+            self.put_all(more);
+        }
+    }
+
+    /// Whether the items stand one after another at `next`.
+    fn stand_at_next(&self, more: &[T]) -> bool
+        ensures { result ≡ true → SameItems T.eq (self.now.items.items ++ more.now) self.now.items.items }
+    {
+        let mut place = self.next;
+        for item in more {
+            if !self.is_at(place, *item) {
+                return false;
+            }
+            place = place.saturating_add(1);
+        }
+        true
+    }
+
+    /// Puts items at the end that there is room for.
+    fn put_all(&mut self, more: &[T])
+        requires room { vec_len self.old.items + length more.now ≤ vec_capacity self.old.items }
+        ensures { self.new.items.items ≡ self.old.items.items ++ more.now }
+    {
+        match self.items.extend_from_slice(more) {
+            Ok(()) => (),
+            Err(AllocError) => unreachable!(),
+        }
     }
 
     /// Drops repeats from a list that is not long, and gives back the memory that isn't needed. Most lists have none, and

@@ -3,7 +3,7 @@
 ghost use Rattle.std.specs.Prelude.{◌≡◌, OnOk, OnErr};
 ghost use Rattle.std.specs.FinSet as set;
 ghost use Rattle.xp_outcome.specs.Evaluation.{cell as of_cell, names_along as along, variable};
-ghost use Rattle.xp_outcome.specs.Recorded.{nothing_read, note, without_lets_from};
+ghost use Rattle.xp_outcome.specs.Recorded.{joined, nothing_read, note, without_lets_from};
 
 use crate::names_along::NamesAlong;
 use crate::read_list::ReadList;
@@ -68,6 +68,20 @@ impl Recorder {
         ensures unchanged { OnErr result (self.new ≡ self.old) }
     {
         self.lets.add(slot)
+    }
+
+    /// Adds all that another recorder holds, in one piece for each kind of read. Costs its length, and the more where this one has grown long.
+    pub fn join(&mut self, more: &Recorder) -> Result<(), AllocError>
+        ensures joined { OnOk result (self.new ≡ joined self.old more.now) }
+        ensures unchanged { OnErr result (self.new ≡ self.old) }
+    {
+        self.cells.make_room_for(more.cells.as_slice().len())?;
+        self.names.make_room_for(more.names.as_slice().len())?;
+        self.lets.make_room_for(more.lets.as_slice().len())?;
+        self.cells.join(more.cells.as_slice());
+        self.names.join(more.names.as_slice());
+        self.lets.join(more.lets.as_slice());
+        Ok(())
     }
 
     /// The cells that were read one by one, some perhaps more than once.

@@ -10,11 +10,10 @@ use Rattle.xp_typed_tree.specs.TypedView.{pattern_step_seen}
 use Rattle.xp_meaning.specs.Evaluation.{Lets}
 use Rattle.xp_meaning_laws.specs.Current.{StepsNeedNoCurrent}
 use Rattle.xp_outcome.specs.Evaluation.{Evaluation, done, bind}
-use Rattle.xp_outcome.specs.Recorded.{Recorded, nothing_read}
+use Rattle.xp_outcome.specs.Recorded.{Recorded, joined, nothing_read}
 use Rattle.xp_outcome.specs.Running.{Stop, faulted, no_memory, Answered, Faulted, CutShort, Ran}
 use Rattle.xp_outcome.proofs.Runs.{ran_alike, ran_bind, ran_stop, ran_done}
 use Rattle.xp_values.specs.declared.values.EvalFault.{EvalFault}
-use Rattle.xslt_match.specs.inner.Joining.{joined}
 use Rattle.xslt_match.specs.declared.kept.KeptStep.{KeptStep}
 use Rattle.xslt_match.specs.declared.kept.Selected.{Selected}
 use Rattle.xslt_match.specs.declared.testing.PlacedStep.{PlacedStep}

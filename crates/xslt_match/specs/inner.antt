@@ -1,5 +1,4 @@
 pub mod Leading
 pub mod Ends
 pub mod Keeping
-pub mod Joining
 pub mod OneChain

@@ -2,7 +2,6 @@
 #![tactic(auto)]
 
 mod chains;
-mod joining;
 mod kept;
 mod leading;
 mod matching;

@@ -15,7 +15,6 @@ ghost use Rattle.xslt_match.specs.Kept.{IsKeptFor, IsOutcomeAt, told};
 ghost use Rattle.xslt_match.specs.inner.Keeping.{IsPlacedIn, nodes_told, reads_of, told_of, with_list};
 ghost use Rattle.xslt_match.specs.Matching.{is_left, step_of, survives, survivors};
 
-use crate::joining::join;
 use crate::kept::{KeptSteps, Selected, StepKey};
 use crate::matching::Matcher;
 use crate::nodes::NodeIndex;
@@ -155,7 +154,7 @@ impl Matcher<'_> {
     {
         if let Some(found) = kept.find(key_at(at, parent)) {
             steps.tick_times(found.visits);
-            return found.selected.tell(self.evaluator.caller.alloc, k, reads);
+            return found.selected.tell(k, reads);
         }
         self.left_anew(at, k, parent, kept, reads, steps)
     }
@@ -181,7 +180,7 @@ impl Matcher<'_> {
         let selected = self.select(at.step, parent, steps)?;
         let visits = visits_between(before, steps.taken());
         let key = key_at(at, parent);
-        selected.tell_and_keep(self.evaluator.caller.alloc, k, reads, kept, key, visits)
+        selected.tell_and_keep(k, reads, kept, key, visits)
     }
 
     /// What a step selects at a node, with what is read for it.
@@ -243,11 +242,11 @@ fn selected(
 
 impl Selected {
     /// Whether a node is among those selected, or the fault; adds what was read.
-    fn tell(&self, alloc: Global, k: NodeId, reads: &mut Recorder) -> Result<bool, EvalError>
+    fn tell(&self, k: NodeId, reads: &mut Recorder) -> Result<bool, EvalError>
         ensures { (m : Evaluation EvalFault Bool) (before after : ℕ) →
             Ran m (told self.now.nodes k) nothing_read self.now.reads before after → Ran m (shown result) reads.old reads.new before after }
     {
-        join(alloc, reads, &self.reads)?;
+        reads.join(&self.reads)?;
         match &self.nodes {
             Ok(nodes) => Ok(nodes.has(k)),
             Err(fault) => Err(EvalError::Fault(*fault)),
@@ -257,7 +256,6 @@ impl Selected {
     /// `tell`, and keeps by a key what was selected, where its visits are known.
     fn tell_and_keep(
         self,
-        alloc: Global,
         k: NodeId,
         reads: &mut Recorder,
         kept: &mut KeptSteps,
@@ -269,7 +267,7 @@ impl Selected {
         ensures kept { (T : Table) (L : Lets) (pattern : List TypedPathTree) → IsKeptFor T L pattern kept.old →
             IfSome visits (λ count. IsOutcomeAt T L pattern key (record { selected = self; visits = count })) → IsKeptFor T L pattern kept.new }
     {
-        let told = self.tell(alloc, k, reads);
+        let told = self.tell(k, reads);
         kept.keep(key, self, visits)?;
         told
     }

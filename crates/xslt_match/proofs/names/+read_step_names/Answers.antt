@@ -1,4 +1,4 @@
-use Rattle.std.proofs.Common.{[], ◌∷◌, ap, map, sym, ◌∙◌}
+use Rattle.std.proofs.Common.{◌∷◌, ap, map, sym, ◌∙◌}
 use Rattle.xp_typed_tree.specs.TypedView.{pattern_step_seen}
 use Rattle.xp_outcome.specs.Evaluation.{all_reading, done}
 use Rattle.xp_outcome.specs.Running.{no_memory}
