@@ -1,11 +1,11 @@
 -- No reason speaks against the next command, and it was done where those before it were.
-use Rattle.std.proofs.Common.{◌≡◌, List, ◌++◌, ◌∷◌, take, drop, suc, None, Some, get_or, subst, sym}
+use Rattle.std.proofs.Common.{◌≡◌, List, ◌++◌, ◌∷◌, take, drop, suc, None, Some, subst, sym}
 use Rattle.std.proofs.lemmas.List.Elements.{All-get_or}
 use Rattle.edit_script.specs.declared.command.Command.{Command}
 use Rattle.edit_script.specs.WellFormed.{WellFormedCommand}
 use Rattle.edit_commands.specs.Commands.{RefusesCommand, command_refusal}
 use Rattle.edit_commands.specs.declared.refusal.ApplyError.{ApplyError}
-use Rattle.edit_commands.specs.declared.refusal.ApplyError.TheVariants.{Memory, Refused}
+use Rattle.edit_commands.specs.declared.refusal.ApplyError.TheVariants.{Memory}
 use Rattle.edit_iso_laws.specs.CommandsMove.{DoneInTurn}
 use Rattle.edit_session.specs.Standing.{Standing}
 use Rattle.sch_undo.specs.inner.Doing.{Did, NamesFirst}
