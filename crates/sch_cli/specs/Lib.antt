@@ -2,6 +2,7 @@ pub use Rattle.sch_words.specs.Commands
 pub use Rattle.sch_words.specs.Notices
 pub use Rattle.sch_words.specs.Counts
 pub use Rattle.sch_words.specs.Status
+pub use Rattle.sch_words.specs.HostWords
 pub use Rattle.sch_words.specs.declared.status
 pub use Rattle.sch_measure.specs.Texts
 pub use Rattle.sch_measure.specs.Shelf
@@ -13,6 +14,7 @@ pub use Rattle.sch_loading.specs.Documents
 pub use Rattle.sch_loading.specs.Loading
 pub use Rattle.sch_loading.specs.Reads
 pub use Rattle.sch_commands.specs.Output
+pub use Rattle.sch_commands.specs.Written
 pub use Rattle.sch_commands.specs.Telling
 pub use Rattle.sch_commands.specs.Following
 pub use Rattle.sch_commands.specs.Steps

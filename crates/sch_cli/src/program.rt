@@ -59,7 +59,7 @@ pub fn run<S: Shelf, O: Sink, E: Sink, L: Ledger>(
 }
 
 /// Ends a run that has no memory for its words.
-pub fn end_without_words<E: Sink>(err: &mut E) -> Status
+pub(crate) fn end_without_words<E: Sink>(err: &mut E) -> Status
     ensures status { result ≡ statuses.Memory }
     ensures line { Tells (E.log err.old) (E.log err.new) memory_line }
 {

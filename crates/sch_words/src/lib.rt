@@ -4,6 +4,7 @@
 mod asked;
 mod command;
 mod count;
+mod host_words;
 mod notice;
 mod status;
 mod words;
@@ -11,6 +12,7 @@ mod words;
 pub use asked::{ScriptedValidation, Validation, Watching};
 pub use command::{Command, DEFAULT_PHASE, command_of};
 pub use count::{MAX_MEASURED_ITEMS, MAX_UNDO_DEPTH};
+pub use host_words::{Arguments, HostArguments, WordsError, read_words};
 pub use notice::Notice;
 pub use status::Status;
 pub use words::Words;

@@ -2,10 +2,10 @@
 
 ghost use Rattle.std.specs.Prelude.{◌≡◌, ◌<◌, ◌∷◌, ◌++◌, ℕ, List, [], Option, None, Some, OnOk, MatchOption, MatchResult, slice_get};
 ghost use Rattle.std.specs.Io.{WritesAtMost};
-ghost use Rattle.sch.specs.declared.words.WordsError.TheVariants as errors;
-ghost use Rattle.sch.specs.Words.{CopiesWord, IsWordOf, ReadsWords, RefusesWord};
+ghost use Rattle.sch_words.specs.declared.host_words.WordsError.TheVariants as errors;
+ghost use Rattle.sch_words.specs.HostWords.{CopiesWord, IsWordOf, ReadsWords, RefusesWord};
 
-use sch_cli::Words;
+use crate::words::Words;
 use std::alloc::{AllocError, Global};
 use std::env::{Env, FillError};
 use std::str;

@@ -4,8 +4,8 @@ use Rattle.std.specs.List.{AllZip}
 use Rattle.std.specs.Str.{IsUtf8}
 use Rattle.std.specs.declared.env.FillError.{FillError}
 use Rattle.std.specs.declared.env.FillError.TheVariants.{NotPresent, TooLong}
-use Rattle.sch.specs.declared.words.WordsError.{WordsError}
-use Rattle.sch.specs.declared.words.WordsError.TheVariants as error
+use Rattle.sch_words.specs.declared.host_words.WordsError.{WordsError}
+use Rattle.sch_words.specs.declared.host_words.WordsError.TheVariants as error
 
 -- what copying the word with a number answers: its bytes stand at the start of the room, or there is none, or it is longer than the room;
 -- words that are not told decide nothing

@@ -1,6 +1,6 @@
 -- The word is longer than each room so far.
 use Rattle.std.proofs.Common.{◌≡◌, ◌<◌, ◌-◌, ℕ, List, Some, length, slice_get, slice_index}
-use Rattle.sch.proofs.words.bytes_of_word.Given as goal
+use Rattle.sch_words.proofs.host_words.bytes_of_word.Given as goal
 
 abbrev pub invariant-loop-room : goal.invariant-loop-room
 invariant-loop-room g l = (all : List (List ℕ)) → g.A.Arguments.words l.arguments ≡ Some all → 0 < l.room-index →

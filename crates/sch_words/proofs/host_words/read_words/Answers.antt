@@ -1,7 +1,7 @@
 -- The word with the number is taken next, or there is none.
-use Rattle.sch.specs.Words.{IsWordOf}
-use Rattle.sch.proofs.WordLemmas.{no_more_words, one_more_word}
-use Rattle.sch.proofs.words.read_words.Goals as goal
+use Rattle.sch_words.specs.HostWords.{IsWordOf}
+use Rattle.sch_words.proofs.HostWordLemmas.{no_more_words, one_more_word}
+use Rattle.sch_words.proofs.host_words.read_words.Goals as goal
 
 pub returns-in-None : goal.returns-in-None
 returns-in-None g c = λ all told.

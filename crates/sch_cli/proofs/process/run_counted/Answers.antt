@@ -1,7 +1,7 @@
 -- The clauses of `run` hold with its status, and with a count that began at 0.
 use Rattle.std.proofs.Common.{ℕ, subst}
 use Rattle.sch_cli.specs.Ran.{Ran}
-use Rattle.sch.proofs.run_counted.Goals as goal
+use Rattle.sch_cli.proofs.process.run_counted.Goals as goal
 
 pub returns : goal.returns
 returns g c =
