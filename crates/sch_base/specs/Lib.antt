@@ -4,3 +4,4 @@ pub mod Lists
 pub mod Named
 pub mod Names
 pub mod Numbers
+pub mod inner
