@@ -12,7 +12,6 @@ use crate::laws::axes_by_cells;
 use crate::siblings::{kids_before, kids_behind};
 use crate::walks::{push_ancestors, push_each_plain, push_following, push_preceding};
 use doc_tree::{Axis, Kind, NodeId, NodeList, Tree};
-use sch_base::ItemList;
 use std::alloc::{AllocError, Global};
 
 /// The nodes on the axis from a live node, in the axis's own order: backwards for `ancestor`, `ancestor-or-self`,
@@ -25,7 +24,7 @@ pub fn axis_nodes(alloc: Global, tree: &Tree, n: NodeId, axis: Axis) -> Result<N
     requires { is_live tree.now.nodes n ≡ true }
     ensures { IfOk result (λ nodes. nodes ≡ axis_nodes tree.now.nodes axis n) }
 {
-    let mut list = ItemList::new(alloc);
+    let mut list = NodeList::new(alloc);
     push_axis(tree, &mut list, n, axis)?;
     Ok(match axis {
         Axis::Preceding | Axis::PrecedingSibling => list.reversed(),

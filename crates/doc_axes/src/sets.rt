@@ -5,7 +5,6 @@ ghost use Rattle.doc_tree.specs.Table.{is_live};
 ghost use Rattle.doc_axes.specs.Sets.{in_order, IsNodeSet, union};
 
 use doc_tree::{NodeId, NodeList, Tree};
-use sch_base::ItemList;
 use std::alloc::{AllocError, Global};
 
 /// The live ones of some nodes in any order, put in document order and each once.
@@ -38,7 +37,7 @@ pub fn union_in_order(
 ) -> Result<NodeList, AllocError>
     ensures { IfOk result (λ v. v ≡ union tree.now.nodes a.now b.now) }
 {
-    let mut both = ItemList::new(alloc);
+    let mut both = NodeList::new(alloc);
     both.push_all(a.as_slice())?;
     both.push_all(b.as_slice())?;
     into_document_order(alloc, tree, both)
@@ -54,7 +53,7 @@ fn ordered(alloc: Global, tree: &Tree, nodes: &[NodeId]) -> Result<NodeList, All
         return few_ordered(alloc, tree, nodes);
     }
     if stand_in_order(tree, nodes) {
-        return ItemList::copy_of(alloc, nodes);
+        return NodeList::copy_of(alloc, nodes);
     }
     tree.laws();
     let (front, back) = nodes.split_at(nodes.len() / 2);
@@ -98,7 +97,7 @@ fn few_ordered(alloc: Global, tree: &Tree, nodes: &[NodeId]) -> Result<NodeList,
     ensures { IfOk result (λ v. v ≡ in_order tree.now.nodes nodes.now) }
 {
     tree.laws();
-    let mut list = ItemList::new(alloc);
+    let mut list = NodeList::new(alloc);
     if let Some((n, _)) = nodes.split_first() {
         if tree.contains(*n) {
             list.push(*n)?;
@@ -154,7 +153,7 @@ fn merged(alloc: Global, tree: &Tree, a: &[NodeId], b: &[NodeId]) -> Result<Node
     requires b_set { IsNodeSet tree.now.nodes b.now }
     ensures { IfOk result (λ v. v ≡ union tree.now.nodes a.now b.now) }
 {
-    let mut list = ItemList::new(alloc);
+    let mut list = NodeList::new(alloc);
     push_merged(tree, &mut list, a, b)?;
     Ok(list)
 }

@@ -210,7 +210,7 @@ impl Placement {
     fn numbers_of(&self, alloc: Global, nodes: &[NodeId]) -> Result<NodeList, AllocError>
         ensures { IfOk result (λ list. list ≡ map (number_in self.now) nodes.now) }
     {
-        let mut list = ItemList::new(alloc);
+        let mut list = NodeList::new(alloc);
         for n in nodes {
             list.push(self.number_of(*n))?;
         }

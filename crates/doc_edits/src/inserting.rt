@@ -14,7 +14,6 @@ use crate::copying::{Placement, numbers_for};
 use crate::ranking::{Spread, spread_at};
 use crate::reranking::settle;
 use doc_table::{Bare, Node, NodeId, NodeList};
-use sch_base::ItemList;
 use std::alloc::{AllocError, Global};
 
 /// Puts the one kid of a piece's root, with all below it, under a node behind so many of its kids. The new nodes take the
@@ -81,7 +80,7 @@ fn nodes_of(alloc: Global, piece: &Bare) -> Result<NodeList, AllocError>
     requires { IsSound piece.now }
     ensures { IfOk result (λ list. list ≡ nodes_in (table_of piece.now)) }
 {
-    let mut list = ItemList::new(alloc);
+    let mut list = NodeList::new(alloc);
     for kid in piece.kids(piece.root()) {
         piece.push_below(&mut list, *kid)?;
     }

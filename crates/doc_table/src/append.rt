@@ -15,6 +15,7 @@ use crate::ids::NodeId;
 use crate::limits::{MAX_DEPTH, MAX_LIVE_NODES, MAX_LIVE_TEXT_BYTES};
 use crate::new_node::AppendError;
 use crate::node::{Label, Node, NodeContent};
+use crate::node_list::NodeList;
 use sch_base::{ItemList, Text};
 use std::alloc::{AllocError, Global};
 
@@ -130,8 +131,8 @@ fn copied_node(
         parent: Some(parent),
         depth,
         rank,
-        kids: ItemList::new(alloc),
-        attributes: ItemList::new(alloc),
+        kids: NodeList::new(alloc),
+        attributes: NodeList::new(alloc),
         content: kept_content(alloc, label, kept_text),
     })
 }

@@ -12,8 +12,8 @@ use crate::ids::NodeId;
 use crate::kind::Kind;
 use crate::limits::MAX_LIVE_NODES;
 use crate::node::{Decl, Node, NodeContent};
+use crate::node_list::NodeList;
 use doc_names::{NameId, NameTable};
-use sch_base::ItemList;
 use std::alloc::{AllocError, Global};
 use std::marker::Model;
 
@@ -74,8 +74,8 @@ impl Bare {
             parent: None,
             depth: 0,
             rank: 0,
-            kids: ItemList::new(alloc),
-            attributes: ItemList::new(alloc),
+            kids: NodeList::new(alloc),
+            attributes: NodeList::new(alloc),
             content: NodeContent::Root,
         }))?;
         Ok(Bare {

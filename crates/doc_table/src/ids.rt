@@ -2,11 +2,10 @@
 
 ghost use Rattle.std.specs.Prelude.{◌≡◌, ◌<◌, ◌^◌};
 
-use sch_base::ItemList;
 use std::marker::Model;
 
 /// The number of a node in its tree: the root has 0, and a number is never used again.
-#[derive(Clone, Copy, Debug, PartialEq, Eq, PartialOrd, Ord)]
+#[derive(Clone, Copy, Debug, PartialEq, Eq, PartialOrd, Ord, Default)]
 pub struct NodeId {
     number: u32,
 }
@@ -37,6 +36,3 @@ impl NodeId {
         self.number as usize
     }
 }
-
-/// A list of nodes.
-pub type NodeList = ItemList<NodeId>;

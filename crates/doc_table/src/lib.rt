@@ -13,13 +13,14 @@ mod laws;
 mod limits;
 mod new_node;
 mod node;
+mod node_list;
 mod ranks;
 mod walk;
 
 pub use append::unlimited;
 pub use bare::{Bare, node_at};
 pub use cell::Cell;
-pub use ids::{NodeId, NodeList};
+pub use ids::NodeId;
 pub use kind::Kind;
 pub use laws::{
     one_table, order_is_by_number, same_lines_same_tree, same_tree_same_lines,
@@ -30,4 +31,5 @@ pub use limits::{
 };
 pub use new_node::{AppendError, NewNode};
 pub use node::{Decl, Label, Node, NodeContent};
+pub use node_list::NodeList;
 pub use ranks::RANK_STEP;

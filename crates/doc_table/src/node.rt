@@ -8,8 +8,9 @@ ghost use Rattle.doc_table.specs.inner.Views.{content_seen};
 ghost use Rattle.doc_table.specs.inner.Kept.{NameIsBelow};
 ghost use Rattle.doc_table.specs.inner.Labels.{label_is_element, label_is_attribute};
 
-use crate::ids::{NodeId, NodeList};
+use crate::ids::NodeId;
 use crate::kind::Kind;
+use crate::node_list::NodeList;
 use doc_names::NameId;
 use sch_base::{ItemList, Text};
 use std::marker::Model;

@@ -6,7 +6,8 @@ ghost use Rattle.doc_table.specs.Walks.{below};
 ghost use Rattle.doc_table.specs.inner.Parts.{IsSound, table_of};
 
 use crate::bare::Bare;
-use crate::ids::{NodeId, NodeList};
+use crate::ids::NodeId;
+use crate::node_list::NodeList;
 use std::alloc::AllocError;
 
 impl Bare {

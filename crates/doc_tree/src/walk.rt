@@ -5,7 +5,6 @@ ghost use Rattle.doc_table.specs.Walks.{order};
 
 use crate::tree::Tree;
 use doc_table::NodeList;
-use sch_base::ItemList;
 use std::alloc::{AllocError, Global};
 
 impl Tree {
@@ -15,7 +14,7 @@ impl Tree {
     pub fn nodes_in_order(&self, alloc: Global) -> Result<NodeList, AllocError>
         ensures { IfOk result (λ v. v ≡ order self.now.nodes) }
     {
-        let mut list = ItemList::new(alloc);
+        let mut list = NodeList::new(alloc);
         self.bare.push_below(&mut list, self.root())?;
         Ok(list)
     }

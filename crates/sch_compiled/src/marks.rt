@@ -4,7 +4,6 @@ ghost use Rattle.std.specs.Prelude.{◌≡◌, ℕ, ◌*◌, ◌≤◌, ◌^◌,
 ghost use Rattle.sch_compiled.specs.inner.Marks.{AreMarked, AreUnmarked, IsNextMark};
 
 use doc_tree::{NodeId, NodeList};
-use sch_base::ItemList;
 use std::alloc::{AllocError, Global};
 
 /// Puts marks of cells that tell nothing at the end until there are so many.
@@ -30,7 +29,7 @@ pub(crate) fn marked_nodes(
     requires { length marks.now ≤ 2 ^ 32 * patterns }
     ensures { IfOk result (AreMarked patterns marks.now) }
 {
-    let mut nodes = ItemList::new(alloc);
+    let mut nodes = NodeList::new(alloc);
     let mut from = 0;
     while let Some(place) = next_mark(marks, from) {
         let number = place / patterns as usize;

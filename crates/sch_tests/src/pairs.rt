@@ -121,7 +121,8 @@ fn told_in(
 /// The node at a place in document order.
 fn node_at(alloc: Global, tree: &Tree, place: usize) -> Result<NodeId, Fail> {
     let nodes = tree.nodes_in_order(alloc)?;
-    Ok(*nodes.get(place).ok_or("no node has that place")?)
+    let node = nodes.as_slice().get(place);
+    Ok(*node.ok_or("no node has that place")?)
 }
 
 /// What a pattern and a live node give, and the steps by a count over the ledger of the blank.

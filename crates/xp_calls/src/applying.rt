@@ -21,8 +21,8 @@ use crate::text_functions::{
     as_chars, concat, contains, starts_with, substring, substring_after, substring_before,
     translate,
 };
-use doc_tree::NodeId;
-use sch_base::{ItemList, Text};
+use doc_tree::{NodeId, NodeList};
+use sch_base::Text;
 use std::alloc::Global;
 use std::sync::ledger::Ledger;
 use xp_meaning::Context;
@@ -294,6 +294,6 @@ fn count(args: &[Value]) -> Value
 fn node_set_of(alloc: Global, n: NodeId) -> Result<Value, EvalError>
     ensures { Gives result (Ok (values.NodeSet (n ∷ []))) }
 {
-    let nodes = ItemList::of_one(alloc, n)?;
+    let nodes = NodeList::of_one(alloc, n)?;
     Ok(Value::NodeSet(nodes))
 }

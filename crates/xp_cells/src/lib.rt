@@ -81,7 +81,7 @@ fn push_names(
 fn named_nodes(alloc: Global, tree: &Tree, along: NamesAlong) -> Result<NodeList, AllocError>
     ensures { IfOk result (λ nodes. nodes ≡ named_on tree.now.nodes along) }
 {
-    let mut nodes = ItemList::new(alloc);
+    let mut nodes = NodeList::new(alloc);
     push_named(alloc, tree, along, &mut nodes)?;
     Ok(nodes)
 }

@@ -11,7 +11,7 @@ ghost use Rattle.xp_eval.specs.inner.Answers.{answer_as};
 use crate::choosing::holds_at;
 use crate::reached::Reached;
 use doc_tree::NodeList;
-use sch_base::{ItemList, Text};
+use sch_base::Text;
 use std::alloc::{AllocError, Global};
 use xp_values::{EvalError, Num, Value};
 
@@ -94,7 +94,7 @@ pub(crate) fn nodes_in(
 {
     match value {
         Ok(Value::NodeSet(nodes)) => Ok(nodes),
-        Ok(_) => Ok(ItemList::new(alloc)),
+        Ok(_) => Ok(NodeList::new(alloc)),
         Err(error) => Err(error),
     }
 }

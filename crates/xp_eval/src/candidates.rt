@@ -13,7 +13,6 @@ use crate::answers::allocated;
 use crate::evaluator::Evaluator;
 use doc_axes::{into_document_order, push_passing};
 use doc_tree::{Axis, NodeId, NodeList, Tree};
-use sch_base::ItemList;
 use std::alloc::{AllocError, Global};
 use std::sync::ledger::Ledger;
 use xp_calls::{Caller, read_axis, read_names};
@@ -33,7 +32,7 @@ impl Evaluator<'_> {
     ) -> Result<NodeList, EvalError>
         ensures { Ran (plain_step_from self.now.caller.tree.now.nodes step.now nodes.now) (shown result) reads.old reads.new steps.old steps.new }
     {
-        let mut selected = ItemList::new(self.caller.alloc);
+        let mut selected = NodeList::new(self.caller.alloc);
         for n in nodes {
             self.push_candidates(step, *n, &mut selected, reads, steps)?;
         }
@@ -50,7 +49,7 @@ impl Evaluator<'_> {
     ) -> Result<NodeList, EvalError>
         ensures { Ran (candidates_of self.now.caller.tree.now.nodes step.now n) (shown result) reads.old reads.new steps.old steps.new }
     {
-        let mut list = ItemList::new(self.caller.alloc);
+        let mut list = NodeList::new(self.caller.alloc);
         self.push_candidates(step, n, &mut list, reads, steps)?;
         Ok(list)
     }

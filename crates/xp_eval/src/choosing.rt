@@ -18,7 +18,6 @@ ghost use Rattle.xp_eval.specs.inner.Wants.{wanted_by, lone_let};
 use crate::answers::set_value;
 use crate::candidates::in_document_order;
 use doc_tree::{NodeId, NodeList, Tree};
-use sch_base::ItemList;
 use std::alloc::{AllocError, Global};
 use xp_calls::{nodes_of, wanted};
 use xp_meaning::Want;
@@ -51,7 +50,7 @@ pub(crate) fn size_of(nodes: &[NodeId]) -> Result<u32, AllocError>
 pub(crate) fn union_of(alloc: Global, tree: &Tree, values: &[Value]) -> Result<Value, EvalError>
     ensures { Gives result (Ok (value_kinds.NodeSet (in_order tree.now.nodes (flat_map nodes_of values.now)))) }
 {
-    let mut all = ItemList::new(alloc);
+    let mut all = NodeList::new(alloc);
     for value in values {
         all.push_all(nodes_of(value))?;
     }

@@ -421,7 +421,7 @@ impl Evaluator<'_> {
     ) -> Result<NodeList, EvalError>
         ensures { Ran (step_from self.now.caller.tree.now.nodes (step_meant self.now.caller.tree.now.nodes self.now.lets.now step.now) current nodes.now) (shown result) reads.old reads.new steps.old steps.new }
     {
-        let mut selected = ItemList::new(self.caller.alloc);
+        let mut selected = NodeList::new(self.caller.alloc);
         for n in nodes {
             let found = self.step_at(step, current, *n, reads, steps)?;
             selected = joined(selected, found)?;
@@ -529,7 +529,7 @@ impl Evaluator<'_> {
         ensures { Ran (kept (meaning self.now.caller.tree.now.nodes self.now.lets.now (typed_tree_of predicate.now)) current nodes.now) (shown result) reads.old reads.new steps.old steps.new }
     {
         let size = size_of(nodes)?;
-        let mut kept = ItemList::new(self.caller.alloc);
+        let mut kept = NodeList::new(self.caller.alloc);
         let mut position = 0;
         for n in nodes {
             position += 1;

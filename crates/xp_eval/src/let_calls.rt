@@ -11,7 +11,7 @@ ghost use Rattle.xp_meaning.specs.Results.{shown};
 ghost use Rattle.xp_eval.specs.inner.Wants.{lone_let};
 
 use crate::evaluator::Evaluator;
-use sch_base::ItemList;
+use doc_tree::NodeList;
 use std::sync::ledger::Ledger;
 use xp_meaning::Context;
 use xp_outcome::{Recorder, Steps};
@@ -79,7 +79,7 @@ impl Evaluator<'_> {
     ) -> Result<Value, EvalError>
         ensures { Ran (applied self.now.caller.tree.now.nodes function at.now (value_kinds.NodeSet [] ∷ [])) (shown result) reads.old reads.new steps.old steps.new }
     {
-        let none = Value::NodeSet(ItemList::new(self.caller.alloc));
+        let none = Value::NodeSet(NodeList::new(self.caller.alloc));
         self.call_on(function, &none, at, reads, steps)
     }
 

@@ -23,7 +23,6 @@ ghost use Rattle.xp_eval.specs.inner.Places.{IsAskedAt, at_place, one_or_none, p
 use crate::evaluator::Evaluator;
 use doc_axes::{Placed, passing_at};
 use doc_tree::{NodeId, NodeList, Tree};
-use sch_base::ItemList;
 use std::alloc::Global;
 use std::sync::ledger::Ledger;
 use xp_outcome::{Recorder, Steps};
@@ -124,7 +123,7 @@ impl Evaluator<'_> {
     {
         self.look_over(step, n, placed.on_axis, reads, steps)?;
         steps.tick_times(placed.passing);
-        let mut nodes = ItemList::new(self.caller.alloc);
+        let mut nodes = NodeList::new(self.caller.alloc);
         if let Some(m) = placed.node {
             nodes.push(m)?;
         }
@@ -161,7 +160,7 @@ pub(crate) fn keep_at<L: Ledger>(
         Ran (kept predicate current nodes.now) (shown result) held held steps.old steps.new }
 {
     steps.tick_times(nodes.len());
-    let mut kept = ItemList::new(alloc);
+    let mut kept = NodeList::new(alloc);
     if let Some(n) = node_at(nodes, place) {
         kept.push(n)?;
     }

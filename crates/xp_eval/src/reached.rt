@@ -6,7 +6,6 @@ ghost use Rattle.xp_eval.specs.inner.Reaching.{nodes_reached};
 
 use crate::answers::allocated;
 use doc_tree::{NodeId, NodeList};
-use sch_base::ItemList;
 use std::alloc::Global;
 use std::slice;
 use xp_values::EvalError;
@@ -35,7 +34,7 @@ impl Reached {
         ensures { Gives result (Ok (nodes_reached self)) }
     {
         match self {
-            Reached::One(n) => allocated(ItemList::of_one(alloc, n)),
+            Reached::One(n) => allocated(NodeList::of_one(alloc, n)),
             Reached::Set(nodes) => Ok(nodes),
         }
     }

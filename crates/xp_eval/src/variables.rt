@@ -10,7 +10,7 @@ ghost use Rattle.xp_meaning.specs.Evaluation.{slot_value};
 
 use crate::answers::{allocated, set_value, text_value};
 use crate::evaluator::Evaluator;
-use sch_base::ItemList;
+use doc_tree::NodeList;
 use std::alloc::Global;
 use xp_outcome::Recorder;
 use xp_values::{EvalError, EvalFault, Value};
@@ -23,7 +23,7 @@ impl Evaluator<'_> {
         reads.add_let(slot)?;
         match self.lets.get(slot) {
             Some(held) => held_in(self.caller.alloc, held),
-            None => Ok(Value::NodeSet(ItemList::new(self.caller.alloc))),
+            None => Ok(Value::NodeSet(NodeList::new(self.caller.alloc))),
         }
     }
 }
@@ -43,7 +43,7 @@ fn copy_value(alloc: Global, value: &Value) -> Result<Value, EvalError>
     ensures { Gives result (Ok value.now) }
 {
     match value {
-        Value::NodeSet(nodes) => set_value(allocated(ItemList::copy_of(alloc, nodes.as_slice()))),
+        Value::NodeSet(nodes) => set_value(allocated(NodeList::copy_of(alloc, nodes.as_slice()))),
         Value::Truth(truth) => Ok(Value::Truth(*truth)),
         Value::Number(number) => Ok(Value::Number(*number)),
         Value::Chars(text) => text_value(alloc, text),

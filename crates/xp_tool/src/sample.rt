@@ -136,7 +136,8 @@ impl Sample {
             return Ok(self.tree.root());
         }
         let place = place_of(name, self.names.as_str())?;
-        Ok(*self.nodes.get(place).ok_or("no node has that name")?)
+        let node = self.nodes.as_slice().get(place);
+        Ok(*node.ok_or("no node has that name")?)
     }
 
     /// Gives the variable x the node with a name.

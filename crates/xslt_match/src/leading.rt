@@ -19,7 +19,6 @@ ghost use Rattle.xslt_ways.specs.Ways.{OnOneWay};
 use crate::matching::Matcher;
 use doc_axes::passes;
 use doc_tree::{Axis, Kind, NodeId, NodeList, Tree};
-use sch_base::ItemList;
 use std::alloc::{AllocError, Global};
 use xp_eval::Caller;
 use xp_typed_tree::TypedPatternStep;
@@ -32,7 +31,7 @@ pub(crate) fn way_to(alloc: Global, tree: &Tree, n: NodeId) -> Result<NodeList, 
     ensures { IfOk result (λ way. way ≡ starts tree.now.nodes false n) }
 {
     tree.laws();
-    let mut way = ItemList::new(alloc);
+    let mut way = NodeList::new(alloc);
     push_way(tree, &mut way, n)?;
     Ok(way)
 }
@@ -79,7 +78,7 @@ pub(crate) fn led_to(
     ensures { IfOk result (λ v.
         v ≡ filter (λ k. list_any (λ m. leads tree.now.nodes (pattern_step_seen step.now) m k) nodes.now) among.now) }
 {
-    let mut found = ItemList::new(alloc);
+    let mut found = NodeList::new(alloc);
     for k in among {
         let leads = is_led_to(tree, step, nodes, *k);
         found.push_if(*k, leads)?;
@@ -172,7 +171,7 @@ fn origins(
         v ≡ filter (λ k. reaches tree.now.nodes (map pattern_step_seen steps.now) (k ∷ []) n) (order tree.now.nodes)) }
 {
     tree.laws();
-    let mut nodes = ItemList::of_one(alloc, n)?;
+    let mut nodes = NodeList::of_one(alloc, n)?;
     let mut rest = steps;
     while let Some((last, earlier)) = rest.split_last() {
         nodes = leading_to(alloc, tree, last, nodes.as_slice(), way)?;
@@ -206,7 +205,7 @@ fn holders(
 ) -> Result<NodeList, AllocError>
     ensures { IfOk result (λ v. v ≡ filter_map (holder tree.now.nodes (pattern_step_seen step.now)) nodes.now) }
 {
-    let mut found = ItemList::new(alloc);
+    let mut found = NodeList::new(alloc);
     for k in nodes {
         if let Some(parent) = holder(tree, step, *k) {
             found.push(parent)?;

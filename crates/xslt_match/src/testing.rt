@@ -20,7 +20,6 @@ use crate::matching::Matcher;
 use crate::nodes::NodeIndex;
 use crate::positional::some_positional;
 use doc_tree::{NodeId, NodeList};
-use sch_base::ItemList;
 use std::alloc::{AllocError, Global};
 use std::sync::ledger::Ledger;
 use xp_eval::Context;
@@ -53,7 +52,7 @@ impl Matcher<'_> {
             (shown result) reads.old reads.new steps.old steps.new }
         ensures kept { IsKeptFor self.now.evaluator.caller.tree.now.nodes self.now.evaluator.lets.now self.now.pattern.now kept.new }
     {
-        let mut left = ItemList::new(self.evaluator.caller.alloc);
+        let mut left = NodeList::new(self.evaluator.caller.alloc);
         for k in nodes {
             self.push_survivor(&mut left, at, *k, kept, reads, steps)?;
         }

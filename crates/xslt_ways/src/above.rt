@@ -7,7 +7,6 @@ ghost use Rattle.doc_tree.specs.Walks.{above};
 ghost use Rattle.xslt_ways.specs.Ways.{looks_there, OnOneWay};
 
 use doc_tree::{NodeId, NodeList, Tree};
-use sch_base::ItemList;
 use std::alloc::{AllocError, Global};
 
 /// Whether m is p or an ancestor of it. Costs the way up from p to m, or to the root.
@@ -63,7 +62,7 @@ pub(crate) fn deepest_alone(
     ensures { IfOk result (λ v. (m : ℕ) →
         list_any (λ p. mem m (above tree.now.nodes p)) v ≡ list_any (λ p. mem m (above tree.now.nodes p)) nodes.now) }
 {
-    let mut list = ItemList::new(alloc);
+    let mut list = NodeList::new(alloc);
     if let Some(node) = deepest(tree, nodes) {
         list.push(node)?;
     }

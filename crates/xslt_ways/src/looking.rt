@@ -6,7 +6,6 @@ ghost use Rattle.xslt_ways.specs.Ways.{looks_at, OnOneWay};
 
 use crate::above::{deepest_alone, is_above, some_above};
 use doc_tree::{NodeId, NodeList, Tree};
-use sch_base::ItemList;
 use std::alloc::{AllocError, Global};
 use xp_tree::Join;
 
@@ -48,7 +47,7 @@ pub fn looking_at(
 ) -> Result<NodeList, AllocError>
     ensures { IfOk result (λ v. v ≡ filter (λ m. list_any (looks_at tree.now.nodes join m) nodes.now) way.now) }
 {
-    let mut found = ItemList::new(alloc);
+    let mut found = NodeList::new(alloc);
     for m in way {
         let looks = looks_at_some(tree, join, *m, nodes);
         found.push_if(*m, looks)?;
