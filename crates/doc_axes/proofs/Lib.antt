@@ -1,5 +1,6 @@
 pub mod SubLists
 pub mod Backwards
+pub mod Lending
 pub mod Merging
 pub mod NodeSets
 pub mod Segments

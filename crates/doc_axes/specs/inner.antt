@@ -1,3 +1,4 @@
 pub mod Found
 pub mod Judging
+pub mod Lending
 pub mod Seeing

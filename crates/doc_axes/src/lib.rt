@@ -4,6 +4,7 @@
 mod axes;
 mod judged;
 mod laws;
+mod lent;
 mod node_test;
 mod passing;
 mod placed;

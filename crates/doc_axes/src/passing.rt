@@ -1,17 +1,17 @@
 //! The nodes on an axis that pass a node test (XPath 1.0, sections 2.2 and 2.3).
 
-ghost use Rattle.std.specs.Prelude.{◌≡◌, ◌++◌, ℕ, true, false, filter, length, IfOk, IfSome, OnOk};
+ghost use Rattle.std.specs.Prelude.{◌≡◌, ◌++◌, ℕ, true, false, filter, length, IfOk, OnOk};
 ghost use Rattle.doc_tree.specs.declared.axes.NodeTest.TheVariants as tests;
 ghost use Rattle.doc_tree.specs.Lists.{mem};
 ghost use Rattle.doc_tree.specs.Table.{Table, is_live};
 ghost use Rattle.doc_axes.specs.Axes.{axis_nodes};
 ghost use Rattle.doc_axes.specs.NodeTests.{passes};
 ghost use Rattle.doc_axes.specs.inner.Found.{found_on};
+ghost use Rattle.doc_axes.specs.inner.Lending.{lent_nodes};
 
-use crate::axes::{axis_nodes, kids_beside, push_axis};
+use crate::axes::{axis_nodes, push_axis};
 use crate::judged::{Judged, passes_by};
-use crate::laws::axes_by_cells;
-use crate::siblings::kids_behind;
+use crate::lent::{Lent, lent_nodes};
 use doc_tree::{Axis, NodeId, NodeList, NodeTest, Tree};
 use std::alloc::{AllocError, Global};
 
@@ -19,7 +19,7 @@ use std::alloc::{AllocError, Global};
 /// tells how many nodes the axis has.
 ///
 /// Costs as much as `axis_nodes` and a test for each node. Only the list takes memory where the nodes are kids, attributes
-/// or later siblings, and on most axes where all nodes pass.
+/// or siblings, and on most axes where all nodes pass.
 pub fn push_passing(
     alloc: Global,
     tree: &Tree,
@@ -33,28 +33,14 @@ pub fn push_passing(
     ensures counted { IfOk result (λ count. count ≡ length (axis_nodes tree.now.nodes axis n)) }
 {
     tree.laws();
-    if let Some(nodes) = lent_nodes(tree, n, axis) {
-        return push_those(tree, axis, test, nodes, list);
+    if let Some(lent) = lent_nodes(tree, n, axis) {
+        return push_those(tree, axis, test, lent, list);
     }
     if is_any(test) && !is_turned(axis) {
         return push_all_on(tree, axis, n, list);
     }
     let nodes = axis_nodes(alloc, tree, n, axis)?;
-    push_those(tree, axis, test, nodes.as_slice(), list)
-}
-
-/// The nodes on the axis from a live node, where the tree keeps them as a list.
-pub(crate) fn lent_nodes(tree: &Tree, n: NodeId, axis: Axis) -> Option<&[NodeId]>
-    requires { is_live tree.now.nodes n ≡ true }
-    ensures { IfSome result (λ nodes. nodes.now ≡ axis_nodes tree.now.nodes axis n) }
-{
-    axes_by_cells(tree);
-    match axis {
-        Axis::Attribute => Some(tree.attrs(n)),
-        Axis::Child => Some(tree.kids(n)),
-        Axis::FollowingSibling => Some(kids_behind(kids_beside(tree, n), n)),
-        _ => None,
-    }
+    push_those(tree, axis, test, Lent::from_start(nodes.as_slice()), list)
 }
 
 /// Whether the test is the one that all nodes pass.
@@ -88,17 +74,19 @@ fn push_those(
     tree: &Tree,
     axis: Axis,
     test: &NodeTest,
-    nodes: &[NodeId],
+    lent: Lent<'_>,
     list: &mut NodeList,
 ) -> Result<usize, AllocError>
-    requires { (m : ℕ) → mem m nodes.now ≡ true → is_live tree.now.nodes m ≡ true }
-    ensures pushed { OnOk result (list.new ≡ list.old ++ filter (passes tree.now.nodes axis test.now) nodes.now) }
-    ensures counted { IfOk result (λ count. count ≡ length nodes.now) }
+    requires { (m : ℕ) → mem m (lent_nodes lent) ≡ true → is_live tree.now.nodes m ≡ true }
+    ensures pushed { OnOk result (list.new ≡ list.old ++ filter (passes tree.now.nodes axis test.now) (lent_nodes lent.entry)) }
+    ensures counted { IfOk result (λ count. count ≡ length (lent_nodes lent.entry)) }
 {
+    let count = lent.len();
     let mut judged = Judged::nothing();
-    for n in nodes {
-        let stays = passes_by(tree, *n, axis, test, &mut judged);
-        list.push_if(*n, stays)?;
+    for place in 0..count {
+        let n = lent.at(place);
+        let stays = passes_by(tree, n, axis, test, &mut judged);
+        list.push_if(n, stays)?;
     }
-    Ok(nodes.len())
+    Ok(count)
 }

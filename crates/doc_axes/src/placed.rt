@@ -3,16 +3,14 @@
 ghost use Rattle.std.specs.Prelude.{◌≡◌, ◌+◌, ◌<◌, ◌++◌, ◌∷◌, [], ℕ, List, true, filter, IfSome};
 ghost use Rattle.doc_tree.specs.Lists.{mem};
 ghost use Rattle.doc_tree.specs.Table.{is_live};
-ghost use Rattle.doc_axes.specs.Axes.{axis_nodes, backwards};
+ghost use Rattle.doc_axes.specs.Axes.{axis_nodes};
 ghost use Rattle.doc_axes.specs.NodeTests.{passes};
 ghost use Rattle.doc_axes.specs.Places.{IsPlaced};
+ghost use Rattle.doc_axes.specs.inner.Lending.{lent_nodes};
 ghost use Rattle.doc_axes.specs.inner.Seeing.{Tells};
 
-use crate::axes::kids_beside;
 use crate::judged::{Judged, passes_by};
-use crate::laws::axes_by_cells;
-use crate::passing::lent_nodes;
-use crate::siblings::kids_before;
+use crate::lent::{Lent, lent_nodes};
 use doc_tree::{Axis, NodeId, NodeTest, Tree};
 
 /// How many nodes an axis has, how many of them pass a node test, and the one of these at a place.
@@ -46,49 +44,20 @@ pub fn passing_at(
     ensures { IfSome result (IsPlaced place (axis_nodes tree.now.nodes axis n) (filter (passes tree.now.nodes axis test.now) (axis_nodes tree.now.nodes axis n))) }
 {
     tree.laws();
-    axes_by_cells(tree);
-    if let Some(nodes) = lent_nodes(tree, n, axis) {
-        return Some(at_from_start(tree, axis, test, nodes, place));
-    }
-    match axis {
-        Axis::PrecedingSibling => {
-            let nodes = kids_before(kids_beside(tree, n), n);
-            Some(at_from_end(tree, axis, test, nodes, place))
-        }
-        _ => None,
-    }
+    let lent = lent_nodes(tree, n, axis)?;
+    Some(at_place(tree, axis, test, lent, place))
 }
 
 /// The node at the place among those of some live nodes that pass the test.
-fn at_from_start(tree: &Tree, axis: Axis, test: &NodeTest, nodes: &[NodeId], place: usize) -> Placed
-    requires { (m : ℕ) → mem m nodes.now ≡ true → is_live tree.now.nodes m ≡ true }
-    ensures { IsPlaced place nodes.now (filter (passes tree.now.nodes axis test.now) nodes.now) result }
+fn at_place(tree: &Tree, axis: Axis, test: &NodeTest, lent: Lent<'_>, place: usize) -> Placed
+    requires { (m : ℕ) → mem m (lent_nodes lent) ≡ true → is_live tree.now.nodes m ≡ true }
+    ensures { IsPlaced place (lent_nodes lent.entry) (filter (passes tree.now.nodes axis test.now) (lent_nodes lent.entry)) result }
 {
-    let on_axis = nodes.len();
+    let on_axis = lent.len();
     let mut judged = Judged::nothing();
     let mut seen = Seen::nothing(place);
-    for n in nodes {
-        if passes_by(tree, *n, axis, test, &mut judged) {
-            seen.see(*n);
-        }
-    }
-    Placed {
-        on_axis,
-        passing: seen.count,
-        node: seen.node,
-    }
-}
-
-/// The same where the nodes stand in the order from their end.
-fn at_from_end(tree: &Tree, axis: Axis, test: &NodeTest, nodes: &[NodeId], place: usize) -> Placed
-    requires { (m : ℕ) → mem m nodes.now ≡ true → is_live tree.now.nodes m ≡ true }
-    ensures { IsPlaced place (backwards nodes.now) (filter (passes tree.now.nodes axis test.now) (backwards nodes.now)) result }
-{
-    let on_axis = nodes.len();
-    let mut judged = Judged::nothing();
-    let mut seen = Seen::nothing(place);
-    for behind in 0..on_axis {
-        let n = nodes[on_axis - 1 - behind];
+    for next in 0..on_axis {
+        let n = lent.at(next);
         if passes_by(tree, n, axis, test, &mut judged) {
             seen.see(n);
         }

@@ -21,4 +21,4 @@ returns-then-not-is_turned-clause-pushed c =
 
 pub push_those-requires-2 : goal.push_those-requires-2
 push_those-requires-2 c = λ m h.
-    axis_live c.args.tree.now.nodes c.laws.ensures.ordered c.args.axis c.args.n m (sym (ap (mem m) (c.as_slice.ensures ∙ c.in_ok-nodes.ensures)) ∙ h)
+    axis_live c.args.tree.now.nodes c.laws.ensures.ordered c.args.axis c.args.n m (sym (ap (mem m) (c.from_start.ensures ∙ (c.as_slice.ensures ∙ c.in_ok-nodes.ensures))) ∙ h)

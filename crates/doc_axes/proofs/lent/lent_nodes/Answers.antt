@@ -1,0 +1,29 @@
+-- The lists that the tree keeps are the axes' nodes.
+use Rattle.std.proofs.Common.{ap, sym, ◌∙◌}
+use Rattle.doc_axes.specs.Axes.{axis_nodes, backwards}
+use Rattle.doc_axes.specs.Siblings.{kids_before, kids_behind}
+use Rattle.doc_axes.proofs.lent.lent_nodes.Goals as goal
+
+pub returns-in-Attribute : goal.returns-in-Attribute
+returns-in-Attribute c =
+    c.from_start.ensures
+    ∙ (c.attrs.ensures ∙ (sym (c.axes_by_cells.ensures.attribute c.args.n c.requires) ∙ ap (λ a. axis_nodes c.args.tree.now.nodes a c.args.n) (sym c.in-Attribute.is)))
+
+pub returns-in-Child : goal.returns-in-Child
+returns-in-Child c =
+    c.from_start-in-Child.ensures
+    ∙ (c.kids.ensures ∙ (sym (c.axes_by_cells.ensures.child c.args.n c.requires) ∙ ap (λ a. axis_nodes c.args.tree.now.nodes a c.args.n) (sym c.in-Child.is)))
+
+pub returns-in-FollowingSibling : goal.returns-in-FollowingSibling
+returns-in-FollowingSibling c =
+    c.from_start-in-FollowingSibling.ensures
+    ∙ (c.kids_behind.ensures
+    ∙ (ap (kids_behind c.args.n) c.kids_beside.ensures
+    ∙ (sym (c.axes_by_cells.ensures.following_sibling c.args.n)
+    ∙ ap (λ a. axis_nodes c.args.tree.now.nodes a c.args.n) (sym c.in-FollowingSibling.is))))
+
+pub returns-in-PrecedingSibling : goal.returns-in-PrecedingSibling
+returns-in-PrecedingSibling c =
+    c.from_end.ensures
+    ∙ (ap backwards (c.kids_before.ensures ∙ (ap (kids_before c.args.n) c.kids_beside-in-PrecedingSibling.ensures ∙ sym (c.axes_by_cells.ensures.preceding_sibling c.args.n)))
+    ∙ ap (λ a. axis_nodes c.args.tree.now.nodes a c.args.n) (sym c.in-PrecedingSibling.is))

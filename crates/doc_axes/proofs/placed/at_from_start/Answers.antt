@@ -1,9 +1,0 @@
-use Rattle.std.proofs.Common.{◌≡◌, true, sym, subst}
-use Rattle.doc_tree.specs.Lists.{mem}
-use Rattle.doc_tree.proofs.ListLemmas.{mem-get}
-use Rattle.doc_axes.proofs.placed.at_from_start.Goals as goal
-
-pub passes_by-requires-clause-live : goal.passes_by-requires-clause-live
-passes_by-requires-clause-live c =
-    c.requires c.n-item.result
-    (subst (λ m. mem m c.args.nodes.now ≡ true) (sym c.n-item.is) (mem-get c.args.nodes.now c.loop-n.n-index c.n-item.result c.loop-n-test.true))

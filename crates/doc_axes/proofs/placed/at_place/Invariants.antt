@@ -1,0 +1,13 @@
+use Rattle.std.proofs.Common.{◌≤◌, filter, take}
+use Rattle.doc_axes.specs.NodeTests.{passes}
+use Rattle.doc_axes.specs.inner.Judging.{IsJudged}
+use Rattle.doc_axes.specs.inner.Lending.{lent_nodes}
+use Rattle.doc_axes.specs.inner.Seeing.{Tells}
+use Rattle.doc_axes.proofs.placed.at_place.Given as goal
+
+abbrev pub invariant-loop-next : goal.invariant-loop-next
+invariant-loop-next l = record {
+  told : Tells l.fn.place (filter (passes l.tree.nodes l.fn.axis l.test) (take l.next (lent_nodes l.fn.lent))) l.seen;
+  few : l.seen.count ≤ l.next;
+  judged : IsJudged l.tree.names l.test l.judged;
+}
