@@ -8,7 +8,7 @@ use Rattle.xp_typed_tree.specs.declared.expr.TypedStep.{TypedStep, out-TypedStep
 use Rattle.xp_typed_tree.specs.TypedView.{typed_tree_of, typed_seen, compared_list_seen, combined_list_seen, typed_steps_seen}
 use Rattle.xp_typed_tree.proofs.TypedViewLemmas.{of-compared, of-combined, of-step}
 use Rattle.xp_outcome.specs.Evaluation.{done, given, bind}
-use Rattle.xp_outcome.proofs.Outcomes.{bind_assoc, bind-done}
+use Rattle.xp_outcome.proofs.Outcomes.{bind_assoc, bind-done, bind-right}
 use Rattle.xp_outcome.proofs.Runs.{next_item, no_item}
 use Rattle.xp_values.specs.declared.values.Value.{Value}
 use Rattle.xp_values.specs.declared.values.Value.TheVariants.{Truth}
@@ -17,10 +17,10 @@ use Rattle.xp_values.specs.Numbers.{arith}
 use Rattle.xp_values.specs.Conversions.{to_truth}
 use Rattle.xp_meaning.specs.Conversions.{number_in, compare_in}
 use Rattle.xp_meaning.specs.declared.context.Context.{Context}
-use Rattle.xp_meaning.specs.Paths.{Meaning, kept, filtered, step_from, path}
+use Rattle.xp_meaning.specs.Paths.{Meaning, kept, filtered, step_at, step_from, path}
 use Rattle.xp_meaning.specs.Evaluation.{Lets, meaning, meanings, some_true, all_true, compared, combined, comparands_meant, combinands_meant, steps_meant}
 use Rattle.xp_eval.specs.Steps.{step_meant}
-use Rattle.xp_eval.specs.inner.Candidates.{plain_step_from}
+use Rattle.xp_eval.specs.inner.Candidates.{candidates_of, plain_step_from}
 
 module _ (T : Table) (L : Lets) (xs : List TypedExpr) (i : ℕ) where
   module _ (c : Context) (x : TypedExpr) (below : i < length xs) (is : x ≡ get_or xs i x) where
@@ -90,6 +90,12 @@ pub plain_meant : (T : Table) (L : Lets) (s : TypedStep) (current : ℕ) (ns : L
     step_from T (step_meant T L s) current ns ≡ plain_step_from T s ns
 plain_meant T L s current ns none =
     ap (λ ps. step_from T (record { axis = (out-TypedStep s).axis; test = (out-TypedStep s).test; predicates = meanings T L (typed_seen ps) }) current ns) none
+
+pub plain_at : (T : Table) (L : Lets) (s : TypedStep) (current n : ℕ) → (out-TypedStep s).predicates.items ≡ [] →
+    step_at T (step_meant T L s) current n ≡ candidates_of T s n
+plain_at T L s current n none =
+    ap (λ ps. step_at T (record { axis = (out-TypedStep s).axis; test = (out-TypedStep s).test; predicates = meanings T L (typed_seen ps) }) current n) none
+    ∙ bind-right (candidates_of T s n)
 
 -- of no nodes predicates leave none
 pub filtered_none : (ps : List Meaning) (current : ℕ) (ns : List ℕ) → ns ≡ [] → filtered ps current ns ≡ done ns

@@ -1,6 +1,7 @@
 -- A predicate that asks for a place keeps the node there.
-use Rattle.std.proofs.Common.{◌≡◌, ℕ, zero, suc, ◌+◌, ◌<◌, ◌≤◌, Bool, true, false, List, [], ◌∷◌, ◌++◌, length, refl, sym, ap, ◌∙◌, subst, arith, if◌then◌else◌, Option, None, Some, Ok, Err}
+use Rattle.std.proofs.Common.{◌≡◌, ℕ, zero, suc, ◌+◌, ◌-◌, ◌<◌, ◌≤◌, Bool, true, false, List, [], ◌∷◌, ◌++◌, length, refl, sym, ap, ◌∙◌, subst, arith, if◌then◌else◌, Option, None, Some, Ok, Err}
 use Rattle.std.specs.Prelude.{ℤ, Vec, pos, slice_get, IfSome}
+use Rattle.std.specs.Option.{option_to_list}
 use Rattle.std.specs.declared.alloc.Global.{Global}
 use Rattle.std.proofs.lemmas.Int.{ints}
 use Rattle.xp_outcome.specs.Evaluation.{Evaluation, bind, done, gather, visit, visits}
@@ -29,7 +30,7 @@ use Rattle.doc_axes.specs.declared.placed.Placed.{Placed}
 use Rattle.xp_typed_tree.specs.declared.expr.TypedStep.{TypedStep, out-TypedStep}
 use Rattle.xp_eval.specs.declared.positions.Asked.{Asked}
 use Rattle.xp_eval.specs.inner.Candidates.{candidates_of, found}
-use Rattle.xp_eval.specs.inner.Places.{IsAskedAt, at_place, one_or_none, place_for}
+use Rattle.xp_eval.specs.inner.Places.{IsAskedAt, at_place, place_for}
 use Rattle.xp_eval.specs.Steps.{step_meant}
 use Rattle.xp_eval.specs.inner.Wants.{wanted_by}
 use Rattle.xp_eval.proofs.Views.{view-Call, view-Number}
@@ -116,13 +117,23 @@ get-none [] k none = omega arith
 get-none (n ∷ ns) zero none = absurd (cc)
 get-none (n ∷ ns) (suc k) none = let more : length ns ≤ k = get-none ns k none in omega (arith, more)
 
-pub at-place : (place : ℕ) (ns : List ℕ) → at_place place 1 ns ≡ one_or_none (node_at place ns)
+pub at-place : (place : ℕ) (ns : List ℕ) → at_place place 1 ns ≡ option_to_list (node_at place ns)
 at-place zero ns = none-before 0 1 ns (omega arith)
 at-place (suc k) ns = by (slice_get ns k) refl
   where
-    by : (o : Option ℕ) → slice_get ns k ≡ o → at_place (suc k) 1 ns ≡ one_or_none o
+    by : (o : Option ℕ) → slice_get ns k ≡ o → at_place (suc k) 1 ns ≡ option_to_list o
     by None e = subst (λ (p : ℕ). at_place p 1 ns ≡ []) (omega arith) (none-behind k 1 ns (get-none ns k e))
     by (Some n) e = subst (λ (p : ℕ). at_place p 1 ns ≡ n ∷ []) (omega arith) (there k 1 ns n e)
+
+-- the node at a place that is not before the first
+pub at-behind : (place : ℕ) (ns : List ℕ) → (place ≡ 0 → ⊥) → node_at place ns ≡ slice_get ns (place - 1)
+at-behind zero ns some = absurd (some refl)
+at-behind (suc k) ns some = ap (slice_get ns) (omega arith)
+
+pub get-past : (ns : List ℕ) (k : ℕ) → length ns ≤ k → slice_get ns k ≡ None
+get-past [] k far = refl
+get-past (n ∷ ns) zero far = absurd (omega (arith, far))
+get-past (n ∷ ns) (suc k) far = get-past ns k (omega (arith, far))
 
 -- what a whole number asks for
 pub number-asks : (e : TypedExpr) (v : ℤ) (place : ℕ) → e ≡ exprs.Number v → v ≡ pos place →
@@ -154,8 +165,8 @@ asked-at T s n first rest asked place placed parts asks there is = record {
       let ns = found T s n in
       gathered (place_for asked (length ns)) (λ i m. meaning T L (typed_tree_of first) (one current (length ns) i m)) (λ i m. asks T L (one current (length ns) i m)) 1 ns
       ∙ ap (λ (p : ℕ). visits (length ns) (done (at_place p 1 ns))) (sym there)
-      ∙ ap (λ (ms : List ℕ). visits (length ns) (done ms)) (at-place place ns ∙ ap one_or_none (sym is.node))
-      ∙ ap (λ (k : ℕ). visits k (done (one_or_none placed.node))) (sym is.passing);
+      ∙ ap (λ (ms : List ℕ). visits (length ns) (done ms)) (at-place place ns ∙ ap option_to_list (sym is.node))
+      ∙ ap (λ (k : ℕ). visits k (done (option_to_list placed.node))) (sym is.passing);
 }
 
 -- a step is its candidates, filtered by the first predicate and then by the others

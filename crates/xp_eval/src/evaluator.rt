@@ -441,6 +441,9 @@ impl Evaluator<'_> {
     ) -> Result<NodeList, EvalError>
         ensures { Ran (step_at self.now.caller.tree.now.nodes (step_meant self.now.caller.tree.now.nodes self.now.lets.now step.now) current n) (shown result) reads.old reads.new steps.old steps.new }
     {
+        if is_plain(step) {
+            return self.candidates(step, n, reads, steps);
+        }
         if let Some(placed) = placed_candidate(self.caller.tree, step, n) {
             return self.step_to_place(step, placed, current, n, reads, steps);
         }

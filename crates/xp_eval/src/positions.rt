@@ -1,10 +1,11 @@
 //! Predicates that are a position: a whole number, or `last()` (XPath 1.0, section 2.4). The node there is taken at once, and the predicate's visits
 //! at all nodes are added up.
 
-ghost use Rattle.std.specs.Prelude.{◌≡◌, ℕ, List, [], ◌∷◌, length, pos, true, IfSome, MatchOption};
+ghost use Rattle.std.specs.Prelude.{◌≡◌, ℕ, List, ◌∷◌, length, pos, true, IfOk, IfSome};
+ghost use Rattle.std.specs.Option.{option_to_list};
 ghost use Rattle.doc_tree.specs.Table.{Table, is_live};
 ghost use Rattle.doc_axes.specs.Axes.{axis_nodes};
-ghost use Rattle.doc_axes.specs.Places.{IsPlaced};
+ghost use Rattle.doc_axes.specs.Places.{IsPlaced, node_at};
 ghost use Rattle.xp_typed_tree.specs.declared.expr.TypedExpr.{TypedExpr};
 ghost use Rattle.xp_typed_tree.specs.declared.expr.TypedStep.{out-TypedStep};
 ghost use Rattle.xp_typed_tree.specs.TypedView.{typed_tree_of};
@@ -18,12 +19,12 @@ ghost use Rattle.xp_meaning.specs.Functions.{counted};
 ghost use Rattle.xp_meaning.specs.Paths.{Meaning, kept, placed};
 ghost use Rattle.xp_meaning.specs.Results.{shown};
 ghost use Rattle.xp_eval.specs.inner.Candidates.{candidates_of, found};
-ghost use Rattle.xp_eval.specs.inner.Places.{IsAskedAt, at_place, one_or_none, place_for};
+ghost use Rattle.xp_eval.specs.inner.Places.{IsAskedAt, place_for};
 
 use crate::evaluator::Evaluator;
 use doc_axes::{Placed, passing_at};
 use doc_tree::{NodeId, NodeList, Tree};
-use std::alloc::Global;
+use std::alloc::{AllocError, Global};
 use std::sync::ledger::Ledger;
 use xp_outcome::{Recorder, Steps};
 use xp_typed_tree::{Function, TypedExpr, TypedStep};
@@ -118,16 +119,12 @@ impl Evaluator<'_> {
     ) -> Result<NodeList, EvalError>
         requires { placed.on_axis ≡ length (axis_nodes self.now.caller.tree.now.nodes (out-TypedStep step.now).axis n) }
         ensures { (predicate : Meaning) (current : ℕ) →
-            kept predicate current (found self.now.caller.tree.now.nodes step.now n) ≡ visits placed.passing (done (one_or_none placed.node)) →
+            kept predicate current (found self.now.caller.tree.now.nodes step.now n) ≡ visits placed.passing (done (option_to_list placed.node)) →
             Ran (bind (candidates_of self.now.caller.tree.now.nodes step.now n) (λ ms. kept predicate current ms)) (shown result) reads.old reads.new steps.old steps.new }
     {
         self.look_over(step, n, placed.on_axis, reads, steps)?;
         steps.tick_times(placed.passing);
-        let mut nodes = NodeList::new(self.caller.alloc);
-        if let Some(m) = placed.node {
-            nodes.push(m)?;
-        }
-        Ok(nodes)
+        Ok(one_or_none(self.caller.alloc, placed.node)?)
     }
 }
 
@@ -160,16 +157,22 @@ pub(crate) fn keep_at<L: Ledger>(
         Ran (kept predicate current nodes.now) (shown result) held held steps.old steps.new }
 {
     steps.tick_times(nodes.len());
-    let mut kept = NodeList::new(alloc);
-    if let Some(n) = node_at(nodes, place) {
-        kept.push(n)?;
+    Ok(one_or_none(alloc, node_at(nodes, place))?)
+}
+
+/// The list of a node, or of none.
+fn one_or_none(alloc: Global, n: Option<NodeId>) -> Result<NodeList, AllocError>
+    ensures { IfOk result (λ list. list ≡ option_to_list n) }
+{
+    match n {
+        Some(n) => NodeList::of_one(alloc, n),
+        None => Ok(NodeList::new(alloc)),
     }
-    Ok(kept)
 }
 
 /// The node at a place, counted from 1.
 fn node_at(nodes: &[NodeId], place: usize) -> Option<NodeId>
-    ensures { MatchOption result (at_place place 1 nodes.now ≡ []) (λ n. at_place place 1 nodes.now ≡ n ∷ []) }
+    ensures { result ≡ node_at place nodes.now }
 {
     if place == 0 {
         return None;

@@ -1,5 +1,6 @@
 -- Predicates that ask for a place among nodes, counted from 1.
-use Rattle.std.specs.Prelude.{◌≡◌, ℕ, ◌+◌, List, [], ◌∷◌, ◌++◌, Option, None, Some, length}
+use Rattle.std.specs.Prelude.{◌≡◌, ℕ, ◌+◌, List, [], ◌∷◌, ◌++◌, length}
+use Rattle.std.specs.Option.{option_to_list}
 use Rattle.doc_tree.specs.Table.{Table}
 use Rattle.doc_axes.specs.Axes.{axis_nodes}
 use Rattle.doc_axes.specs.declared.placed.Placed.{Placed}
@@ -24,10 +25,6 @@ abbrev pub at_place : ℕ → ℕ → List ℕ → List ℕ
 at_place place i [] = []
 at_place place i (n ∷ ns) = chosen i n (counted place) ++ at_place place (i + 1) ns
 
-abbrev pub one_or_none : Option ℕ → List ℕ
-one_or_none None = []
-one_or_none (Some n) = n ∷ []
-
 -- what is known of a step's candidates at a node whose first predicate asks for a place: how many nodes its axis has there, and what the predicate
 -- keeps, at a visit for each candidate
 pub record IsAskedAt (T : Table) (s : TypedStep) (n : ℕ) (placed : Placed) : Type 0 where
@@ -35,4 +32,4 @@ pub record IsAskedAt (T : Table) (s : TypedStep) (n : ℕ) (placed : Placed) : T
   pub rest : List TypedExpr
   pub predicates : (out-TypedStep s).predicates.items ≡ first ∷ rest
   pub on_axis : placed.on_axis ≡ length (axis_nodes T (out-TypedStep s).axis n)
-  pub keeps : (L : Lets) (current : ℕ) → kept (meaning T L (typed_tree_of first)) current (found T s n) ≡ visits placed.passing (done (one_or_none placed.node))
+  pub keeps : (L : Lets) (current : ℕ) → kept (meaning T L (typed_tree_of first)) current (found T s n) ≡ visits placed.passing (done (option_to_list placed.node))

@@ -18,7 +18,7 @@ use Rattle.xp_meaning.specs.Evaluation.{meaning, meanings}
 use Rattle.xp_eval.specs.Steps.{step_meant}
 use Rattle.xp_eval.specs.inner.Reaching.{nodes_reached}
 use Rattle.xp_eval.specs.inner.Wants.{wanted_by}
-use Rattle.xp_eval.proofs.Loops.{some_true-next, some_true-end, all_true-next, all_true-end, filtered-next, filtered-end, compared-next, compared-end, combined-next, combined-end, path-next, path-end, plain_meant, filtered_none}
+use Rattle.xp_eval.proofs.Loops.{some_true-next, some_true-end, all_true-next, all_true-end, filtered-next, filtered-end, compared-next, compared-end, combined-next, combined-end, path-next, path-end, plain_at, plain_meant, filtered_none}
 use Rattle.xp_eval.proofs.OneNode.{from_one, turned_in_order}
 use Rattle.xp_eval.proofs.Places.{step-parted}
 use Rattle.xp_eval.proofs.Handing.{ran_as, answered, ran_ok, ran_err, ran_reached}
@@ -305,6 +305,10 @@ step_from_each-loop-n-preserved g t c =
 pub step_from_each-returns : goal.step_from_each-returns
 step_from_each-returns g t c =
     onto_end (gather_ends (λ (_ : ℕ) (n : ℕ). step_at c.args.self.now.caller.tree.now.nodes (step_meant c.args.self.now.caller.tree.now.nodes c.args.self.now.lets.now c.args.step.now) c.args.current n) (λ (_ : ℕ) (_ : ℕ) (ms : List ℕ). ms) (λ ms. done (in_order c.args.self.now.caller.tree.now.nodes ms)) c.loop-n.selected (c.loop-n.n-index + 1) (drop c.loop-n.n-index c.args.nodes.now) (no_item c.args.nodes.now c.loop-n.n-index c.loop-n-test.false) c.loop-n.invariant) (ran_given _ _ _ _ c.in_document_order.ensures)
+
+pub step_at-returns-then-is_plain : goal.step_at-returns-then-is_plain
+step_at-returns-then-is_plain g t c =
+    ran_alike (plain_at c.args.self.now.caller.tree.now.nodes c.args.self.now.lets.now c.args.step.now c.args.current c.args.n (c.is_plain.ensures c.if-is_plain.true)) c.candidates.ensures
 
 pub step_at-returns-then-is_empty : goal.step_at-returns-then-is_empty
 step_at-returns-then-is_empty g t c =
