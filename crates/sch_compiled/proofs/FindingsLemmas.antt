@@ -14,6 +14,15 @@ use Rattle.sch_compiled.specs.declared.findings.Outcome.{Outcome}
 use Rattle.sch_compiled.specs.Findings.{OutcomeTable, Puts, outcome_at, pair_cmp}
 use Rattle.sch_compiled.specs.inner.Cells.{held, shown, next_node, next_pattern}
 
+-- cells without outcomes show none
+pub held-none : (count p n : ℕ) (cells : List (Option Outcome)) → ((i : ℕ) → slice_index_or cells i None ≡ None) → held count p n cells ≡ map.empty
+held-none count p n [] none = refl
+held-none count p n (None ∷ cells) none = held-none count (next_pattern count p) (next_node count p n) cells (λ i. none (suc i))
+held-none count p n (Some outcome ∷ cells) none = absurd (some-none (none 0))
+  where
+    some-none : Some outcome ≡ None → ⊥
+    some-none is = absurd (cc)
+
 -- a later node's places are behind all those of an earlier one
 earlier_node : (count p q n m : ℕ) → p < count → n < m → n * count + p ≡ m * count + q → ⊥
 earlier_node count p q n m low before same =

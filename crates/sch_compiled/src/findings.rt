@@ -73,10 +73,22 @@ impl Findings {
     pub fn new(alloc: Global, patterns: u32) -> Result<Findings, AllocError>
         ensures { IfOk result (λ table. IsEmptyFor table patterns) }
     {
+        Findings::for_nodes(alloc, patterns, 0)
+    }
+
+    /// The same, with the cells of so many nodes, by their numbers, made at once.
+    pub fn for_nodes(alloc: Global, patterns: u32, nodes: u32) -> Result<Findings, AllocError>
+        ensures { IfOk result (λ table. IsEmptyFor table patterns) }
+    {
+        let count = nodes as usize * patterns as usize;
+        let mut marks = Vec::new(alloc);
+        make_room(&mut marks, count)?;
+        let mut cells = Vec::new(alloc);
+        cells.resize_with(count, || None)?;
         Ok(Findings {
             patterns,
-            cells: Vec::new(alloc),
-            marks: Vec::new(alloc),
+            cells,
+            marks,
         })
     }
 

@@ -67,18 +67,18 @@ pub fn evaluate<L: Ledger>(
         caller: Caller { alloc, tree },
         plan,
     };
-    let mut all = no_outcomes(alloc, plan)?;
+    let mut all = no_outcomes(alloc, plan, tree)?;
     all.run(&run, steps)?;
     Ok(all)
 }
 
 /// No unit has an outcome yet.
-fn no_outcomes(alloc: Global, plan: &Plan) -> Result<Outcomes, AllocError>
+fn no_outcomes(alloc: Global, plan: &Plan, tree: &Tree) -> Result<Outcomes, AllocError>
     requires { IsCounted plan.now }
     ensures lets { IfOk result (λ all. all.lets ≡ []) }
     ensures found { IfOk result (λ all. IsEmptyFor all.found (length plan.now.patterns)) }
 {
-    let found = Findings::new(alloc, plan.pattern_count())?;
+    let found = Findings::for_nodes(alloc, plan.pattern_count(), tree.numbers_made())?;
     Ok(Outcomes {
         lets: Lets::new(alloc),
         found,
