@@ -1,5 +1,5 @@
 -- Names that are recorded one after another.
-use Rattle.std.proofs.Common.{◌≡◌, ℕ, ◌+◌, ◌<◌, ◌≤◌, drop, get_or, length, Bool, true, false, cond, List, [], ◌∷◌, ◌++◌, map, filter, Result, Ok, Err, refl, sym, ap, ◌∙◌}
+use Rattle.std.proofs.Common.{◌≡◌, ℕ, zero, suc, ◌+◌, ◌<◌, ◌≤◌, drop, get_or, length, Bool, true, false, cond, List, [], ◌∷◌, ◌++◌, map, filter, Result, Ok, Err, refl, sym, ap, ◌∙◌, append_assoc, append-nil}
 use Rattle.std.proofs.lemmas.List.{map-append, nil_from_length}
 use Rattle.std.specs.Prelude.{OnErr, OnOk}
 use Rattle.std.specs.declared.alloc.AllocError.{AllocError}
@@ -101,6 +101,16 @@ module _ (T : Table) (n : ℕ) where
       ap (λ xs. all_reading (step_names T n (map pattern_step_seen xs)) (done tt)) is
       ∙ reads-append (step_names T n (map pattern_step_seen rest))
       (place_names T (pattern_step_seen step).axis (pattern_step_seen step).test (standing_places T (map pattern_step_seen rest) n)) (done tt)
+
+  -- those of the last steps come first
+  pub steps-first : (steps : List TypedPatternStep) (k : ℕ) →
+      (ys : List Read) × (step_names T n (map pattern_step_seen steps) ≡ step_names T n (map pattern_step_seen (drop k steps)) ++ ys)
+  steps-first steps zero = ([], sym (append-nil (step_names T n (map pattern_step_seen steps))))
+  steps-first [] (suc k) = ([], refl)
+  steps-first (step ∷ steps) (suc k) =
+      let later = steps-first steps k in
+      let own = place_names T (pattern_step_seen step).axis (pattern_step_seen step).test (standing_places T (map pattern_step_seen steps) n) in
+      (later.0 ++ own, ap (λ rs. rs ++ own) later.1 ∙ append_assoc (step_names T n (map pattern_step_seen (drop k steps))) later.0 own)
 
   -- no steps are left
   pub steps-end : (later : List TypedPatternStep) → length later ≡ 0 →

@@ -1,7 +1,7 @@
 //! The names that the tests of a pattern's steps look at (XSLT 1.0, section 5.2).
 
-ghost use Rattle.std.specs.Prelude.{◌≡◌, ◌∷◌, [], ℕ, true, map, if◌then◌else◌, Some};
-ghost use Rattle.doc_tree.specs.Table.{is_live, kind_of};
+ghost use Rattle.std.specs.Prelude.{◌≡◌, ◌∷◌, [], ◌||◌, ℕ, true, false, map, if◌then◌else◌, option_and_then, Some};
+ghost use Rattle.doc_tree.specs.Table.{is_live, kind_of, parent_of};
 ghost use Rattle.doc_tree.specs.Walks.{above};
 ghost use Rattle.doc_axes.specs.NodeTests.{is_principal, passes};
 ghost use Rattle.xp_outcome.specs.Cells.{names_on};
@@ -10,10 +10,11 @@ ghost use Rattle.xp_outcome.specs.Running.{Ran};
 ghost use Rattle.xp_meaning.specs.Reads.{is_by_name};
 ghost use Rattle.xp_meaning.specs.Results.{shown_alloc};
 ghost use Rattle.xp_typed_tree.specs.TypedView.{pattern_step_seen};
-ghost use Rattle.xslt_match.specs.Names.{pattern_names, place_names, some_anywhere, standing_places, step_names};
+ghost use Rattle.xslt_match.specs.Names.{pattern_names, place_names, places_from, step_names};
+ghost use Rattle.xslt_ways.specs.Ways.{is_anywhere};
 
 use crate::matching::Matcher;
-use crate::one_chain::{ancestor_over, is_anywhere};
+use crate::one_chain::is_anywhere;
 use doc_axes::{is_principal, passes};
 use doc_tree::{Axis, Cell, NodeId, NodeTest, Tree};
 use std::alloc::AllocError;
@@ -25,7 +26,7 @@ impl Matcher<'_> {
     /// Records the names that the tests of the pattern's steps look at: of each path, those of the nodes at which a step can
     /// stand in a chain to the node, by the steps behind it.
     ///
-    /// Costs the square of the number of a path's steps, and for each step before `//` the depth.
+    /// Costs the number of the paths' steps, and for each step before `//` the depth.
     pub(crate) fn read_names(&self, reads: &mut Recorder) -> Result<(), AllocError>
         ensures { (count : ℕ) →
             Ran (all_reading (pattern_names self.now.evaluator.caller.tree.now.nodes self.now.node self.now.pattern.now) (done tt))
@@ -38,7 +39,9 @@ impl Matcher<'_> {
     }
 }
 
-/// Records the names that steps look at which lead to a node at last.
+/// Records the names that steps look at which lead to a node at last, those of the last step first.
+///
+/// Costs the number of steps, and for each one before `//` the depth.
 pub(crate) fn read_step_names(
     tree: &Tree,
     path_steps: &[TypedPatternStep],
@@ -48,81 +51,86 @@ pub(crate) fn read_step_names(
     ensures { (count : ℕ) → Ran (all_reading (step_names tree.now.nodes n (map pattern_step_seen path_steps.now)) (done tt))
         (shown_alloc result) reads.old reads.new count count }
 {
-    match path_steps.split_first() {
-        Some((last, later)) if later.is_empty() => read_last_name(tree, last, n, reads),
-        Some((step, later)) => {
-            read_step_names(tree, later, n, reads)?;
-            read_place_names(tree, step, later, n, reads)
+    let mut at = Standing::at(n);
+    let mut left = path_steps.len();
+    while left > 0 {
+        left -= 1;
+        let step = &path_steps[left];
+        at.read_names(tree, step, reads)?;
+        at = at.before(tree, step);
+    }
+    Ok(())
+}
+
+/// Where a step can stand in a chain to a node, by the steps behind it.
+#[derive(Clone, Copy)]
+pub(crate) struct Standing {
+    /// The node that stands as many levels above as there are such steps.
+    pub(crate) node: Option<NodeId>,
+    /// Whether it can also stand at all nodes above that one: where one of the steps behind it stands after `//`.
+    pub(crate) higher: bool,
+}
+
+impl Standing {
+    /// The last step can stand at the node alone.
+    fn at(n: NodeId) -> Standing
+        ensures node { result.node ≡ Some n }
+        ensures higher { result.higher ≡ false }
+    {
+        Standing {
+            node: Some(n),
+            higher: false,
         }
-        None => Ok(()),
+    }
+
+    /// Where the step before this one can stand.
+    fn before(&self, tree: &Tree, step: &TypedPatternStep) -> Standing
+        ensures node { result.node ≡ option_and_then (parent_of tree.now.nodes) self.now.node }
+        ensures higher { result.higher ≡ (is_anywhere (pattern_step_seen step.now).join || self.now.higher) }
+    {
+        Standing {
+            node: parent_over(tree, self.node),
+            higher: is_anywhere(step.join) || self.higher,
+        }
+    }
+
+    /// Records the names that a step looks at which can stand there.
+    fn read_names(
+        &self,
+        tree: &Tree,
+        step: &TypedPatternStep,
+        reads: &mut Recorder,
+    ) -> Result<(), AllocError>
+        ensures { (count : ℕ) →
+            Ran (all_reading (place_names tree.now.nodes (pattern_step_seen step.now).axis (pattern_step_seen step.now).test
+            (places_from tree.now.nodes self.now.higher self.now.node)) (done tt))
+            (shown_alloc result) reads.old reads.new count count }
+    {
+        if is_by_name(&step.step.test) {
+            self.read_places(tree, step.step.axis, reads)
+        } else {
+            Ok(())
+        }
+    }
+
+    /// Records the names of the nodes there that are of an axis's principal kind.
+    fn read_places(&self, tree: &Tree, axis: Axis, reads: &mut Recorder) -> Result<(), AllocError>
+        ensures { (count : ℕ) →
+            Ran (all_reading (map cell (names_on tree.now.nodes axis (places_from tree.now.nodes self.now.higher self.now.node))) (done tt))
+            (shown_alloc result) reads.old reads.new count count }
+    {
+        match self.node {
+            Some(m) => read_from(tree, axis, m, self.higher, reads),
+            None => Ok(()),
+        }
     }
 }
 
-/// Records the name of a node where a path's last step looks at it.
-fn read_last_name(
-    tree: &Tree,
-    last: &TypedPatternStep,
-    n: NodeId,
-    reads: &mut Recorder,
-) -> Result<(), AllocError>
-    ensures { (count : ℕ) →
-        Ran (all_reading (place_names tree.now.nodes (pattern_step_seen last.now).axis (pattern_step_seen last.now).test (n ∷ [])) (done tt))
-        (shown_alloc result) reads.old reads.new count count }
+/// The parent of a node that may be missing.
+fn parent_over(tree: &Tree, n: Option<NodeId>) -> Option<NodeId>
+    ensures { result ≡ option_and_then (parent_of tree.now.nodes) n }
 {
-    if is_by_name(&last.step.test) {
-        read_name(tree, last.step.axis, n, reads)
-    } else {
-        Ok(())
-    }
-}
-
-/// Records the names that a step looks at which leads to a node by the steps behind it.
-fn read_place_names(
-    tree: &Tree,
-    step: &TypedPatternStep,
-    later: &[TypedPatternStep],
-    n: NodeId,
-    reads: &mut Recorder,
-) -> Result<(), AllocError>
-    ensures { (count : ℕ) →
-        Ran (all_reading (place_names tree.now.nodes (pattern_step_seen step.now).axis (pattern_step_seen step.now).test
-        (standing_places tree.now.nodes (map pattern_step_seen later.now) n)) (done tt))
-        (shown_alloc result) reads.old reads.new count count }
-{
-    if is_by_name(&step.step.test) {
-        read_places(tree, step.step.axis, later, n, reads)
-    } else {
-        Ok(())
-    }
-}
-
-/// Records the names of the nodes at which a step can stand that leads to a node by the steps behind it, where they are of an
-/// axis's principal kind.
-fn read_places(
-    tree: &Tree,
-    axis: Axis,
-    later: &[TypedPatternStep],
-    n: NodeId,
-    reads: &mut Recorder,
-) -> Result<(), AllocError>
-    ensures { (count : ℕ) →
-        Ran (all_reading (map cell (names_on tree.now.nodes axis (standing_places tree.now.nodes (map pattern_step_seen later.now) n))) (done tt))
-        (shown_alloc result) reads.old reads.new count count }
-{
-    match ancestor_over(tree, later, n) {
-        Some(m) => read_from(tree, axis, m, some_anywhere(later), reads),
-        None => Ok(()),
-    }
-}
-
-/// Whether some step stands after `//`.
-fn some_anywhere(path_steps: &[TypedPatternStep]) -> bool
-    ensures { result ≡ some_anywhere (map pattern_step_seen path_steps.now) }
-{
-    match path_steps.split_first() {
-        Some((step, rest)) => is_anywhere(step.join) || some_anywhere(rest),
-        None => false,
-    }
+    tree.parent(n?)
 }
 
 /// Records the name of a node, or also those of all above it, where they are of an axis's principal kind.
