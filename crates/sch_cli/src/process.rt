@@ -9,8 +9,9 @@ ghost use Rattle.sch_words.specs.declared.status.Status.TheVariants as statuses;
 ghost use Rattle.sch_cli.specs.Ran.{Ran};
 ghost use Rattle.sch_cli.specs.Runs.{Tells};
 
-use crate::program::{end_without_words, run};
+use crate::program::{conclude, run};
 use sch_io::{Shelf, Sink};
+use sch_stops::Stop;
 use sch_words::{Status, Words, WordsError};
 use std::alloc::Global;
 use std::process::ExitCode;
@@ -66,12 +67,12 @@ fn run_counted<S: Shelf, O: Sink, E: Sink, L: Ledger>(
     exit_of(status)
 }
 
-/// Ends the program without words.
+/// Ends the program as a run that has no memory for its words.
 fn end_unread<E: Sink>(err: &mut E) -> ExitCode
     ensures memory { exit_status result ≡ code_of statuses.Memory }
     ensures line { Tells (E.log err.old) (E.log err.new) memory_line }
 {
-    exit_of(end_without_words(err))
+    exit_of(conclude(Err(Stop::Memory), err))
 }
 
 /// The exit status of the program after a run with the status.

@@ -8,7 +8,6 @@ ghost use Rattle.sch_commands.specs.Behaviours.{asked_by};
 ghost use Rattle.sch_words.specs.Commands.{command_of};
 ghost use Rattle.sch_cli.specs.Headline.{Headline};
 ghost use Rattle.sch_commands.specs.Output.{line_shown};
-ghost use Rattle.sch_stops.specs.Output.{memory_line};
 ghost use Rattle.sch_cli.specs.Runs.{Tells, IsLineOf, OpensFiles, extent_of_status, may_evaluate};
 ghost use Rattle.sch_stops.specs.Stops.{counted_if, is_status};
 ghost use Rattle.sch_commands.specs.Carried.{line_of_end, status_of_end};
@@ -58,17 +57,9 @@ pub fn run<S: Shelf, O: Sink, E: Sink, L: Ledger>(
     conclude(carry_out(alloc, words, shelf, out, steps), err)
 }
 
-/// Ends a run that has no memory for its words.
-pub(crate) fn end_without_words<E: Sink>(err: &mut E) -> Status
-    ensures status { result ≡ statuses.Memory }
-    ensures line { Tells (E.log err.old) (E.log err.new) memory_line }
-{
-    conclude(Err(Stop::Memory), err)
-}
-
 /// Tells the line of how a run ended, and says the status.
 #[tactic(auto, using(crate::proofs::RunLemmas::ends_by))]
-fn conclude<E: Sink>(ended: Result<Shown, Stop>, err: &mut E) -> Status
+pub(crate) fn conclude<E: Sink>(ended: Result<Shown, Stop>, err: &mut E) -> Status
     ensures ends { HasStatus result ended }
     ensures told { Tells (E.log err.old) (E.log err.new) (line_of_end ended) }
 {
