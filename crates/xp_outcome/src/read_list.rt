@@ -6,7 +6,7 @@ ghost use Rattle.xp_outcome.specs.inner.Settling.{SameItems, is_item_at};
 use std::alloc::{AllocError, Global};
 
 /// The shortest list that is freed of repeats before it grows. Most evaluations read less.
-const LONG: usize = 262_144;
+const LONG: usize = 1_048_576;
 
 /// The longest list that is freed of repeats when it is kept. To sort a longer one costs more than it saves, since few
 /// repeats come into a list.
