@@ -1,5 +1,6 @@
 pub mod Axes
 pub mod NodeTests
+pub mod Judging
 pub mod Places
 pub mod Sets
 pub mod Siblings

@@ -1,4 +1,3 @@
 pub mod Found
-pub mod Judging
 pub mod Lending
 pub mod Seeing

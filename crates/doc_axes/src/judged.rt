@@ -4,7 +4,7 @@ ghost use Rattle.std.specs.Prelude.{◌≡◌, ◌<◌, ℕ, List, Some, false, 
 ghost use Rattle.doc_tree.specs.Table.{Name, is_live, name_of, numbered};
 ghost use Rattle.doc_tree.specs.declared.axes.NodeTest.{NodeTest as AnyTest};
 ghost use Rattle.doc_axes.specs.NodeTests.{named, passes};
-ghost use Rattle.doc_axes.specs.inner.Judging.{IsJudged, accepts};
+ghost use Rattle.doc_axes.specs.Judging.{IsJudged, accepts};
 
 use crate::node_test::{is_principal, passes};
 use doc_tree::{Axis, NameId, NodeId, NodeTest, Tree};
@@ -12,14 +12,14 @@ use doc_tree::{Axis, NameId, NodeId, NodeTest, Tree};
 /// Of a test that looks at names, the name that it accepted last, and the one that it refused last. Nodes beside one another often have few
 /// names, whose numbers are compared at once.
 #[derive(Clone, Copy)]
-pub(crate) struct Judged {
+pub struct Judged {
     pub(crate) accepted: Option<NameId>,
     pub(crate) refused: Option<NameId>,
 }
 
 impl Judged {
     /// Nothing is known of any name.
-    pub(crate) fn nothing() -> Judged
+    pub fn nothing() -> Judged
         ensures { (names : List Name) (node_test : AnyTest) → IsJudged names node_test result }
     {
         Judged {
@@ -30,13 +30,7 @@ impl Judged {
 }
 
 /// `passes`, by what is known of the names that the test accepts; one more may be known then. Most nodes cost one comparison of numbers.
-pub(crate) fn passes_by(
-    tree: &Tree,
-    n: NodeId,
-    axis: Axis,
-    test: &NodeTest,
-    judged: &mut Judged,
-) -> bool
+pub fn passes_by(tree: &Tree, n: NodeId, axis: Axis, test: &NodeTest, judged: &mut Judged) -> bool
     requires live { is_live tree.now.nodes n ≡ true }
     requires judged { IsJudged tree.now.names test.now judged.old }
     ensures passes { result ≡ passes tree.now.nodes axis test.now n }

@@ -13,6 +13,7 @@ mod siblings;
 mod walks;
 
 pub use axes::axis_nodes;
+pub use judged::{Judged, passes_by};
 pub use laws::{axes_by_cells, axes_partition};
 pub use node_test::{is_principal, passes};
 pub use passing::push_passing;

@@ -83,7 +83,7 @@ impl KeptUnits {
         requires sound { IsSound at.now.run.plan.now }
         requires ready { IsReady at.now.run.plan.now at.now.run.caller.tree.now.nodes at.now.pattern self.old }
         requires pairs { PairsReady at.now.run.plan.now at.now.run.caller.tree.now.nodes self.old }
-        requires matches { AreKeptFor at.now.run.plan.now at.now.run.caller.tree.now.nodes at.now.pattern self.old.lets matches.old }
+        requires matches { AreKeptFor at.now.run.plan.now at.now.run.caller.tree.now at.now.pattern self.old.lets matches.old }
         ensures refreshed { OnOk result (NodesRefreshed at.now.run.plan.now at.now.run.caller.tree.now.nodes at.now.pattern
             (length at.now.run.caller.tree.now.nodes) self.old self.new steps.old steps.new) }
         ensures cut { OnErr result (NodesCut at.now.run.plan.now at.now.run.caller.tree.now.nodes at.now.pattern
@@ -114,7 +114,7 @@ impl KeptUnits {
         requires ready { IsReady at.now.run.plan.now at.now.run.caller.tree.now.nodes at.now.pattern self.old }
         requires made { numbers ≡ length at.now.run.caller.tree.now.nodes }
         requires within { number < numbers }
-        requires matches { AreKeptFor at.now.run.plan.now at.now.run.caller.tree.now.nodes at.now.pattern self.old.lets matches.old }
+        requires matches { AreKeptFor at.now.run.plan.now at.now.run.caller.tree.now at.now.pattern self.old.lets matches.old }
         ensures later { IfOk result (λ next. number < next) }
         ensures at_most { IfOk result (λ next. next ≤ numbers) }
         ensures goes { IfOk result (λ next. StepsOn at.now.run.plan.now at.now.run.caller.tree.now.nodes at.now.pattern number next
@@ -122,7 +122,7 @@ impl KeptUnits {
         ensures stops { OnErr result (PairStops at.now.run.plan.now at.now.run.caller.tree.now.nodes at.now.pattern number
             self.old self.new steps.old steps.new) }
         ensures alone { PairsAlone self.old self.new }
-        ensures matches { AreKeptFor at.now.run.plan.now at.now.run.caller.tree.now.nodes at.now.pattern self.old.lets matches.new }
+        ensures matches { AreKeptFor at.now.run.plan.now at.now.run.caller.tree.now at.now.pattern self.old.lets matches.new }
     {
         if !self.reads.may_be_stale(number as usize) {
             return Ok(behind_block(number, numbers));
@@ -141,13 +141,13 @@ impl KeptUnits {
     ) -> Result<(), AllocError>
         requires ready { IsReady at.now.run.plan.now at.now.run.caller.tree.now.nodes at.now.pattern self.old }
         requires made { n < length at.now.run.caller.tree.now.nodes }
-        requires matches { AreKeptFor at.now.run.plan.now at.now.run.caller.tree.now.nodes at.now.pattern self.old.lets matches.old }
+        requires matches { AreKeptFor at.now.run.plan.now at.now.run.caller.tree.now at.now.pattern self.old.lets matches.old }
         ensures refreshes { OnOk result (RefreshesPair at.now.run.plan.now at.now.run.caller.tree.now.nodes at.now.pattern n
             self.old self.new steps.old steps.new) }
         ensures stops { OnErr result (PairStops at.now.run.plan.now at.now.run.caller.tree.now.nodes at.now.pattern n
             self.old self.new steps.old steps.new) }
         ensures alone { PairsAlone self.old self.new }
-        ensures matches { AreKeptFor at.now.run.plan.now at.now.run.caller.tree.now.nodes at.now.pattern self.old.lets matches.new }
+        ensures matches { AreKeptFor at.now.run.plan.now at.now.run.caller.tree.now at.now.pattern self.old.lets matches.new }
     {
         if !at.run.caller.tree.contains(n) {
             return Ok(());
@@ -179,13 +179,13 @@ impl KeptUnits {
         requires live { is_live at.now.run.caller.tree.now.nodes n ≡ true }
         requires made { n < length at.now.run.caller.tree.now.nodes }
         requires stale { pair_runs at.now.run.plan.now at.now.pattern n self.old ≡ true }
-        requires matches { AreKeptFor at.now.run.plan.now at.now.run.caller.tree.now.nodes at.now.pattern self.old.lets matches.old }
+        requires matches { AreKeptFor at.now.run.plan.now at.now.run.caller.tree.now at.now.pattern self.old.lets matches.old }
         ensures runs { OnOk result (RunsPair at.now.run.plan.now at.now.run.caller.tree.now.nodes at.now.pattern n
             self.old self.new steps.old steps.new) }
         ensures cuts { OnErr result (CutsPair at.now.run.plan.now at.now.run.caller.tree.now.nodes at.now.pattern n
             self.old self.new steps.old steps.new) }
         ensures alone { PairsAlone self.old self.new }
-        ensures matches { AreKeptFor at.now.run.plan.now at.now.run.caller.tree.now.nodes at.now.pattern self.old.lets matches.new }
+        ensures matches { AreKeptFor at.now.run.plan.now at.now.run.caller.tree.now at.now.pattern self.old.lets matches.new }
     {
         let kept = run_pair_with(&at.run, at.pattern, n, matches, &mut self.lets, steps)?;
         self.keep_pair(at, n, kept)

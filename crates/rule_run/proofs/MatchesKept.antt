@@ -1,7 +1,7 @@
 -- What is kept of rules, one by one.
 use Rattle.std.proofs.Common.{◌≡◌, ℕ, zero, suc, List, [], ◌∷◌, ◌++◌, ◌⊎◌, inl, inr, set, refl, sym, ◌∙◌, ap, subst, Some, None, Option}
 use Rattle.std.specs.Prelude.{slice_get, IfSome}
-use Rattle.doc_tree.specs.Table.{Table}
+use Rattle.doc_tree.specs.Table.{Contents}
 use Rattle.xp_typed_tree.specs.TypedTree.{TypedPathTree}
 use Rattle.xp_meaning.specs.Evaluation.{Lets}
 use Rattle.xslt_match.specs.declared.kept.KeptSteps.{KeptSteps}
@@ -23,27 +23,27 @@ get_replaced (z ∷ xs) zero x (suc j) y is = inr is
 get_replaced (z ∷ xs) (suc i) x zero y is = inr is
 get_replaced (z ∷ xs) (suc i) x (suc j) y is = elim (get_replaced xs i x j y is) [ inl h ↦ inl (ap suc h.0, h.1) | inr h ↦ inr h ]
 
-module _ (T : Table) (L : Lets) (rules : List PlanRule) where
+module _ (C : Contents) (L : Lets) (rules : List PlanRule) where
   -- what is kept of each is kept for its context
   abbrev pub EachKept : List KeptSteps → Type 0
-  EachKept kept = (r : ℕ) (rule : PlanRule) (steps : KeptSteps) → slice_get rules r ≡ Some rule → slice_get kept r ≡ Some steps → IsKeptFor T L rule.context steps
+  EachKept kept = (r : ℕ) (rule : PlanRule) (steps : KeptSteps) → slice_get rules r ≡ Some rule → slice_get kept r ≡ Some steps → IsKeptFor C L rule.context steps
 
-  pub kept_pushed : (kept now : List KeptSteps) (steps : KeptSteps) → now ≡ kept ++ steps ∷ [] → ((U : Table) (M : Lets) (ps : List TypedPathTree) → IsKeptFor U M ps steps) →
+  pub kept_pushed : (kept now : List KeptSteps) (steps : KeptSteps) → now ≡ kept ++ steps ∷ [] → ((D : Contents) (M : Lets) (ps : List TypedPathTree) → IsKeptFor D M ps steps) →
       EachKept kept → EachKept now
   kept_pushed kept now steps is fresh each r rule found there at =
       elim (get_pushed kept steps r found (ap (λ ks. slice_get ks r) (sym is) ∙ at)) [
         | inl before ↦ each r rule found there before
-        | inr last ↦ subst (IsKeptFor T L rule.context) last (fresh T L rule.context)
+        | inr last ↦ subst (IsKeptFor C L rule.context) last (fresh C L rule.context)
       ]
 
-  pub kept_replaced : (kept now : List KeptSteps) (r : ℕ) (rule : PlanRule) (steps : KeptSteps) → slice_get rules r ≡ Some rule → now ≡ set kept r steps → IsKeptFor T L rule.context steps →
+  pub kept_replaced : (kept now : List KeptSteps) (r : ℕ) (rule : PlanRule) (steps : KeptSteps) → slice_get rules r ≡ Some rule → now ≡ set kept r steps → IsKeptFor C L rule.context steps →
       EachKept kept → EachKept now
   kept_replaced kept now r rule steps stands is here each s other found there at =
       elim (get_replaced kept r steps s found (ap (λ ks. slice_get ks s) (sym is) ∙ at)) [
         | inl h ↦ (
             let same : Some other ≡ Some rule = sym there ∙ ap (slice_get rules) h.0 ∙ stands in
             let one : rule ≡ other = cc in
-            subst (λ q. IsKeptFor T L q.context found) one (subst (IsKeptFor T L rule.context) h.1 here)
+            subst (λ q. IsKeptFor C L q.context found) one (subst (IsKeptFor C L rule.context) h.1 here)
             )
         | inr before ↦ each s other found there before
       ]

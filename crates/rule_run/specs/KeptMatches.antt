@@ -1,6 +1,6 @@
 -- What is kept while nodes are matched against the contexts of rules.
 use Rattle.std.specs.Prelude.{◌≡◌, ℕ, List, Some, slice_get}
-use Rattle.doc_tree.specs.Table.{Table}
+use Rattle.doc_tree.specs.Table.{Contents}
 use Rattle.xp_meaning.specs.Evaluation.{Lets}
 use Rattle.xslt_match.specs.declared.kept.KeptSteps.{KeptSteps}
 use Rattle.xslt_match.specs.Kept.{IsKeptFor}
@@ -10,9 +10,9 @@ use Rattle.sch_compiled.specs.Plan.{rules_of}
 use Rattle.rule_run.specs.declared.kept_matches.KeptMatches.{KeptMatches}
 
 -- what is kept of each of some rules is kept for its context
-abbrev pub AreKept : Table → Lets → List PlanRule → KeptMatches → Type 0
-AreKept T L rules kept = (r : ℕ) (rule : PlanRule) (steps : KeptSteps) → slice_get rules r ≡ Some rule → slice_get kept.rules.items r ≡ Some steps → IsKeptFor T L rule.context steps
+abbrev pub AreKept : Contents → Lets → List PlanRule → KeptMatches → Type 0
+AreKept C L rules kept = (r : ℕ) (rule : PlanRule) (steps : KeptSteps) → slice_get rules r ≡ Some rule → slice_get kept.rules.items r ≡ Some steps → IsKeptFor C L rule.context steps
 
 -- what is kept of an active pattern is kept for its rules
-abbrev pub AreKeptFor : Plan → Table → ℕ → Lets → KeptMatches → Type 0
-AreKeptFor plan T p L kept = AreKept T L (rules_of plan p) kept
+abbrev pub AreKeptFor : Plan → Contents → ℕ → Lets → KeptMatches → Type 0
+AreKeptFor plan C p L kept = AreKept C L (rules_of plan p) kept

@@ -1,7 +1,7 @@
 //! What is kept while nodes are matched against the contexts of a pattern's rules.
 
 ghost use Rattle.std.specs.Prelude.{ℕ, ◌<◌, ◌^◌, List, length, OnOk};
-ghost use Rattle.doc_tree.specs.Table.{Table};
+ghost use Rattle.doc_tree.specs.Table.{Contents};
 ghost use Rattle.xp_meaning.specs.Evaluation.{Lets};
 ghost use Rattle.sch_compiled.specs.declared.parts.PlanRule.{PlanRule};
 ghost use Rattle.rule_run.specs.KeptMatches.{AreKept};
@@ -20,7 +20,7 @@ pub struct KeptMatches {
 impl KeptMatches {
     /// Nothing is kept.
     pub fn new(alloc: Global) -> KeptMatches
-        ensures { (T : Table) (L : Lets) (rules : List PlanRule) → AreKept T L rules result }
+        ensures { (C : Contents) (L : Lets) (rules : List PlanRule) → AreKept C L rules result }
     {
         KeptMatches {
             rules: Vec::new(alloc),
@@ -31,7 +31,7 @@ impl KeptMatches {
     pub(crate) fn reach(&mut self, alloc: Global, r: usize) -> Result<(), AllocError>
         requires { r < 2 ^ 32 }
         ensures there { OnOk result (r < length self.new.rules.items) }
-        ensures kept { (T : Table) (L : Lets) (rules : List PlanRule) → AreKept T L rules self.old → AreKept T L rules self.new }
+        ensures kept { (C : Contents) (L : Lets) (rules : List PlanRule) → AreKept C L rules self.old → AreKept C L rules self.new }
     {
         while self.rules.len() <= r {
             self.rules.push(KeptSteps::new(alloc))?;

@@ -80,12 +80,12 @@ impl PlanRun<'_> {
         requires active { p < length self.now.plan.now.patterns }
         requires live { is_live self.now.caller.tree.now.nodes n ≡ true }
         requires room { length lets.old ≤ length self.now.plan.now.lets }
-        requires kept { AreKeptFor self.now.plan.now self.now.caller.tree.now.nodes p lets.old kept.old }
+        requires kept { AreKeptFor self.now.plan.now self.now.caller.tree.now p lets.old kept.old }
         ensures ran { Ran (unit_pair self.now.plan.now self.now.caller.tree.now.nodes lets.old p n)
             (outcome_told result) nothing_read reads.new steps.old steps.new }
         ensures counted { steps.old < steps.new }
         ensures slots { lets.new ≡ lets.old }
-        ensures kept { AreKeptFor self.now.plan.now self.now.caller.tree.now.nodes p lets.old kept.new }
+        ensures kept { AreKeptFor self.now.plan.now self.now.caller.tree.now p lets.old kept.new }
     {
         first_match_fires();
         lets.laws();
@@ -121,12 +121,12 @@ pub fn run_pair_with<L: Ledger>(
     requires active { p < length run.now.plan.now.patterns }
     requires live { is_live run.now.caller.tree.now.nodes n ≡ true }
     requires room { length lets.old ≤ length run.now.plan.now.lets }
-    requires kept { AreKeptFor run.now.plan.now run.now.caller.tree.now.nodes p lets.old kept.old }
+    requires kept { AreKeptFor run.now.plan.now run.now.caller.tree.now p lets.old kept.old }
     ensures ran { Ran (unit_pair run.now.plan.now run.now.caller.tree.now.nodes lets.old p n)
         (pair_shown result) nothing_read (pair_reads result) steps.old steps.new }
     ensures counted { steps.old < steps.new }
     ensures slots { lets.new ≡ lets.old }
-    ensures kept { AreKeptFor run.now.plan.now run.now.caller.tree.now.nodes p lets.old kept.new }
+    ensures kept { AreKeptFor run.now.plan.now run.now.caller.tree.now p lets.old kept.new }
 {
     let mut reads = Recorder::new(run.caller.alloc);
     let outcome = run.outcome_of_pair(p, n, kept, lets, &mut reads, steps)?;

@@ -1,6 +1,6 @@
 //! The rules of a pattern at a node (ISO/IEC 19757-3, clause 6).
 
-ghost use Rattle.std.specs.Prelude.{◌≡◌, ◌<◌, ◌≤◌, ◌+◌, ◌^◌, true, length, IfSome, slice_get};
+ghost use Rattle.std.specs.Prelude.{◌≡◌, ◌<◌, ◌≤◌, ◌+◌, ◌^◌, true, length, IfSome, OnOk, slice_get};
 ghost use Rattle.doc_tree.specs.Table.{is_live};
 ghost use Rattle.xp_outcome.specs.Evaluation.{bind, done};
 ghost use Rattle.xp_outcome.specs.Running.{Ran};
@@ -8,6 +8,7 @@ ghost use Rattle.xp_outcome.specs.Slots.{slots_below};
 ghost use Rattle.xp_meaning.specs.Results.{shown};
 ghost use Rattle.sch_compiled.specs.declared.findings.Outcome.TheVariants as outcomes;
 ghost use Rattle.xslt_match.specs.Matching.{matching};
+ghost use Rattle.xslt_match.specs.Names.{HoldsNames};
 ghost use Rattle.sch_units.specs.Firing.{fired_by, first_rule};
 ghost use Rattle.rule_run.specs.KeptMatches.{AreKept};
 ghost use Rattle.rule_run.specs.inner.Counted.{IsRuleCounted, AreRulesCounted};
@@ -21,7 +22,14 @@ use xp_eval::Evaluator;
 use xp_meaning::Lets;
 use xp_outcome::{Recorder, Steps};
 use xp_values::EvalError;
-use xslt_match::matches_with;
+use xslt_match::{NamesUp, matches_with};
+
+/// A rule among those of its pattern, by its number there.
+#[derive(Clone, Copy)]
+pub(crate) struct PlacedRule<'r> {
+    pub(crate) rules: &'r [PlanRule],
+    pub(crate) number: usize,
+}
 
 impl Validator<'_> {
     /// The outcome of the first rule that matches the node; the rules after it aren't tried.
@@ -36,14 +44,16 @@ impl Validator<'_> {
         requires live { is_live self.now.caller.tree.now.nodes self.now.node ≡ true }
         requires few { length rules.now < 2 ^ 32 }
         requires counted { AreRulesCounted self.now.count rules.now }
-        requires kept { AreKept self.now.caller.tree.now.nodes lets.old rules.now kept.old }
+        requires kept { AreKept self.now.caller.tree.now lets.old rules.now kept.old }
         ensures ran { Ran (first_rule self.now.caller.tree.now.nodes self.now.count lets.old self.now.node 0 rules.now)
             (shown result) reads.old reads.new steps.old steps.new }
         ensures below { slots_below self.now.count lets.new ≡ slots_below self.now.count lets.old }
-        ensures kept { AreKept self.now.caller.tree.now.nodes lets.old rules.now kept.new }
+        ensures kept { AreKept self.now.caller.tree.now lets.old rules.now kept.new }
     {
+        let mut names = NamesUp::none(self.node);
         for (r, rule) in rules.iter().enumerate() {
-            let matched = self.rule_matches(rules, r, kept, lets, reads, steps)?;
+            let at = PlacedRule { rules, number: r };
+            let matched = self.rule_matches(&at, kept, &mut names, lets, reads, steps)?;
             if matched {
                 return self.fired(r as u32, rule, lets, reads, steps);
             }
@@ -51,32 +61,37 @@ impl Validator<'_> {
         Ok(Outcome::NoRule)
     }
 
-    /// Whether a rule, counted from 0, matches the node.
+    /// Whether a rule matches the node, of which some names may be recorded already.
     fn rule_matches<L: Ledger>(
         &self,
-        rules: &[PlanRule],
-        r: usize,
+        at: &PlacedRule<'_>,
         kept: &mut KeptMatches,
+        names: &mut NamesUp,
         lets: &Lets,
         reads: &mut Recorder,
         steps: &mut Steps<L>,
     ) -> Result<bool, EvalError>
         requires live { is_live self.now.caller.tree.now.nodes self.now.node ≡ true }
-        requires there { r < length rules.now }
-        requires few { length rules.now < 2 ^ 32 }
-        requires kept { AreKept self.now.caller.tree.now.nodes lets.now rules.now kept.old }
-        ensures ran { IfSome (slice_get rules.now r) (λ rule. Ran (matching self.now.caller.tree.now.nodes lets.now rule.context self.now.node)
+        requires node { names.old.node ≡ self.now.node }
+        requires there { at.now.number < length at.now.rules.now }
+        requires few { length at.now.rules.now < 2 ^ 32 }
+        requires kept { AreKept self.now.caller.tree.now lets.now at.now.rules.now kept.old }
+        requires named { HoldsNames self.now.caller.tree.now.nodes names.old.node names.old.levels reads.old }
+        ensures ran { IfSome (slice_get at.now.rules.now at.now.number) (λ rule. Ran (matching self.now.caller.tree.now.nodes lets.now rule.context self.now.node)
             (shown result) reads.old reads.new steps.old steps.new) }
-        ensures kept { AreKept self.now.caller.tree.now.nodes lets.now rules.now kept.new }
+        ensures kept { AreKept self.now.caller.tree.now lets.now at.now.rules.now kept.new }
+        ensures node { names.new.node ≡ self.now.node }
+        ensures named { OnOk result (HoldsNames self.now.caller.tree.now.nodes names.new.node names.new.levels reads.new) }
     {
+        let r = at.number;
         kept.reach(self.caller.alloc, r)?;
         let evaluator = Evaluator {
             caller: self.caller,
             lets,
         };
-        let context = &rules[r].context;
+        let context = &at.rules[r].context;
         let kept_steps = &mut kept.rules[r];
-        matches_with(&evaluator, context, self.node, kept_steps, reads, steps)
+        matches_with(&evaluator, context, names, kept_steps, reads, steps)
     }
 
     /// The outcome of a rule, counted from 0, that fires.

@@ -206,7 +206,7 @@ impl Outcomes {
         requires active { at.now.pattern < length at.now.run.plan.now.patterns }
         requires lets { self.old.lets ≡ lets_of at.now.run.plan.now at.now.run.caller.tree.now.nodes }
         requires so_far { HoldsTo at.now.run.plan.now at.now.run.caller.tree.now.nodes at.now.pattern 0 self.old.found }
-        requires matches { AreKeptFor at.now.run.plan.now at.now.run.caller.tree.now.nodes at.now.pattern self.old.lets matches.old }
+        requires matches { AreKeptFor at.now.run.plan.now at.now.run.caller.tree.now at.now.pattern self.old.lets matches.old }
         ensures lets { self.new.lets ≡ self.old.lets }
         ensures found { OnOk result (HoldsTo at.now.run.plan.now at.now.run.caller.tree.now.nodes (at.now.pattern + 1) 0 self.new.found) }
         ensures raised { OnOk result (Raised at.now.run.plan.now at.now.run.caller.tree.now.nodes
@@ -234,9 +234,9 @@ impl Outcomes {
         requires active { at.now.pattern < length at.now.run.plan.now.patterns }
         requires lets { self.old.lets ≡ lets_of at.now.run.plan.now at.now.run.caller.tree.now.nodes }
         requires so_far { HoldsTo at.now.run.plan.now at.now.run.caller.tree.now.nodes at.now.pattern n self.old.found }
-        requires matches { AreKeptFor at.now.run.plan.now at.now.run.caller.tree.now.nodes at.now.pattern self.old.lets matches.old }
+        requires matches { AreKeptFor at.now.run.plan.now at.now.run.caller.tree.now at.now.pattern self.old.lets matches.old }
         ensures lets { self.new.lets ≡ self.old.lets }
-        ensures matches { AreKeptFor at.now.run.plan.now at.now.run.caller.tree.now.nodes at.now.pattern self.old.lets matches.new }
+        ensures matches { AreKeptFor at.now.run.plan.now at.now.run.caller.tree.now at.now.pattern self.old.lets matches.new }
         ensures found { OnOk result (HoldsTo at.now.run.plan.now at.now.run.caller.tree.now.nodes at.now.pattern (n + 1) self.new.found) }
         ensures raised { OnOk result (Raised at.now.run.plan.now at.now.run.caller.tree.now.nodes
             (under_node at.now.run.caller.tree.now.nodes at.now.pattern n) steps.old steps.new) }
@@ -263,9 +263,9 @@ impl Outcomes {
         requires lets { self.old.lets ≡ lets_of at.now.run.plan.now at.now.run.caller.tree.now.nodes }
         requires patterns { self.old.found.patterns ≡ length at.now.run.plan.now.patterns }
         requires live { is_live at.now.run.caller.tree.now.nodes n ≡ true }
-        requires matches { AreKeptFor at.now.run.plan.now at.now.run.caller.tree.now.nodes at.now.pattern self.old.lets matches.old }
+        requires matches { AreKeptFor at.now.run.plan.now at.now.run.caller.tree.now at.now.pattern self.old.lets matches.old }
         ensures lets { self.new.lets ≡ self.old.lets }
-        ensures matches { AreKeptFor at.now.run.plan.now at.now.run.caller.tree.now.nodes at.now.pattern self.old.lets matches.new }
+        ensures matches { AreKeptFor at.now.run.plan.now at.now.run.caller.tree.now at.now.pattern self.old.lets matches.new }
         ensures puts { OnOk result (Puts self.old.found self.new.found at.now.pattern n
             (Some (pair_outcome at.now.run.plan.now at.now.run.caller.tree.now.nodes at.now.pattern n))) }
         ensures raised { OnOk result (Raised at.now.run.plan.now at.now.run.caller.tree.now.nodes

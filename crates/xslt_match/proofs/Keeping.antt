@@ -1,6 +1,6 @@
 -- What is kept, by key.
-use Rattle.std.proofs.Common.{◌≡◌, ℕ, zero, suc, ◌+◌, ◌-◌, ◌<◌, ◌≤◌, length-drop, arith, Bool, true, false, cond, ◌&&◌, List, [], ◌∷◌, length, drop, map, refl, sym, ◌∙◌, ap, subst, eqb, eqb-true, true≢false, Some}
-use Rattle.std.specs.Prelude.{slice_get, option_and_then, option_map, IfSome}
+use Rattle.std.proofs.Common.{◌≡◌, ℕ, zero, suc, ◌+◌, ◌-◌, ◌<◌, ◌≤◌, length-drop, arith, Bool, true, false, cond, ◌&&◌, List, [], ◌∷◌, length, drop, map, refl, sym, ◌∙◌, ap, subst, eqb, eqb-true, true≢false, Option, None, Some, ◌++◌}
+use Rattle.std.specs.Prelude.{not, slice_get, option_and_then, option_map, IfSome}
 use Rattle.std.specs.List.{AllByRecursion as Each}
 use Rattle.std.specs.Map.{lookup}
 use Rattle.std.proofs.lemmas.Option.{slice_get-map}
@@ -14,7 +14,7 @@ use Rattle.xp_meaning.specs.Evaluation.{Lets}
 use Rattle.xslt_match.specs.declared.kept.StepKey.{StepKey}
 use Rattle.xslt_match.specs.declared.kept.KeptStep.{KeptStep}
 use Rattle.xslt_match.specs.contracts.kept.StepKeyPartialEq.TheImpl.{eq-value}
-use Rattle.xslt_match.specs.Kept.{IsOutcomeAt, numbered_step}
+use Rattle.xslt_match.specs.Kept.{IsOutcomeAt, last_step, numbered_step}
 
 both : (a b : Bool) → (a && b) ≡ true → (a ≡ true) × (b ≡ true)
 both true b h = (refl, h)
@@ -110,3 +110,20 @@ left_next all later step rest drops is =
 
 pub all_left : (all : List TypedPatternStep) → all ≡ drop (length all - length all) all
 all_left all = let none : 0 ≡ length all - length all = omega arith in ap (λ k. drop k all) none
+
+-- What is known of a pattern
+
+-- what holds of all holds of one that may be missing
+pub if_all : {X : Type 0} {P : X → Type 0} (o : Option X) → ((x : X) → P x) → IfSome o P
+if_all None all = tt
+if_all (Some x) all = all x
+
+pub not_true : (b : Bool) → not b ≡ true → b ≡ false
+not_true true h = absurd (true≢false (sym h))
+not_true false h = refl
+
+-- a path ends at the last of its steps
+pub last_behind : (front : List TypedPatternStep) (last : TypedPatternStep) → last_step (map pattern_step_seen (front ++ last ∷ [])) ≡ Some (pattern_step_seen last)
+last_behind [] last = refl
+last_behind (x ∷ []) last = refl
+last_behind (x ∷ y ∷ front) last = last_behind (y ∷ front) last

@@ -11,3 +11,4 @@ pub mod Gathered
 pub mod NameReads
 pub mod Places
 pub mod OnePath
+pub mod Recording

@@ -12,12 +12,12 @@ use Rattle.xp_typed_tree.specs.declared.pattern.TypedPatternStep.{TypedPatternSt
 use Rattle.xp_typed_tree.specs.TypedTree.{TypedPatternStepTree, TypedPathTree}
 use Rattle.xp_typed_tree.specs.TypedView.{path_seen, paths_seen, pattern_step_seen}
 use Rattle.xp_outcome.specs.Cells.{names_on}
-use Rattle.xp_outcome.specs.Evaluation.{done, bind, all_reading, cell}
+use Rattle.xp_outcome.specs.Evaluation.{done, bind, all_reading, cell, visit}
 use Rattle.xp_outcome.proofs.Outcomes.{bind_alike, bind-done, bind-right}
 use Rattle.xp_outcome.proofs.Runs.{next_item, no_item}
 use Rattle.xp_meaning.specs.Evaluation.{Lets}
 use Rattle.xp_meaning.specs.Reads.{is_by_name}
-use Rattle.xslt_match.specs.Matching.{path_matches, some_path}
+use Rattle.xslt_match.specs.Matching.{matching, path_matches, some_path}
 use Rattle.xslt_match.specs.Names.{pattern_names, step_names}
 use Rattle.xslt_match.specs.inner.Ends.{ends_elsewhere}
 use Rattle.xslt_match.proofs.Chaining.{chains_elsewhere}
@@ -89,3 +89,9 @@ module _ (T : Table) (n : ℕ) where
         let s = pattern_step_seen step in
         ap (λ xs. all_reading (step_names T n (map pattern_step_seen xs)) (path_matches T L n (path_seen path))) alone
         ∙ ap (λ rs. all_reading rs (path_matches T L n (path_seen path))) (names_alone s by_name ∙ name-alone T s.axis n principal)
+
+    -- so a pattern of one such path refuses all nodes of other kinds
+    pub others_refused : (paths : List TypedPathTree) (path : TypedPath) (step : TypedPatternStep) → paths ≡ path_seen path ∷ [] → path.steps.items ≡ step ∷ [] →
+        is_by_name (pattern_step_seen step).test ≡ true → is_principal (pattern_step_seen step).axis (kind_of T n) ≡ false → matching T L paths n ≡ visit (done false)
+    others_refused paths path step only alone by_name other =
+        ap visit (path_alone paths (path ∷ []) path (sym only) refl ∙ step_of_others path step alone by_name other)

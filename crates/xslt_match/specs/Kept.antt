@@ -1,9 +1,13 @@
 -- What is kept of the steps of a pattern with positional predicates.
-use Rattle.std.specs.Prelude.{ℕ, Bool, Result, Ok, Err, Option, Some, IfSome, List, option_and_then, slice_get}
+use Rattle.std.specs.Prelude.{◌≡◌, ℕ, Bool, false, Result, Ok, Err, Option, None, Some, IfSome, List, [], ◌∷◌, option_and_then, slice_get}
 use Rattle.std.specs.List.{AllByRecursion as Each}
 use Rattle.doc_tree.specs.Lists.{mem}
-use Rattle.doc_tree.specs.Table.{Table}
+use Rattle.doc_tree.specs.kind.Kind.{Kind}
+use Rattle.doc_tree.specs.Kinds.{is_kind}
+use Rattle.doc_tree.specs.Table.{Contents, Table, kind_of}
+use Rattle.doc_axes.specs.Judging.{IsJudged}
 use Rattle.xp_typed_tree.specs.TypedTree.{TypedPatternStepTree, TypedPathTree}
+use Rattle.xp_outcome.specs.Evaluation.{done, visit}
 use Rattle.xp_outcome.specs.Recorded.{nothing_read}
 use Rattle.xp_outcome.specs.Running.{Stop, faulted, Ran}
 use Rattle.xp_values.specs.declared.values.EvalFault.{EvalFault}
@@ -11,7 +15,7 @@ use Rattle.xp_meaning.specs.Evaluation.{Lets}
 use Rattle.xslt_match.specs.declared.kept.StepKey.{StepKey}
 use Rattle.xslt_match.specs.declared.kept.KeptStep.{KeptStep}
 use Rattle.xslt_match.specs.declared.kept.KeptSteps.{KeptSteps}
-use Rattle.xslt_match.specs.Matching.{is_left, step_of}
+use Rattle.xslt_match.specs.Matching.{is_left, matching, step_of}
 
 -- the step of a pattern, by the number of its path pattern and its number there
 abbrev pub numbered_step : List TypedPathTree → ℕ → ℕ → Option TypedPatternStepTree
@@ -29,6 +33,24 @@ IsOutcomeAt T L ps key kept =
     IfSome (numbered_step ps key.path key.step) (λ s. (n k : ℕ) →
     Ran (is_left T (step_of T L s) n k (Some key.parent)) (told kept.selected.nodes k) nothing_read kept.selected.reads 0 kept.visits)
 
--- all that is kept is so
-abbrev pub IsKeptFor : Table → Lets → List TypedPathTree → KeptSteps → Type 0
-IsKeptFor T L ps kept = Each (λ e. IsOutcomeAt T L ps e.0 e.1) kept.steps.entries
+-- the step at which a path pattern ends
+abbrev pub last_step : List TypedPatternStepTree → Option TypedPatternStepTree
+last_step [] = None
+last_step (s ∷ []) = Some s
+last_step (s ∷ r ∷ ss) = last_step (r ∷ ss)
+
+-- and the one at which the first path pattern does
+abbrev pub first_end : List TypedPathTree → Option TypedPatternStepTree
+first_end [] = None
+first_end (p ∷ ps) = last_step p.steps
+
+-- at nodes of other kinds a pattern reads nothing, and matches none
+abbrev pub RefusesOthers : Contents → Lets → List TypedPathTree → Kind → Type 0
+RefusesOthers C L ps kind = (n : ℕ) → is_kind kind (kind_of C.nodes n) ≡ false → matching C.nodes L ps n ≡ visit (done false)
+
+-- what is kept of the pattern's steps is so, and so is what is known of the names at which its first path pattern can end, and of
+-- the kind of the nodes at which it looks
+pub record IsKeptFor (C : Contents) (L : Lets) (ps : List TypedPathTree) (kept : KeptSteps) : Type 0 where
+  pub selected : Each (λ e. IsOutcomeAt C.nodes L ps e.0 e.1) kept.steps.entries
+  pub judged : IfSome (first_end ps) (λ s. IsJudged C.names s.test kept.judged)
+  pub kind : IfSome kept.kind (RefusesOthers C L ps)

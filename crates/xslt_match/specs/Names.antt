@@ -1,13 +1,16 @@
 -- The names that matching looks at (XSLT 1.0, section 5.2): of the nodes at which a pattern's steps can stand in chains to a node.
-use Rattle.std.specs.Prelude.{ℕ, Bool, List, [], ◌∷◌, ◌++◌, Option, None, Some, map, flat_map, option_and_then, if◌then◌else◌}
+use Rattle.std.specs.Prelude.{◌≡◌, ◌<◌, ℕ, zero, suc, Bool, true, List, [], ◌∷◌, ◌++◌, Option, None, Some, map, flat_map, option_and_then, if◌then◌else◌, IfSome}
 use Rattle.std.specs.List.{list_any}
 use Rattle.doc_tree.specs.declared.axes.Axis.{Axis}
 use Rattle.doc_tree.specs.declared.axes.NodeTest.{NodeTest}
-use Rattle.doc_tree.specs.Table.{Table, parent_of}
+use Rattle.doc_tree.specs.cell.Cell.TheVariants.{Name}
+use Rattle.doc_tree.specs.Kinds.{is_element}
+use Rattle.doc_tree.specs.Table.{Table, kind_of, parent_of}
 use Rattle.doc_tree.specs.Walks.{above}
 use Rattle.xp_typed_tree.specs.TypedTree.{TypedPatternStepTree, TypedPathTree}
 use Rattle.xp_outcome.specs.Cells.{names_on}
 use Rattle.xp_outcome.specs.Evaluation.{Read, cell}
+use Rattle.xp_outcome.specs.Recorded.{Recorded, has_read}
 use Rattle.xp_meaning.specs.Reads.{is_by_name}
 use Rattle.xslt_ways.specs.Ways.{is_anywhere}
 
@@ -42,3 +45,13 @@ step_names T n (s ∷ ss) = step_names T n ss ++ place_names T s.axis s.test (st
 -- and those of all path patterns, whether or not there is a chain
 abbrev pub pattern_names : Table → ℕ → List TypedPathTree → List Read
 pattern_names T n ps = flat_map (λ p. step_names T n p.steps) ps
+
+-- the node that stands so many levels above n
+abbrev pub ancestor_at : Table → ℕ → ℕ → Option ℕ
+ancestor_at T zero n = Some n
+ancestor_at T (suc k) n = option_and_then (parent_of T) (ancestor_at T k n)
+
+-- of so many nodes from n upwards the names are held, where they are elements
+abbrev pub HoldsNames : Table → ℕ → ℕ → Recorded → Type 0
+HoldsNames T n levels held =
+    (k : ℕ) → k < levels → IfSome (ancestor_at T k n) (λ m. is_element (kind_of T m) ≡ true → has_read held (cell (Name m)) ≡ true)

@@ -2,3 +2,4 @@ pub mod Leading
 pub mod Ends
 pub mod Keeping
 pub mod OneChain
+pub mod Named

@@ -55,10 +55,10 @@ impl Matcher<'_> {
     ) -> Result<bool, EvalError>
         requires lives { is_live self.now.evaluator.caller.tree.now.nodes self.now.node ≡ true }
         requires placed { IsPathIn self.now.pattern.now at.now }
-        requires kept { IsKeptFor self.now.evaluator.caller.tree.now.nodes self.now.evaluator.lets.now self.now.pattern.now kept.old }
+        requires kept { IsKeptFor self.now.evaluator.caller.tree.now self.now.evaluator.lets.now self.now.pattern.now kept.old }
         ensures ran { Ran (path_matches self.now.evaluator.caller.tree.now.nodes self.now.evaluator.lets.now self.now.node (path_seen at.now.path.now))
             (shown result) reads.old reads.new steps.old steps.new }
-        ensures kept { IsKeptFor self.now.evaluator.caller.tree.now.nodes self.now.evaluator.lets.now self.now.pattern.now kept.new }
+        ensures kept { IsKeptFor self.now.evaluator.caller.tree.now self.now.evaluator.lets.now self.now.pattern.now kept.new }
     {
         if ends_elsewhere(self.evaluator.caller.tree, &at.path.steps, self.node) {
             return Ok(false);
@@ -79,10 +79,10 @@ impl Matcher<'_> {
     ) -> Result<bool, EvalError>
         requires lives { is_live self.now.evaluator.caller.tree.now.nodes self.now.node ≡ true }
         requires placed { IsPathIn self.now.pattern.now at.now }
-        requires kept { IsKeptFor self.now.evaluator.caller.tree.now.nodes self.now.evaluator.lets.now self.now.pattern.now kept.old }
+        requires kept { IsKeptFor self.now.evaluator.caller.tree.now self.now.evaluator.lets.now self.now.pattern.now kept.old }
         ensures ran { Ran (path_matches self.now.evaluator.caller.tree.now.nodes self.now.evaluator.lets.now self.now.node (path_seen at.now.path.now))
             (shown result) reads.old reads.new steps.old steps.new }
-        ensures kept { IsKeptFor self.now.evaluator.caller.tree.now.nodes self.now.evaluator.lets.now self.now.pattern.now kept.new }
+        ensures kept { IsKeptFor self.now.evaluator.caller.tree.now self.now.evaluator.lets.now self.now.pattern.now kept.new }
     {
         let path = at.path;
         match path.steps.split_first() {
@@ -108,10 +108,10 @@ impl Matcher<'_> {
         requires placed { IsPathIn self.now.pattern.now at.now }
         requires parted { at.now.path.now.steps.items ≡ first.now ∷ later.now }
         requires from_parents { all_from_parents (map pattern_step_seen later.now) ≡ true }
-        requires kept { IsKeptFor self.now.evaluator.caller.tree.now.nodes self.now.evaluator.lets.now self.now.pattern.now kept.old }
+        requires kept { IsKeptFor self.now.evaluator.caller.tree.now self.now.evaluator.lets.now self.now.pattern.now kept.old }
         ensures ran { Ran (path_matches self.now.evaluator.caller.tree.now.nodes self.now.evaluator.lets.now self.now.node (path_seen at.now.path.now))
             (shown result) reads.old reads.new steps.old steps.new }
-        ensures kept { IsKeptFor self.now.evaluator.caller.tree.now.nodes self.now.evaluator.lets.now self.now.pattern.now kept.new }
+        ensures kept { IsKeptFor self.now.evaluator.caller.tree.now self.now.evaluator.lets.now self.now.pattern.now kept.new }
     {
         let tree = self.evaluator.caller.tree;
         tree.laws();
@@ -131,10 +131,10 @@ impl Matcher<'_> {
     ) -> Result<bool, EvalError>
         requires lives { is_live self.now.evaluator.caller.tree.now.nodes self.now.node ≡ true }
         requires placed { IsPathIn self.now.pattern.now at.now }
-        requires kept { IsKeptFor self.now.evaluator.caller.tree.now.nodes self.now.evaluator.lets.now self.now.pattern.now kept.old }
+        requires kept { IsKeptFor self.now.evaluator.caller.tree.now self.now.evaluator.lets.now self.now.pattern.now kept.old }
         ensures ran { Ran (path_matches self.now.evaluator.caller.tree.now.nodes self.now.evaluator.lets.now self.now.node (path_seen at.now.path.now))
             (shown result) reads.old reads.new steps.old steps.new }
-        ensures kept { IsKeptFor self.now.evaluator.caller.tree.now.nodes self.now.evaluator.lets.now self.now.pattern.now kept.new }
+        ensures kept { IsKeptFor self.now.evaluator.caller.tree.now self.now.evaluator.lets.now self.now.pattern.now kept.new }
     {
         let Caller { alloc, tree } = self.evaluator.caller;
         let way = way_to(alloc, tree, self.node)?;
@@ -166,10 +166,10 @@ impl Matcher<'_> {
         requires lives { is_live self.now.evaluator.caller.tree.now.nodes self.now.node ≡ true }
         requires way { way.now ≡ starts self.now.evaluator.caller.tree.now.nodes false self.now.node }
         requires placed { IsFrontIn self.now.pattern.now front.now }
-        requires kept { IsKeptFor self.now.evaluator.caller.tree.now.nodes self.now.evaluator.lets.now self.now.pattern.now kept.old }
+        requires kept { IsKeptFor self.now.evaluator.caller.tree.now self.now.evaluator.lets.now self.now.pattern.now kept.old }
         ensures ran { Ran (chains self.now.evaluator.caller.tree.now.nodes self.now.evaluator.lets.now self.now.node (map pattern_step_seen front.now.later.now) front.now.nodes.now front.now.alive.now)
             (shown result) reads.old reads.new steps.old steps.new }
-        ensures kept { IsKeptFor self.now.evaluator.caller.tree.now.nodes self.now.evaluator.lets.now self.now.pattern.now kept.new }
+        ensures kept { IsKeptFor self.now.evaluator.caller.tree.now self.now.evaluator.lets.now self.now.pattern.now kept.new }
     {
         let Some((step, rest)) = front.later.split_first() else {
             return Ok(is_among(front.alive, self.node));

@@ -1,13 +1,17 @@
 //! What steps with positional predicates selected at nodes, kept for the matching of other nodes.
 
-ghost use Rattle.std.specs.Prelude.{◌≡◌, ℕ, ◌+◌, ◌<◌, List, None, Some, OnOk, OnErr, IfSome};
+ghost use Rattle.std.specs.Prelude.{◌≡◌, ℕ, ◌+◌, ◌<◌, List, None, Some, true, false, OnOk, OnErr, IfSome};
 ghost use Rattle.std.specs.Option.{option_copied};
-ghost use Rattle.doc_tree.specs.Table.{Table};
+ghost use Rattle.doc_tree.specs.Table.{Contents};
 ghost use Rattle.xp_typed_tree.specs.TypedTree.{TypedPathTree};
+ghost use Rattle.xp_outcome.specs.Evaluation.{done, visit};
 ghost use Rattle.xp_meaning.specs.Evaluation.{Lets};
 ghost use Rattle.xslt_match.specs.Kept.{IsKeptFor, IsOutcomeAt};
+ghost use Rattle.xslt_match.specs.Matching.{matching};
 
 use crate::nodes::NodeIndex;
+use doc_axes::Judged;
+use doc_tree::{Kind, NodeId, Tree};
 use indexmap::IndexMap;
 use std::alloc::{AllocError, Global};
 use xp_outcome::Recorder;
@@ -38,28 +42,44 @@ pub(crate) struct KeptStep {
     pub(crate) visits: usize,
 }
 
-/// What is kept of the steps of one pattern with positional predicates: what each selected at which node.
+/// What is kept of the steps of one pattern with positional predicates, what each selected at which node; of the node test at which its first path
+/// ends, what this says of names; and where the pattern is of one step that looks at names, the kind of the nodes at which it does.
 ///
 /// It is kept for one tree and one table of lets, as `IsKeptFor` says.
 #[derive(Drop)]
 pub struct KeptSteps {
     steps: IndexMap<StepKey, KeptStep>,
+    pub(crate) judged: Judged,
+    pub(crate) kind: Option<Kind>,
 }
 
 impl KeptSteps {
     /// Nothing is kept.
     pub fn new(alloc: Global) -> KeptSteps
-        ensures { (T : Table) (L : Lets) (pattern : List TypedPathTree) → IsKeptFor T L pattern result }
+        ensures { (C : Contents) (L : Lets) (pattern : List TypedPathTree) → IsKeptFor C L pattern result }
     {
         KeptSteps {
             steps: IndexMap::new(alloc),
+            judged: Judged::nothing(),
+            kind: None,
+        }
+    }
+
+    /// Whether it is known that the pattern looks at nodes of another kind alone.
+    pub(crate) fn refuses(&self, tree: &Tree, n: NodeId) -> bool
+        ensures { (L : Lets) (pattern : List TypedPathTree) → IsKeptFor tree.now L pattern self.now → result ≡ true →
+            matching tree.now.nodes L pattern n ≡ visit (done false) }
+    {
+        match self.kind {
+            Some(kind) => !tree.is_kind(n, kind),
+            None => false,
         }
     }
 
     /// What is kept of a step at a node.
     pub(crate) fn find(&self, key: StepKey) -> Option<&KeptStep>
-        ensures { (T : Table) (L : Lets) (pattern : List TypedPathTree) → IsKeptFor T L pattern self.now →
-            IfSome (option_copied result) (IsOutcomeAt T L pattern key) }
+        ensures { (C : Contents) (L : Lets) (pattern : List TypedPathTree) → IsKeptFor C L pattern self.now →
+            IfSome (option_copied result) (IsOutcomeAt C.nodes L pattern key) }
     {
         self.steps.get(&key)
     }
@@ -71,8 +91,8 @@ impl KeptSteps {
         selected: Selected,
         visits: Option<usize>,
     ) -> Result<(), AllocError>
-        ensures { (T : Table) (L : Lets) (pattern : List TypedPathTree) → IsKeptFor T L pattern self.old →
-            IfSome visits (λ count. IsOutcomeAt T L pattern key (record { selected = selected; visits = count })) → IsKeptFor T L pattern self.new }
+        ensures { (C : Contents) (L : Lets) (pattern : List TypedPathTree) → IsKeptFor C L pattern self.old →
+            IfSome visits (λ count. IsOutcomeAt C.nodes L pattern key (record { selected = selected; visits = count })) → IsKeptFor C L pattern self.new }
     {
         match visits {
             Some(visits) => self.put(key, KeptStep { selected, visits }),
@@ -85,8 +105,8 @@ impl KeptSteps {
 
     /// Keeps what a step selected at a node, in place of all that is kept where this is too much.
     fn put(&mut self, key: StepKey, kept: KeptStep) -> Result<(), AllocError>
-        ensures { (T : Table) (L : Lets) (pattern : List TypedPathTree) → IsKeptFor T L pattern self.old →
-            IsOutcomeAt T L pattern key kept → IsKeptFor T L pattern self.new }
+        ensures { (C : Contents) (L : Lets) (pattern : List TypedPathTree) → IsKeptFor C L pattern self.old →
+            IsOutcomeAt C.nodes L pattern key kept → IsKeptFor C L pattern self.new }
     {
         self.make_room();
         drop(self.steps.insert(key, kept)?);
@@ -95,7 +115,7 @@ impl KeptSteps {
 
     /// Lets all go where there is too much.
     fn make_room(&mut self)
-        ensures { (T : Table) (L : Lets) (pattern : List TypedPathTree) → IsKeptFor T L pattern self.old → IsKeptFor T L pattern self.new }
+        ensures { (C : Contents) (L : Lets) (pattern : List TypedPathTree) → IsKeptFor C L pattern self.old → IsKeptFor C L pattern self.new }
     {
         if self.steps.len() >= MOST_KEPT {
             self.steps.clear();

@@ -13,6 +13,7 @@ mod testing;
 
 pub use kept::KeptSteps;
 pub use matching::{matches, matches_with};
+pub use names::NamesUp;
 pub use xp_eval::{Caller, Evaluator};
 pub use xp_meaning::Lets;
 pub use xp_outcome::{Recorder, Steps};

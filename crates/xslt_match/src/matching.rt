@@ -1,22 +1,24 @@
 //! The matching of nodes against match patterns (XSLT 1.0, section 5.2).
 
-ghost use Rattle.std.specs.Prelude.{◌≡◌, ◌∷◌, [], true};
+ghost use Rattle.std.specs.Prelude.{◌≡◌, ◌∷◌, [], Option, Some, true, false, OnOk};
 ghost use Rattle.doc_tree.specs.Table.{is_live};
-ghost use Rattle.xp_outcome.specs.Evaluation.{all_reading};
+ghost use Rattle.doc_tree.specs.Kinds.{is_kind};
+ghost use Rattle.doc_axes.specs.NodeTests.{is_principal, passes};
+ghost use Rattle.xp_outcome.specs.Evaluation.{all_reading, done};
 ghost use Rattle.xp_outcome.specs.Running.{Ran};
-ghost use Rattle.xp_meaning.specs.Reads.{is_by_name};
 ghost use Rattle.xp_meaning.specs.Results.{shown};
 ghost use Rattle.xp_typed_tree.specs.TypedView.{path_seen, pattern_step_seen};
+ghost use Rattle.xslt_match.specs.inner.Ends.{ends_elsewhere};
 ghost use Rattle.xslt_match.specs.inner.Keeping.{IsPathIn};
-ghost use Rattle.xslt_match.specs.Kept.{IsKeptFor};
+ghost use Rattle.xslt_match.specs.Kept.{IsKeptFor, last_step};
 ghost use Rattle.xslt_match.specs.Matching.{matching, path_matches, some_path};
-ghost use Rattle.xslt_match.specs.Names.{pattern_names, step_names};
+ghost use Rattle.xslt_match.specs.Names.{HoldsNames, pattern_names, step_names};
 
 use crate::chains::PlacedPath;
 use crate::kept::KeptSteps;
-use crate::names::{has_name, read_step_names};
-use doc_axes::is_principal;
-use doc_tree::{Cell, NodeId, Tree};
+use crate::names::{NamesUp, read_names_up};
+use doc_axes::passes_by;
+use doc_tree::{Axis, Kind, NodeId, Tree};
 use std::alloc::Global;
 use std::sync::ledger::Ledger;
 use xp_calls::is_by_name;
@@ -53,10 +55,12 @@ pub fn matches<L: Ledger>(
     let caller = Caller { alloc, tree };
     let mut kept = KeptSteps::new(alloc);
     let evaluator = Evaluator { caller, lets };
-    matches_with(&evaluator, pattern, n, &mut kept, reads, steps)
+    let mut at = NamesUp::none(n);
+    matches_with(&evaluator, pattern, &mut at, &mut kept, reads, steps)
 }
 
-/// `matches`, with what is kept of the pattern's steps for the same tree and the same lets.
+/// `matches`, with what is kept of the pattern's steps for the same tree and the same lets, and with what is known of the names that are recorded for the
+/// node already.
 ///
 /// A step with a positional predicate is evaluated once at each node, and what it gave there is kept for the other nodes
 /// below it; its visits and its reads count each time. So it costs for each of these nodes what the step reads, and a
@@ -64,25 +68,35 @@ pub fn matches<L: Ledger>(
 pub fn matches_with<L: Ledger>(
     evaluator: &Evaluator<'_>,
     pattern: &TypedPattern,
-    n: NodeId,
+    at: &mut NamesUp,
     kept: &mut KeptSteps,
     reads: &mut Recorder,
     steps: &mut Steps<L>,
 ) -> Result<bool, EvalError>
-    requires live { is_live evaluator.now.caller.tree.now.nodes n ≡ true }
-    requires kept { IsKeptFor evaluator.now.caller.tree.now.nodes evaluator.now.lets.now pattern.now kept.old }
-    ensures ran { Ran (matching evaluator.now.caller.tree.now.nodes evaluator.now.lets.now pattern.now n)
+    requires live { is_live evaluator.now.caller.tree.now.nodes at.old.node ≡ true }
+    requires kept { IsKeptFor evaluator.now.caller.tree.now evaluator.now.lets.now pattern.now kept.old }
+    requires named { HoldsNames evaluator.now.caller.tree.now.nodes at.old.node at.old.levels reads.old }
+    ensures ran { Ran (matching evaluator.now.caller.tree.now.nodes evaluator.now.lets.now pattern.now at.old.node)
         (shown result) reads.old reads.new steps.old steps.new }
-    ensures kept { IsKeptFor evaluator.now.caller.tree.now.nodes evaluator.now.lets.now pattern.now kept.new }
+    ensures kept { IsKeptFor evaluator.now.caller.tree.now evaluator.now.lets.now pattern.now kept.new }
+    ensures named { OnOk result (HoldsNames evaluator.now.caller.tree.now.nodes at.new.node at.new.levels reads.new) }
+    ensures same { at.new.node ≡ at.old.node }
 {
     steps.tick();
+    let node = at.node;
+    if kept.refuses(evaluator.caller.tree, node) {
+        return Ok(false);
+    }
     let matcher = Matcher {
         evaluator: *evaluator,
         pattern,
-        node: n,
+        node,
     };
     match pattern.paths() {
-        [path] => matcher.one_path(&PlacedPath { path, number: 0 }, kept, reads, steps),
+        [path] => {
+            let path = PlacedPath { path, number: 0 };
+            matcher.one_path(&path, kept, &mut at.levels, reads, steps)
+        }
         _ => matcher.several_paths(kept, reads, steps),
     }
 }
@@ -108,87 +122,99 @@ impl Matcher<'_> {
         steps: &mut Steps<L>,
     ) -> Result<bool, EvalError>
         requires lives { is_live self.now.evaluator.caller.tree.now.nodes self.now.node ≡ true }
-        requires kept { IsKeptFor self.now.evaluator.caller.tree.now.nodes self.now.evaluator.lets.now self.now.pattern.now kept.old }
+        requires kept { IsKeptFor self.now.evaluator.caller.tree.now self.now.evaluator.lets.now self.now.pattern.now kept.old }
         ensures ran { Ran (all_reading (pattern_names self.now.evaluator.caller.tree.now.nodes self.now.node self.now.pattern.now)
             (some_path self.now.evaluator.caller.tree.now.nodes self.now.evaluator.lets.now self.now.node self.now.pattern.now))
             (shown result) reads.old reads.new steps.old steps.new }
-        ensures kept { IsKeptFor self.now.evaluator.caller.tree.now.nodes self.now.evaluator.lets.now self.now.pattern.now kept.new }
+        ensures kept { IsKeptFor self.now.evaluator.caller.tree.now self.now.evaluator.lets.now self.now.pattern.now kept.new }
     {
         self.read_names(reads)?;
         self.some_path(kept, reads, steps)
     }
 
-    /// The same for one path of the pattern.
+    /// The same for the only path of the pattern, where the names of so many nodes from the one upwards may be recorded already.
     fn one_path<L: Ledger>(
         &self,
         at: &PlacedPath<'_>,
         kept: &mut KeptSteps,
+        levels: &mut usize,
         reads: &mut Recorder,
         steps: &mut Steps<L>,
     ) -> Result<bool, EvalError>
         requires lives { is_live self.now.evaluator.caller.tree.now.nodes self.now.node ≡ true }
         requires placed { IsPathIn self.now.pattern.now at.now }
-        requires kept { IsKeptFor self.now.evaluator.caller.tree.now.nodes self.now.evaluator.lets.now self.now.pattern.now kept.old }
+        requires only { self.now.pattern.now ≡ path_seen at.now.path.now ∷ [] }
+        requires kept { IsKeptFor self.now.evaluator.caller.tree.now self.now.evaluator.lets.now self.now.pattern.now kept.old }
+        requires named { HoldsNames self.now.evaluator.caller.tree.now.nodes self.now.node levels.old reads.old }
         ensures ran { Ran (all_reading (step_names self.now.evaluator.caller.tree.now.nodes self.now.node (path_seen at.now.path.now).steps)
             (path_matches self.now.evaluator.caller.tree.now.nodes self.now.evaluator.lets.now self.now.node (path_seen at.now.path.now)))
             (shown result) reads.old reads.new steps.old steps.new }
-        ensures kept { IsKeptFor self.now.evaluator.caller.tree.now.nodes self.now.evaluator.lets.now self.now.pattern.now kept.new }
+        ensures kept { IsKeptFor self.now.evaluator.caller.tree.now self.now.evaluator.lets.now self.now.pattern.now kept.new }
+        ensures named { OnOk result (HoldsNames self.now.evaluator.caller.tree.now.nodes self.now.node levels.new reads.new) }
     {
-        match at.path.steps.as_slice() {
-            [step] if is_by_name(&step.step.test) => self.one_name(at, step, kept, reads, steps),
-            _ => self.several_steps(at, kept, reads, steps),
-        }
-    }
-
-    /// The same for a path of which not just one step looks at names.
-    #[inline(never)]
-    fn several_steps<L: Ledger>(
-        &self,
-        at: &PlacedPath<'_>,
-        kept: &mut KeptSteps,
-        reads: &mut Recorder,
-        steps: &mut Steps<L>,
-    ) -> Result<bool, EvalError>
-        requires lives { is_live self.now.evaluator.caller.tree.now.nodes self.now.node ≡ true }
-        requires placed { IsPathIn self.now.pattern.now at.now }
-        requires kept { IsKeptFor self.now.evaluator.caller.tree.now.nodes self.now.evaluator.lets.now self.now.pattern.now kept.old }
-        ensures ran { Ran (all_reading (step_names self.now.evaluator.caller.tree.now.nodes self.now.node (path_seen at.now.path.now).steps)
-            (path_matches self.now.evaluator.caller.tree.now.nodes self.now.evaluator.lets.now self.now.node (path_seen at.now.path.now)))
-            (shown result) reads.old reads.new steps.old steps.new }
-        ensures kept { IsKeptFor self.now.evaluator.caller.tree.now.nodes self.now.evaluator.lets.now self.now.pattern.now kept.new }
-    {
-        read_step_names(self.evaluator.caller.tree, &at.path.steps, self.node, reads)?;
-        self.path_matches(at, kept, reads, steps)
-    }
-
-    /// The same for a path of one step, which looks at names: a node that is not of the axis's principal kind is refused by one look.
-    fn one_name<L: Ledger>(
-        &self,
-        at: &PlacedPath<'_>,
-        step: &TypedPatternStep,
-        kept: &mut KeptSteps,
-        reads: &mut Recorder,
-        steps: &mut Steps<L>,
-    ) -> Result<bool, EvalError>
-        requires lives { is_live self.now.evaluator.caller.tree.now.nodes self.now.node ≡ true }
-        requires placed { IsPathIn self.now.pattern.now at.now }
-        requires alone { at.now.path.now.steps.items ≡ step.now ∷ [] }
-        requires by_name { is_by_name (pattern_step_seen step.now).test ≡ true }
-        requires kept { IsKeptFor self.now.evaluator.caller.tree.now.nodes self.now.evaluator.lets.now self.now.pattern.now kept.old }
-        ensures ran { Ran (all_reading (step_names self.now.evaluator.caller.tree.now.nodes self.now.node (path_seen at.now.path.now).steps)
-            (path_matches self.now.evaluator.caller.tree.now.nodes self.now.evaluator.lets.now self.now.node (path_seen at.now.path.now)))
-            (shown result) reads.old reads.new steps.old steps.new }
-        ensures kept { IsKeptFor self.now.evaluator.caller.tree.now.nodes self.now.evaluator.lets.now self.now.pattern.now kept.new }
-    {
-        let tree = self.evaluator.caller.tree;
-        if !is_principal(step.step.axis, tree.kind(self.node)) {
+        if self.looks_elsewhere(at, kept) {
             return Ok(false);
         }
-        reads.add(Cell::Name(self.node))?;
-        if !has_name(tree, self.node, step) {
+        let tree = self.evaluator.caller.tree;
+        read_names_up(tree, &at.path.steps, self.node, levels, reads)?;
+        if self.ends_elsewhere(at, kept) {
             return Ok(false);
         }
         self.chain_matches(at, kept, reads, steps)
+    }
+
+    /// Whether the pattern's only path is one step that looks at names, and these of nodes of another kind: then it reads nothing and matches none. The
+    /// kind is kept, so that the next node of another kind is refused by one look.
+    fn looks_elsewhere(&self, at: &PlacedPath<'_>, kept: &mut KeptSteps) -> bool
+        requires only { self.now.pattern.now ≡ path_seen at.now.path.now ∷ [] }
+        requires kept { IsKeptFor self.now.evaluator.caller.tree.now self.now.evaluator.lets.now self.now.pattern.now kept.old }
+        ensures elsewhere { result ≡ true → all_reading (step_names self.now.evaluator.caller.tree.now.nodes self.now.node (path_seen at.now.path.now).steps)
+            (path_matches self.now.evaluator.caller.tree.now.nodes self.now.evaluator.lets.now self.now.node (path_seen at.now.path.now)) ≡ done false }
+        ensures kept { IsKeptFor self.now.evaluator.caller.tree.now self.now.evaluator.lets.now self.now.pattern.now kept.new }
+    {
+        match at.path.steps.as_slice() {
+            [step] if is_by_name(&step.step.test) => {
+                let kind = principal_kind(step.step.axis);
+                kept.kind = Some(kind);
+                !self.evaluator.caller.tree.is_kind(self.node, kind)
+            }
+            _ => false,
+        }
+    }
+
+    /// Whether the node test at which the pattern's first path ends refuses a live node.
+    fn ends_elsewhere(&self, at: &PlacedPath<'_>, kept: &mut KeptSteps) -> bool
+        requires lives { is_live self.now.evaluator.caller.tree.now.nodes self.now.node ≡ true }
+        requires placed { IsPathIn self.now.pattern.now at.now }
+        requires only { self.now.pattern.now ≡ path_seen at.now.path.now ∷ [] }
+        requires kept { IsKeptFor self.now.evaluator.caller.tree.now self.now.evaluator.lets.now self.now.pattern.now kept.old }
+        ensures ends { result ≡ ends_elsewhere self.now.evaluator.caller.tree.now.nodes (path_seen at.now.path.now).steps self.now.node }
+        ensures kept { IsKeptFor self.now.evaluator.caller.tree.now self.now.evaluator.lets.now self.now.pattern.now kept.new }
+    {
+        match at.path.steps.split_last() {
+            Some((last, _)) => !self.passes_last(at, last, kept),
+            None => false,
+        }
+    }
+
+    /// Whether a live node passes the node test at which the pattern's first path ends, by what is known of the names that this accepts.
+    fn passes_last(
+        &self,
+        at: &PlacedPath<'_>,
+        last: &TypedPatternStep,
+        kept: &mut KeptSteps,
+    ) -> bool
+        requires lives { is_live self.now.evaluator.caller.tree.now.nodes self.now.node ≡ true }
+        requires placed { IsPathIn self.now.pattern.now at.now }
+        requires only { self.now.pattern.now ≡ path_seen at.now.path.now ∷ [] }
+        requires last { last_step (path_seen at.now.path.now).steps ≡ Some (pattern_step_seen last.now) }
+        requires kept { IsKeptFor self.now.evaluator.caller.tree.now self.now.evaluator.lets.now self.now.pattern.now kept.old }
+        ensures passes { result ≡ passes self.now.evaluator.caller.tree.now.nodes (pattern_step_seen last.now).axis (pattern_step_seen last.now).test self.now.node }
+        ensures kept { IsKeptFor self.now.evaluator.caller.tree.now self.now.evaluator.lets.now self.now.pattern.now kept.new }
+    {
+        let tree = self.evaluator.caller.tree;
+        let step = &last.step;
+        passes_by(tree, self.node, step.axis, &step.test, &mut kept.judged)
     }
 
     /// Whether a live node matches some path of the pattern; all are tested.
@@ -199,10 +225,10 @@ impl Matcher<'_> {
         steps: &mut Steps<L>,
     ) -> Result<bool, EvalError>
         requires lives { is_live self.now.evaluator.caller.tree.now.nodes self.now.node ≡ true }
-        requires kept { IsKeptFor self.now.evaluator.caller.tree.now.nodes self.now.evaluator.lets.now self.now.pattern.now kept.old }
+        requires kept { IsKeptFor self.now.evaluator.caller.tree.now self.now.evaluator.lets.now self.now.pattern.now kept.old }
         ensures ran { Ran (some_path self.now.evaluator.caller.tree.now.nodes self.now.evaluator.lets.now self.now.node self.now.pattern.now)
             (shown result) reads.old reads.new steps.old steps.new }
-        ensures kept { IsKeptFor self.now.evaluator.caller.tree.now.nodes self.now.evaluator.lets.now self.now.pattern.now kept.new }
+        ensures kept { IsKeptFor self.now.evaluator.caller.tree.now self.now.evaluator.lets.now self.now.pattern.now kept.new }
     {
         let mut matched = false;
         for (number, path) in self.pattern.paths().iter().enumerate() {
@@ -210,5 +236,15 @@ impl Matcher<'_> {
             matched |= here;
         }
         Ok(matched)
+    }
+}
+
+/// The kind that names test on an axis: its principal kind (XPath 1.0, section 2.3).
+fn principal_kind(axis: Axis) -> Kind
+    ensures { (kind : Option Kind) → is_kind result kind ≡ is_principal axis kind }
+{
+    match axis {
+        Axis::Attribute => Kind::Attribute,
+        _ => Kind::Element,
     }
 }

@@ -1,22 +1,24 @@
 //! The names that the tests of a pattern's steps look at (XSLT 1.0, section 5.2).
 
-ghost use Rattle.std.specs.Prelude.{◌≡◌, ◌∷◌, [], ◌||◌, ℕ, true, false, map, if◌then◌else◌, option_and_then, Some};
-ghost use Rattle.doc_tree.specs.Table.{is_live, kind_of, parent_of};
+ghost use Rattle.std.specs.Prelude.{◌≡◌, ◌∷◌, [], ◌||◌, ℕ, true, false, map, if◌then◌else◌, option_and_then, Some, OnOk};
+ghost use Rattle.doc_tree.specs.Table.{Table, kind_of, parent_of};
 ghost use Rattle.doc_tree.specs.Walks.{above};
-ghost use Rattle.doc_axes.specs.NodeTests.{is_principal, passes};
+ghost use Rattle.doc_axes.specs.NodeTests.{is_principal};
 ghost use Rattle.xp_outcome.specs.Cells.{names_on};
 ghost use Rattle.xp_outcome.specs.Evaluation.{all_reading, cell, done};
+ghost use Rattle.xp_outcome.specs.Recorded.{Recorded};
 ghost use Rattle.xp_outcome.specs.Running.{Ran};
 ghost use Rattle.xp_meaning.specs.Reads.{is_by_name};
 ghost use Rattle.xp_meaning.specs.Results.{shown_alloc};
 ghost use Rattle.xp_typed_tree.specs.TypedView.{pattern_step_seen};
-ghost use Rattle.xslt_match.specs.Names.{pattern_names, place_names, places_from, step_names};
+ghost use Rattle.xslt_match.specs.inner.Named.{all_named, is_named};
+ghost use Rattle.xslt_match.specs.Names.{HoldsNames, pattern_names, place_names, places_from, step_names};
 ghost use Rattle.xslt_ways.specs.Ways.{is_anywhere};
 
 use crate::matching::Matcher;
 use crate::one_chain::is_anywhere;
-use doc_axes::{is_principal, passes};
-use doc_tree::{Axis, Cell, NodeId, NodeTest, Tree};
+use doc_axes::is_principal;
+use doc_tree::{Axis, Cell, Kind, NodeId, Tree};
 use std::alloc::AllocError;
 use xp_calls::is_by_name;
 use xp_outcome::Recorder;
@@ -60,6 +62,66 @@ pub(crate) fn read_step_names(
         at = at.before(tree, step);
     }
     Ok(())
+}
+
+/// A node that patterns are matched against one after another, and of how many nodes from it upwards the names are recorded, where they are elements: the
+/// patterns look at the same names.
+#[derive(Clone, Copy)]
+pub struct NamesUp {
+    pub(crate) node: NodeId,
+    pub(crate) levels: usize,
+}
+
+impl NamesUp {
+    /// No name is recorded yet.
+    pub fn none(node: NodeId) -> NamesUp
+        ensures node { result.node ≡ node }
+        ensures none { (T : Table) (held : Recorded) → HoldsNames T result.node result.levels held }
+    {
+        NamesUp { node, levels: 0 }
+    }
+}
+
+/// `read_step_names`, which records nothing where the names of so many nodes from the one upwards are recorded that the steps look at no others.
+pub(crate) fn read_names_up(
+    tree: &Tree,
+    path_steps: &[TypedPatternStep],
+    n: NodeId,
+    levels: &mut usize,
+    reads: &mut Recorder,
+) -> Result<(), AllocError>
+    requires { HoldsNames tree.now.nodes n levels.old reads.old }
+    ensures ran { (count : ℕ) → Ran (all_reading (step_names tree.now.nodes n (map pattern_step_seen path_steps.now)) (done tt))
+        (shown_alloc result) reads.old reads.new count count }
+    ensures named { OnOk result (HoldsNames tree.now.nodes n levels.new reads.new) }
+{
+    if !all_named(path_steps) {
+        return read_step_names(tree, path_steps, n, reads);
+    }
+    if *levels < path_steps.len() {
+        read_step_names(tree, path_steps, n, reads)?;
+        *levels = path_steps.len();
+    }
+    Ok(())
+}
+
+/// Whether each step looks at the names of elements, and at one place.
+fn all_named(path_steps: &[TypedPatternStep]) -> bool
+    ensures { result ≡ all_named (map pattern_step_seen path_steps.now) }
+{
+    match path_steps.split_first() {
+        Some((step, rest)) => is_named(step) && all_named(rest),
+        None => true,
+    }
+}
+
+/// Whether a step looks at the name of an element, and not after `//`.
+fn is_named(step: &TypedPatternStep) -> bool
+    ensures { result ≡ is_named (pattern_step_seen step.now) }
+{
+    is_by_name(&step.step.test)
+        && !is_anywhere(step.join)
+        && is_principal(step.step.axis, Kind::Element)
 }
 
 /// Where a step can stand in a chain to a node, by the steps behind it.
@@ -183,17 +245,5 @@ fn has_principal(tree: &Tree, axis: Axis, m: NodeId) -> bool
     match tree.kind_of(m) {
         Some(kind) => is_principal(axis, kind),
         None => false,
-    }
-}
-
-/// Whether a live node, of the kind that names test on the step's axis, passes the step's test, which looks at names.
-pub(crate) fn has_name(tree: &Tree, n: NodeId, step: &TypedPatternStep) -> bool
-    requires live { is_live tree.now.nodes n ≡ true }
-    requires principal { is_principal (pattern_step_seen step.now).axis (kind_of tree.now.nodes n) ≡ true }
-    ensures { result ≡ passes tree.now.nodes (pattern_step_seen step.now).axis (pattern_step_seen step.now).test n }
-{
-    match &step.step.test {
-        NodeTest::Named { uri, local } => tree.has_name(n, uri.as_str(), local.as_str()),
-        test => passes(tree, n, step.step.axis, test),
     }
 }

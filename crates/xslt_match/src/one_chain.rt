@@ -38,10 +38,10 @@ impl Matcher<'_> {
         steps: &mut Steps<L>,
     ) -> Result<bool, EvalError>
         requires placed { IsPathIn self.now.pattern.now at.now }
-        requires kept { IsKeptFor self.now.evaluator.caller.tree.now.nodes self.now.evaluator.lets.now self.now.pattern.now kept.old }
+        requires kept { IsKeptFor self.now.evaluator.caller.tree.now self.now.evaluator.lets.now self.now.pattern.now kept.old }
         ensures ran { Ran (tests self.now.evaluator.caller.tree.now.nodes self.now.evaluator.lets.now self.now.node (path_seen at.now.path.now).steps true)
             (shown result) reads.old reads.new steps.old steps.new }
-        ensures kept { IsKeptFor self.now.evaluator.caller.tree.now.nodes self.now.evaluator.lets.now self.now.pattern.now kept.new }
+        ensures kept { IsKeptFor self.now.evaluator.caller.tree.now self.now.evaluator.lets.now self.now.pattern.now kept.new }
     {
         let all = at.path.steps.as_slice();
         let mut passed = true;
@@ -70,10 +70,10 @@ impl Matcher<'_> {
         steps: &mut Steps<L>,
     ) -> Result<bool, EvalError>
         requires placed { IsPlacedIn self.now.pattern.now at.now }
-        requires kept { IsKeptFor self.now.evaluator.caller.tree.now.nodes self.now.evaluator.lets.now self.now.pattern.now kept.old }
+        requires kept { IsKeptFor self.now.evaluator.caller.tree.now self.now.evaluator.lets.now self.now.pattern.now kept.old }
         ensures ran { Ran (survives_there self.now.evaluator.caller.tree.now.nodes self.now.evaluator.lets.now (pattern_step_seen at.now.step.now) self.now.node node)
             (shown result) reads.old reads.new steps.old steps.new }
-        ensures kept { IsKeptFor self.now.evaluator.caller.tree.now.nodes self.now.evaluator.lets.now self.now.pattern.now kept.new }
+        ensures kept { IsKeptFor self.now.evaluator.caller.tree.now self.now.evaluator.lets.now self.now.pattern.now kept.new }
     {
         match node {
             Some(k) => self.survives(at, k, kept, reads, steps),

@@ -2,7 +2,7 @@
 
 ghost use Rattle.std.specs.Prelude.{◌≡◌, ◌+◌, ◌++◌, ◌∷◌, [], ◌<◌, ℕ, Bool, List, IfSome, if◌then◌else◌};
 ghost use Rattle.doc_tree.specs.Lists.{mem};
-ghost use Rattle.doc_tree.specs.Table.{Table, parent_of};
+ghost use Rattle.doc_tree.specs.Table.{Contents, parent_of};
 ghost use Rattle.xp_outcome.specs.Evaluation.{Evaluation, bind, done};
 ghost use Rattle.xp_outcome.specs.Recorded.{nothing_read};
 ghost use Rattle.xp_outcome.specs.Running.{Ran};
@@ -47,10 +47,10 @@ impl Matcher<'_> {
         steps: &mut Steps<L>,
     ) -> Result<NodeList, EvalError>
         requires placed { IsPlacedIn self.now.pattern.now at.now }
-        requires kept { IsKeptFor self.now.evaluator.caller.tree.now.nodes self.now.evaluator.lets.now self.now.pattern.now kept.old }
+        requires kept { IsKeptFor self.now.evaluator.caller.tree.now self.now.evaluator.lets.now self.now.pattern.now kept.old }
         ensures ran { Ran (survivors self.now.evaluator.caller.tree.now.nodes self.now.evaluator.lets.now (pattern_step_seen at.now.step.now) self.now.node nodes.now)
             (shown result) reads.old reads.new steps.old steps.new }
-        ensures kept { IsKeptFor self.now.evaluator.caller.tree.now.nodes self.now.evaluator.lets.now self.now.pattern.now kept.new }
+        ensures kept { IsKeptFor self.now.evaluator.caller.tree.now self.now.evaluator.lets.now self.now.pattern.now kept.new }
     {
         let mut left = NodeList::new(self.evaluator.caller.alloc);
         for k in nodes {
@@ -70,11 +70,11 @@ impl Matcher<'_> {
         steps: &mut Steps<L>,
     ) -> Result<(), EvalError>
         requires placed { IsPlacedIn self.now.pattern.now at.now }
-        requires kept { IsKeptFor self.now.evaluator.caller.tree.now.nodes self.now.evaluator.lets.now self.now.pattern.now kept.old }
+        requires kept { IsKeptFor self.now.evaluator.caller.tree.now self.now.evaluator.lets.now self.now.pattern.now kept.old }
         ensures ran { Ran (bind (survives self.now.evaluator.caller.tree.now.nodes self.now.evaluator.lets.now (pattern_step_seen at.now.step.now) self.now.node k)
             (λ stays. done (left.old ++ (if stays then k ∷ [] else []))))
             (with_list (shown result) left.new) reads.old reads.new steps.old steps.new }
-        ensures kept { IsKeptFor self.now.evaluator.caller.tree.now.nodes self.now.evaluator.lets.now self.now.pattern.now kept.new }
+        ensures kept { IsKeptFor self.now.evaluator.caller.tree.now self.now.evaluator.lets.now self.now.pattern.now kept.new }
     {
         let stays = self.survives(at, k, kept, reads, steps)?;
         left.push_if(k, stays)?;
@@ -92,10 +92,10 @@ impl Matcher<'_> {
         steps: &mut Steps<L>,
     ) -> Result<bool, EvalError>
         requires placed { IsPlacedIn self.now.pattern.now at.now }
-        requires kept { IsKeptFor self.now.evaluator.caller.tree.now.nodes self.now.evaluator.lets.now self.now.pattern.now kept.old }
+        requires kept { IsKeptFor self.now.evaluator.caller.tree.now self.now.evaluator.lets.now self.now.pattern.now kept.old }
         ensures ran { Ran (survives self.now.evaluator.caller.tree.now.nodes self.now.evaluator.lets.now (pattern_step_seen at.now.step.now) self.now.node k)
             (shown result) reads.old reads.new steps.old steps.new }
-        ensures kept { IsKeptFor self.now.evaluator.caller.tree.now.nodes self.now.evaluator.lets.now self.now.pattern.now kept.new }
+        ensures kept { IsKeptFor self.now.evaluator.caller.tree.now self.now.evaluator.lets.now self.now.pattern.now kept.new }
     {
         let step = at.step;
         if some_positional(&step.step.predicates) {
@@ -122,11 +122,11 @@ impl Matcher<'_> {
         steps: &mut Steps<L>,
     ) -> Result<bool, EvalError>
         requires placed { IsPlacedIn self.now.pattern.now at.now }
-        requires kept { IsKeptFor self.now.evaluator.caller.tree.now.nodes self.now.evaluator.lets.now self.now.pattern.now kept.old }
+        requires kept { IsKeptFor self.now.evaluator.caller.tree.now self.now.evaluator.lets.now self.now.pattern.now kept.old }
         ensures ran { Ran (is_left self.now.evaluator.caller.tree.now.nodes (step_of self.now.evaluator.caller.tree.now.nodes self.now.evaluator.lets.now (pattern_step_seen at.now.step.now)) self.now.node k
             (parent_of self.now.evaluator.caller.tree.now.nodes k))
             (shown result) reads.old reads.new steps.old steps.new }
-        ensures kept { IsKeptFor self.now.evaluator.caller.tree.now.nodes self.now.evaluator.lets.now self.now.pattern.now kept.new }
+        ensures kept { IsKeptFor self.now.evaluator.caller.tree.now self.now.evaluator.lets.now self.now.pattern.now kept.new }
     {
         match self.evaluator.caller.tree.parent(k) {
             Some(parent) => self.left_at(at, k, parent, kept, reads, steps),
@@ -146,10 +146,10 @@ impl Matcher<'_> {
         steps: &mut Steps<L>,
     ) -> Result<bool, EvalError>
         requires placed { IsPlacedIn self.now.pattern.now at.now }
-        requires kept { IsKeptFor self.now.evaluator.caller.tree.now.nodes self.now.evaluator.lets.now self.now.pattern.now kept.old }
+        requires kept { IsKeptFor self.now.evaluator.caller.tree.now self.now.evaluator.lets.now self.now.pattern.now kept.old }
         ensures ran { Ran (is_left self.now.evaluator.caller.tree.now.nodes (step_of self.now.evaluator.caller.tree.now.nodes self.now.evaluator.lets.now (pattern_step_seen at.now.step.now)) self.now.node k (Some parent))
             (shown result) reads.old reads.new steps.old steps.new }
-        ensures kept { IsKeptFor self.now.evaluator.caller.tree.now.nodes self.now.evaluator.lets.now self.now.pattern.now kept.new }
+        ensures kept { IsKeptFor self.now.evaluator.caller.tree.now self.now.evaluator.lets.now self.now.pattern.now kept.new }
     {
         if let Some(found) = kept.find(key_at(at, parent)) {
             steps.tick_times(found.visits);
@@ -169,10 +169,10 @@ impl Matcher<'_> {
         steps: &mut Steps<L>,
     ) -> Result<bool, EvalError>
         requires placed { IsPlacedIn self.now.pattern.now at.now }
-        requires kept { IsKeptFor self.now.evaluator.caller.tree.now.nodes self.now.evaluator.lets.now self.now.pattern.now kept.old }
+        requires kept { IsKeptFor self.now.evaluator.caller.tree.now self.now.evaluator.lets.now self.now.pattern.now kept.old }
         ensures ran { Ran (is_left self.now.evaluator.caller.tree.now.nodes (step_of self.now.evaluator.caller.tree.now.nodes self.now.evaluator.lets.now (pattern_step_seen at.now.step.now)) self.now.node k (Some parent))
             (shown result) reads.old reads.new steps.old steps.new }
-        ensures kept { IsKeptFor self.now.evaluator.caller.tree.now.nodes self.now.evaluator.lets.now self.now.pattern.now kept.new }
+        ensures kept { IsKeptFor self.now.evaluator.caller.tree.now self.now.evaluator.lets.now self.now.pattern.now kept.new }
     {
         patterns_need_no_current();
         let before = steps.taken();
@@ -263,8 +263,8 @@ impl Selected {
     ) -> Result<bool, EvalError>
         ensures told { (m : Evaluation EvalFault Bool) (before after : ℕ) →
             Ran m (told self.nodes k) nothing_read self.reads before after → Ran m (shown result) reads.old reads.new before after }
-        ensures kept { (T : Table) (L : Lets) (pattern : List TypedPathTree) → IsKeptFor T L pattern kept.old →
-            IfSome visits (λ count. IsOutcomeAt T L pattern key (record { selected = self; visits = count })) → IsKeptFor T L pattern kept.new }
+        ensures kept { (C : Contents) (L : Lets) (pattern : List TypedPathTree) → IsKeptFor C L pattern kept.old →
+            IfSome visits (λ count. IsOutcomeAt C.nodes L pattern key (record { selected = self; visits = count })) → IsKeptFor C L pattern kept.new }
     {
         let told = self.tell(k, reads);
         kept.keep(key, self, visits)?;

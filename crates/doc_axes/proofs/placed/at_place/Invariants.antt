@@ -1,6 +1,6 @@
 use Rattle.std.proofs.Common.{◌≤◌, filter, take}
 use Rattle.doc_axes.specs.NodeTests.{passes}
-use Rattle.doc_axes.specs.inner.Judging.{IsJudged}
+use Rattle.doc_axes.specs.Judging.{IsJudged}
 use Rattle.doc_axes.specs.inner.Lending.{lent_nodes}
 use Rattle.doc_axes.specs.inner.Seeing.{Tells}
 use Rattle.doc_axes.proofs.placed.at_place.Given as goal

@@ -40,7 +40,7 @@ loop-number-preserved g c =
     omega (arith, c.loop-number-test.true, c.numbers_made-numbers.ensures) in
     let alone = c.loop-number.invariant.so_far.alone in
     record {
-      matches = subst (λ (L : Lets). AreKeptFor plan T p L c.go_on.new.matches) (sym c.in_ok-next.ensures.alone.lets) c.in_ok-next.ensures.matches;
+      matches = subst (λ (L : Lets). AreKeptFor plan c.args.at.now.run.caller.tree.now p L c.go_on.new.matches) (sym c.in_ok-next.ensures.alone.lets) c.in_ok-next.ensures.matches;
       so_far =
           goes_on plan T (c.refreshes_keep.ensures plan T c.requires.sound c.laws.ensures.well_formed).pairs p c.requires.ready.active
           c.rules_are_typed.ensures

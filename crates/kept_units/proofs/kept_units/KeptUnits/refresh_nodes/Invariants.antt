@@ -6,7 +6,7 @@ use Rattle.kept_units.proofs.kept_units.KeptUnits.refresh_nodes.Given as goal
 
 abbrev pub invariant-loop-number : goal.invariant-loop-number
 invariant-loop-number g l = record {
-  matches : AreKeptFor l.at.run.plan.now l.at.run.caller.tree.now.nodes l.at.pattern l.self.lets l.matches;
+  matches : AreKeptFor l.at.run.plan.now l.at.run.caller.tree.now l.at.pattern l.self.lets l.matches;
   so_far : NodesRefreshed l.at.run.plan.now l.at.run.caller.tree.now.nodes l.at.pattern l.number l.fn.self l.self l.fn.steps l.steps;
   within : l.number ≤ l.numbers;
 }

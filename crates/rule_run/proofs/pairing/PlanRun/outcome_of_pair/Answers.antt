@@ -29,10 +29,10 @@ returns-clause-counted g c = risen (shown c.first_rule-outcome.result) c.tick.en
 
 pub first_rule-outcome-requires-clause-kept : goal.first_rule-outcome-requires-clause-kept
 first_rule-outcome-requires-clause-kept g c =
-    subst (λ rules. AreKept c.args.self.now.caller.tree.now.nodes c.args.lets.now rules c.args.kept.now)
+    subst (λ rules. AreKept c.args.self.now.caller.tree.now c.args.lets.now rules c.args.kept.now)
     (sym (rules_lent c.args.self.now.plan.now c.args.p _ _ _ c.as_slice.ensures c.requires.active c.index-as_slice-p.is c.as_slice-2.ensures)) c.requires.kept
 
 pub returns-clause-kept : goal.returns-clause-kept
 returns-clause-kept g c =
-    subst (λ rules. AreKept c.args.self.now.caller.tree.now.nodes c.args.lets.now rules c.first_rule-outcome.new.kept)
+    subst (λ rules. AreKept c.args.self.now.caller.tree.now c.args.lets.now rules c.first_rule-outcome.new.kept)
     (rules_lent c.args.self.now.plan.now c.args.p _ _ _ c.as_slice.ensures c.requires.active c.index-as_slice-p.is c.as_slice-2.ensures) c.first_rule-outcome.ensures.kept

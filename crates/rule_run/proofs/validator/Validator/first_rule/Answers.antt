@@ -12,7 +12,7 @@ use Rattle.rule_run.proofs.RuleLets.{item_there, rules-next, rules-end}
 use Rattle.rule_run.proofs.validator.Validator.first_rule.Goals as goal
 
 pub loop-r-init : goal.loop-r-init
-loop-r-init g c = record { rest = onto_start _ _ _; same = refl; kept = c.requires.kept }
+loop-r-init g c = record { rest = onto_start _ _ _; same = refl; node = c.none-names.ensures.node; named = c.none-names.ensures.none c.args.self.now.caller.tree.now.nodes c.args.reads.now; kept = c.requires.kept }
 
 pub fired-requires : goal.fired-requires
 fired-requires g c = c.requires.counted _ _ (item_there _ _ _ c.loop-r-test.true c.index-rules-r.is)
@@ -35,6 +35,8 @@ loop-r-preserved g c = record {
       (onto_goes _ _ (rules-next c.args.self.now.caller.tree.now.nodes c.args.self.now.count c.loop-r.lets c.args.self.now.node c.args.rules.now c.loop-r.r c.index-rules-r.result c.loop-r-test.true c.index-rules-r.is)
       c.loop-r.invariant.rest (if_rule (λ rule. Ran (matching c.args.self.now.caller.tree.now.nodes c.loop-r.lets rule.context c.args.self.now.node) (Ok c.in_ok-matched.matched) c.loop-r.reads c.rule_matches.new.reads c.loop-r.steps c.rule_matches.new.steps) (slice_get c.args.rules.now c.loop-r.r) c.index-rules-r.result (item_there _ _ _ c.loop-r-test.true c.index-rules-r.is) c.in_ok-matched.ensures.ran));
   same = c.loop-r.invariant.same;
+  node = c.in_ok-matched.ensures.node;
+  named = c.in_ok-matched.ensures.named;
   kept = c.rule_matches.ensures.kept;
 }
 
@@ -43,10 +45,10 @@ returns-clause-ran g c =
     onto_done (onto_alike (rules-end c.args.self.now.caller.tree.now.nodes c.args.self.now.count c.loop-r.lets c.args.self.now.node c.args.rules.now c.loop-r.r c.loop-r-test.false) c.loop-r.invariant.rest)
 
 pub returns-in_err-matched-clause-kept : goal.returns-in_err-matched-clause-kept
-returns-in_err-matched-clause-kept g c = subst (λ L. AreKept c.args.self.now.caller.tree.now.nodes L c.args.rules.now c.rule_matches.new.kept) c.loop-r.invariant.same c.rule_matches.ensures.kept
+returns-in_err-matched-clause-kept g c = subst (λ L. AreKept c.args.self.now.caller.tree.now L c.args.rules.now c.rule_matches.new.kept) c.loop-r.invariant.same c.rule_matches.ensures.kept
 
 pub returns-then-matched-clause-kept : goal.returns-then-matched-clause-kept
-returns-then-matched-clause-kept g c = subst (λ L. AreKept c.args.self.now.caller.tree.now.nodes L c.args.rules.now c.rule_matches.new.kept) c.loop-r.invariant.same c.rule_matches.ensures.kept
+returns-then-matched-clause-kept g c = subst (λ L. AreKept c.args.self.now.caller.tree.now L c.args.rules.now c.rule_matches.new.kept) c.loop-r.invariant.same c.rule_matches.ensures.kept
 
 pub returns-clause-kept : goal.returns-clause-kept
-returns-clause-kept g c = subst (λ L. AreKept c.args.self.now.caller.tree.now.nodes L c.args.rules.now c.loop-r.kept) c.loop-r.invariant.same c.loop-r.invariant.kept
+returns-clause-kept g c = subst (λ L. AreKept c.args.self.now.caller.tree.now L c.args.rules.now c.loop-r.kept) c.loop-r.invariant.same c.loop-r.invariant.kept

@@ -1,4 +1,5 @@
-use Rattle.std.proofs.Common.{◌∙◌, ap, refl, sym, get_or, Some}
+use Rattle.std.proofs.Common.{◌≡◌, ◌∙◌, true, ap, refl, subst, sym, get_or, Some}
+use Rattle.doc_tree.specs.Table.{is_live}
 use Rattle.std.specs.Prelude.{slice_get}
 use Rattle.std.proofs.lemmas.Option.{slice_get-get_or}
 use Rattle.xp_outcome.specs.Running.{Ran}
@@ -11,30 +12,35 @@ use Rattle.rule_run.proofs.validator.Validator.rule_matches.Goals as goal
 
 pub matches_with-requires-clause-kept : goal.matches_with-requires-clause-kept
 matches_with-requires-clause-kept g c =
-    c.in_ok-reach.ensures.kept c.args.self.now.caller.tree.now.nodes c.args.lets.now c.args.rules.now c.requires.kept c.args.r
-    (get_or c.args.rules.now c.args.r c.index-rules-r.result) c.index_mut-kept_steps.result.now
-    (slice_get-get_or c.args.rules.now c.args.r c.index-rules-r.result c.requires.there)
-    (slice_get-get_or c.reach.new.self.rules.items c.args.r _ c.in_ok-reach.ensures.there ∙ ap Some (sym c.index_mut-kept_steps.ensures.value))
+    c.in_ok-reach.ensures.kept c.args.self.now.caller.tree.now c.args.lets.now c.args.at.now.rules.now c.requires.kept c.args.at.now.number
+    (get_or c.args.at.now.rules.now c.args.at.now.number c.index-at-r.result) c.index_mut-kept_steps.result.now
+    (slice_get-get_or c.args.at.now.rules.now c.args.at.now.number c.index-at-r.result c.requires.there)
+    (slice_get-get_or c.reach.new.self.rules.items c.args.at.now.number _ c.in_ok-reach.ensures.there ∙ ap Some (sym c.index_mut-kept_steps.ensures.value))
+
+pub matches_with-requires-clause-live : goal.matches_with-requires-clause-live
+matches_with-requires-clause-live g c = subst (λ n. is_live c.args.self.now.caller.tree.now.nodes n ≡ true) (sym c.requires.node) c.requires.live
 
 pub returns-clause-ran : goal.returns-clause-ran
 returns-clause-ran g c =
     rule_if (λ rule. Ran (matching c.args.self.now.caller.tree.now.nodes c.args.lets.now rule.context c.args.self.now.node) (shown c.matches_with.result)
     c.args.reads.now c.matches_with.new.reads c.args.steps.now c.matches_with.new.steps)
-    (slice_get c.args.rules.now c.args.r) (get_or c.args.rules.now c.args.r c.index-rules-r.result)
-    (slice_get-get_or c.args.rules.now c.args.r c.index-rules-r.result c.requires.there) c.matches_with.ensures.ran
+    (slice_get c.args.at.now.rules.now c.args.at.now.number) (get_or c.args.at.now.rules.now c.args.at.now.number c.index-at-r.result)
+    (slice_get-get_or c.args.at.now.rules.now c.args.at.now.number c.index-at-r.result c.requires.there)
+    (subst (λ n. Ran (matching c.args.self.now.caller.tree.now.nodes c.args.lets.now (get_or c.args.at.now.rules.now c.args.at.now.number c.index-at-r.result).context n) (shown c.matches_with.result)
+    c.args.reads.now c.matches_with.new.reads c.args.steps.now c.matches_with.new.steps) c.requires.node c.matches_with.ensures.ran)
 
 pub returns-clause-kept : goal.returns-clause-kept
 returns-clause-kept g c =
-    kept_replaced c.args.self.now.caller.tree.now.nodes c.args.lets.now c.args.rules.now c.reach.new.self.rules.items _ c.args.r
-    (get_or c.args.rules.now c.args.r c.index-rules-r.result) c.matches_with.new.kept
-    (slice_get-get_or c.args.rules.now c.args.r c.index-rules-r.result c.requires.there) refl c.matches_with.ensures.kept
-    (c.in_ok-reach.ensures.kept c.args.self.now.caller.tree.now.nodes c.args.lets.now c.args.rules.now c.requires.kept)
+    kept_replaced c.args.self.now.caller.tree.now c.args.lets.now c.args.at.now.rules.now c.reach.new.self.rules.items _ c.args.at.now.number
+    (get_or c.args.at.now.rules.now c.args.at.now.number c.index-at-r.result) c.matches_with.new.kept
+    (slice_get-get_or c.args.at.now.rules.now c.args.at.now.number c.index-at-r.result c.requires.there) refl c.matches_with.ensures.kept
+    (c.in_ok-reach.ensures.kept c.args.self.now.caller.tree.now c.args.lets.now c.args.at.now.rules.now c.requires.kept)
 
 pub returns-in_err-reach-clause-ran : goal.returns-in_err-reach-clause-ran
 returns-in_err-reach-clause-ran g c =
     each_if (λ rule. Ran (matching c.args.self.now.caller.tree.now.nodes c.args.lets.now rule.context c.args.self.now.node) (shown c.from_residual.result)
     c.args.reads.now c.args.reads.now c.args.steps.now c.args.steps.now)
-    (slice_get c.args.rules.now c.args.r) (λ rule. exit_memory _ c.from_residual.ensures.1 (ran_late _ _ _))
+    (slice_get c.args.at.now.rules.now c.args.at.now.number) (λ rule. exit_memory _ c.from_residual.ensures.1 (ran_late _ _ _))
 
 pub returns-in_err-reach-clause-kept : goal.returns-in_err-reach-clause-kept
-returns-in_err-reach-clause-kept g c = c.in_err-reach.ensures.kept c.args.self.now.caller.tree.now.nodes c.args.lets.now c.args.rules.now c.requires.kept
+returns-in_err-reach-clause-kept g c = c.in_err-reach.ensures.kept c.args.self.now.caller.tree.now c.args.lets.now c.args.at.now.rules.now c.requires.kept

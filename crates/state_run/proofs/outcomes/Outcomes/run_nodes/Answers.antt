@@ -4,4 +4,4 @@ use Rattle.state_run.proofs.outcomes.Outcomes.run_nodes.Goals as goal
 
 pub run_numbers-done-requires-clause-matches : goal.run_numbers-done-requires-clause-matches
 run_numbers-done-requires-clause-matches g c =
-    c.new-matches.ensures c.args.at.now.run.caller.tree.now.nodes c.args.self.now.lets (rules_of c.args.at.now.run.plan.now c.args.at.now.pattern)
+    c.new-matches.ensures c.args.at.now.run.caller.tree.now c.args.self.now.lets (rules_of c.args.at.now.run.plan.now c.args.at.now.pattern)

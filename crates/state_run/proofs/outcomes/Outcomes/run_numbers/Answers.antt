@@ -40,7 +40,7 @@ loop-number-preserved g c =
     let ran = c.in_ok-run_node.ensures in
     record {
       lets = ran.lets ∙ c.loop-number.invariant.lets;
-      matches = subst (λ (L : Lets). AreKeptFor plan T p L c.run_node.new.matches) (sym ran.lets) ran.matches;
+      matches = subst (λ (L : Lets). AreKeptFor plan c.args.at.now.run.caller.tree.now p L c.run_node.new.matches) (sym ran.lets) ran.matches;
       found = subst (λ (n : ℕ). HoldsTo plan T p (n + 1) c.run_node.new.self.found) c.from_number.ensures ran.found;
       raised =
           raised_turn plan T (nodes_below T p) (under_node T p) (node_more T p) c.loop-number.number c.args.steps.now c.loop-number.steps

@@ -9,7 +9,7 @@ use Rattle.state_run.proofs.outcomes.Outcomes.run_numbers.Given as goal
 abbrev pub invariant-loop-number : goal.invariant-loop-number
 invariant-loop-number g l = record {
   lets : l.self.lets ≡ l.fn.self.lets;
-  matches : AreKeptFor l.at.run.plan.now l.at.run.caller.tree.now.nodes l.at.pattern l.self.lets l.matches;
+  matches : AreKeptFor l.at.run.plan.now l.at.run.caller.tree.now l.at.pattern l.self.lets l.matches;
   found : HoldsTo l.at.run.plan.now l.at.run.caller.tree.now.nodes l.at.pattern l.number l.self.found;
   raised : Raised l.at.run.plan.now l.at.run.caller.tree.now.nodes (nodes_below l.at.run.caller.tree.now.nodes l.at.pattern l.number) l.fn.steps
       l.steps;

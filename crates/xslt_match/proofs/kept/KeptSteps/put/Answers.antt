@@ -5,10 +5,16 @@ use Rattle.xslt_match.proofs.Keeping.{kept_put}
 use Rattle.xslt_match.proofs.kept.KeptSteps.put.Goals as goal
 
 pub returns : goal.returns
-returns c = λ T L ps kept outcome.
-    subst (Each (λ e. IsOutcomeAt T L ps e.0 e.1)) (sym c.in_ok-insert.ensures.entries)
-    (kept_put T L ps c.make_room.new.self.steps.entries c.args.key c.args.kept (c.make_room.ensures T L ps kept) outcome)
+returns c = λ C L ps kept outcome.
+    let there = c.make_room.ensures C L ps kept in
+    record {
+      selected = subst (Each (λ e. IsOutcomeAt C.nodes L ps e.0 e.1)) (sym c.in_ok-insert.ensures.entries)
+          (kept_put C.nodes L ps c.make_room.new.self.steps.entries c.args.key c.args.kept there.selected outcome);
+      judged = there.judged;
+      kind = there.kind;
+    }
 
 pub returns-in_err-insert : goal.returns-in_err-insert
-returns-in_err-insert c = λ T L ps kept outcome.
-    subst (Each (λ e. IsOutcomeAt T L ps e.0 e.1)) (sym c.in_err-insert.ensures.err) (c.make_room.ensures T L ps kept)
+returns-in_err-insert c = λ C L ps kept outcome.
+    let there = c.make_room.ensures C L ps kept in
+    record { selected = subst (Each (λ e. IsOutcomeAt C.nodes L ps e.0 e.1)) (sym c.in_err-insert.ensures.err) there.selected; judged = there.judged; kind = there.kind }

@@ -14,7 +14,7 @@ returns-clause-kept g c =
     let L = c.args.self.now.evaluator.lets.now in
     let ps = c.args.self.now.pattern.now in
     let ran = c.in_ok-selected.ensures in
-    c.tell_and_keep.ensures.kept T L ps c.requires.kept
+    c.tell_and_keep.ensures.kept c.args.self.now.evaluator.caller.tree.now L ps c.requires.kept
     (rw c.key_at-key.ensures
     (visits_known _ c.visits_between-visits.result c.args.steps.now c.select.new.steps c.taken-before.result c.taken.result
     c.visits_between-visits.ensures c.taken-before.ensures c.taken.ensures (ran_later _ (ran c.args.k)).0

@@ -1,1 +1,42 @@
+use Rattle.std.proofs.Common.{◌∙◌, ap, map, sym}
+use Rattle.xp_typed_tree.specs.TypedView.{path_seen, pattern_step_seen}
+use Rattle.xp_outcome.specs.Evaluation.{all_reading}
+use Rattle.xp_outcome.specs.Running.{no_memory}
+use Rattle.xp_outcome.proofs.Runs.{ran_alike, ran_done}
+use Rattle.xp_meaning.proofs.Exits.{exit_memory}
+use Rattle.xslt_match.specs.Matching.{path_matches}
+use Rattle.xslt_match.specs.Names.{step_names}
+use Rattle.xslt_match.proofs.Chaining.{chains_elsewhere}
+use Rattle.xslt_match.proofs.NameReads.{read_err, read_ok}
+use Rattle.xslt_match.proofs.Recording.{holds_ran}
 use Rattle.xslt_match.proofs.matching.Matcher.one_path.Goals as goal
+
+pub returns-then-looks_elsewhere-clause-ran : goal.returns-then-looks_elsewhere-clause-ran
+returns-then-looks_elsewhere-clause-ran g c = ran_alike (c.looks_elsewhere.ensures.elsewhere c.if-looks_elsewhere.true) (ran_done _ _ _)
+
+pub returns-in_err-read_names_up-clause-ran : goal.returns-in_err-read_names_up-clause-ran
+returns-in_err-read_names_up-clause-ran g c =
+    let T = c.args.self.now.evaluator.caller.tree.now.nodes in
+    let m = path_matches T c.args.self.now.evaluator.lets.now c.args.self.now.node (path_seen c.args.at.now.path.now) in
+    exit_memory c.from_residual.result c.from_residual.ensures.1
+    (ran_alike (ap (λ ss. all_reading (step_names T c.args.self.now.node (map pattern_step_seen ss)) m) (sym c.deref.ensures.value))
+    (read_err _ tt m no_memory (c.in_err-read_names_up.ensures.ran _)))
+
+pub returns-then-ends_elsewhere-clause-ran : goal.returns-then-ends_elsewhere-clause-ran
+returns-then-ends_elsewhere-clause-ran g c =
+    let T = c.args.self.now.evaluator.caller.tree.now.nodes in
+    let m = path_matches T c.args.self.now.evaluator.lets.now c.args.self.now.node (path_seen c.args.at.now.path.now) in
+    ran_alike (ap (λ ss. all_reading (step_names T c.args.self.now.node (map pattern_step_seen ss)) m) (sym c.deref.ensures.value))
+    (read_ok _ tt m (c.in_ok-read_names_up.ensures.ran _)
+    (ran_alike (chains_elsewhere T c.args.self.now.node c.args.self.now.evaluator.lets.now _ _ _ (sym c.ends_elsewhere.ensures.ends ∙ c.if-ends_elsewhere.true)) (ran_done _ _ _)))
+
+pub returns-clause-ran : goal.returns-clause-ran
+returns-clause-ran g c =
+    let T = c.args.self.now.evaluator.caller.tree.now.nodes in
+    let m = path_matches T c.args.self.now.evaluator.lets.now c.args.self.now.node (path_seen c.args.at.now.path.now) in
+    ran_alike (ap (λ ss. all_reading (step_names T c.args.self.now.node (map pattern_step_seen ss)) m) (sym c.deref.ensures.value))
+    (read_ok _ tt m (c.in_ok-read_names_up.ensures.ran _) c.chain_matches.ensures.ran)
+
+pub returns-clause-named : goal.returns-clause-named
+returns-clause-named g c =
+    holds_ran c.args.self.now.evaluator.caller.tree.now.nodes c.args.self.now.node c.read_names_up.new.levels c.chain_matches.result c.chain_matches.ensures.ran c.in_ok-read_names_up.ensures.named

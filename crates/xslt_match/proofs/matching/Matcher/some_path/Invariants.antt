@@ -12,5 +12,5 @@ invariant-loop-number g l = record {
   rest : Onto (some_path l.fn.self.evaluator.caller.tree.now.nodes l.fn.self.evaluator.lets.now l.fn.self.node l.fn.self.pattern.now) l.initial.reads l.initial.steps
       (bind (some_path l.fn.self.evaluator.caller.tree.now.nodes l.fn.self.evaluator.lets.now l.fn.self.node (paths_seen (drop l.number l.path-items))) (λ later. done (l.matched || later))) l.reads l.steps;
   typed : PathsTyped (paths_seen (drop l.number l.path-items));
-  kept : IsKeptFor l.fn.self.evaluator.caller.tree.now.nodes l.fn.self.evaluator.lets.now l.fn.self.pattern.now l.kept;
+  kept : IsKeptFor l.fn.self.evaluator.caller.tree.now l.fn.self.evaluator.lets.now l.fn.self.pattern.now l.kept;
 }

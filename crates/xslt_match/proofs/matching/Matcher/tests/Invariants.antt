@@ -12,7 +12,7 @@ invariant-loop-step g l = record {
       (tests l.fn.self.evaluator.caller.tree.now.nodes l.fn.self.evaluator.lets.now l.fn.self.node (map pattern_step_seen l.later) l.passed) l.reads l.steps;
   typed : PatternStepsTyped (map pattern_step_seen l.later);
   later : l.later ≡ drop (length l.all - length l.later) l.all;
-  kept : IsKeptFor l.fn.self.evaluator.caller.tree.now.nodes l.fn.self.evaluator.lets.now l.fn.self.pattern.now l.kept;
+  kept : IsKeptFor l.fn.self.evaluator.caller.tree.now l.fn.self.evaluator.lets.now l.fn.self.pattern.now l.kept;
 }
 
 abbrev pub decreases-loop-step : goal.decreases-loop-step
