@@ -1,5 +1,5 @@
 -- The kids before and after a node, and the axes of siblings.
-use Rattle.std.proofs.Common.{◌≡◌, ℕ, ◌+◌, ◌<◌, ◌≤◌, suc, Bool, true, false, not, cond, ◌||◌, ◌&&◌, List, [], ◌∷◌, ◌++◌, ◌⊎◌, length, take, drop, eqb, ltb, ltb-true, ltb-false, Option, None, Some, refl, sym, ap, ◌∙◌, subst, ⊎_elim, true≢false, arith, add-one, eq-eqb, append_assoc, inl, inr}
+use Rattle.std.proofs.Common.{◌≡◌, ℕ, ◌+◌, ◌<◌, ◌≤◌, zero, suc, get_or, lt-ltb, Bool, true, false, not, cond, ◌||◌, ◌&&◌, List, [], ◌∷◌, ◌++◌, ◌⊎◌, length, take, drop, eqb, ltb, ltb-true, ltb-false, Option, None, Some, refl, sym, ap, ◌∙◌, subst, ⊎_elim, true≢false, arith, add-one, eq-eqb, append_assoc, inl, inr}
 use Rattle.std.specs.Prelude.{position}
 use Rattle.std.specs.List.{prefix_len}
 use Rattle.std.proofs.Math.Numerals.{one-add}
@@ -9,7 +9,7 @@ use Rattle.doc_tree.specs.Table.{Table, attrs_of, kids_above, kids_of, parent_of
 use Rattle.doc_tree.specs.Walks.{order}
 use Rattle.doc_tree.specs.Order.{after, Nested}
 use Rattle.doc_tree.specs.Laws.{WellFormed, Ordered, HasWaysUp}
-use Rattle.doc_tree.proofs.ListLemmas.{In, In-mem, mem-In, In-cons, In-append, occurs-append, occurs-head}
+use Rattle.doc_tree.proofs.ListLemmas.{In, In-mem, mem-In, mem-get, In-cons, In-append, occurs-append, occurs-head}
 use Rattle.doc_tree.proofs.OrderLemmas.{Apart, SplitAt, split_at, after-split, after-self, apart-after}
 use Rattle.doc_axes.specs.Axes.{backwards, is_attribute, kids_beside, on_axis, axis_order, axis_nodes}
 use Rattle.doc_axes.specs.Siblings.{before, kids_before, kids_behind}
@@ -43,6 +43,25 @@ cut n (x ∷ xs) = by (eqb n x) refl (cut n xs)
       absent = λ h. rw e (omega (arith, rest.absent (rw e at h)));
       there = λ h. rw e (omega (arith, rest.there (rw e at h)));
     }
+
+-- a number that stands once in a list is first found where it stands
+stands_first : (n : ℕ) (xs : List ℕ) (i d : ℕ) → occurs n xs ≤ 1 → i < length xs → get_or xs i d ≡ n → first_place n xs ≡ i
+stands_first n [] i d once below there = absurd (omega (arith, below))
+stands_first n (x ∷ xs) zero d once below there = rw (eq-eqb n x (sym there)) refl
+stands_first n (x ∷ xs) (suc i) d once below there = by (eqb n x) once (stands_first n xs i d)
+  where
+    inside : 1 ≤ occurs n xs
+    inside = mem-In n xs (subst (λ m. mem m xs ≡ true) there (mem-get xs i d (omega (arith, below))))
+
+    by : (b : Bool) → cond b 1 0 + occurs n xs ≤ 1 → (occurs n xs ≤ 1 → i < length xs → get_or xs i d ≡ n → first_place n xs ≡ i) →
+        cond (not b) (1 + first_place n xs) 0 ≡ suc i
+    by true few more = absurd (omega (arith, few, inside))
+    by false few more = rw one-add (ap suc (more (omega (arith, few)) (omega (arith, below)) there))
+
+pub placed_once : (n : ℕ) (xs : List ℕ) (i d : ℕ) → occurs n xs ≤ 1 → i < length xs → get_or xs i d ≡ n → position (λ x. eqb n x) xs ≡ Some i
+placed_once n xs i d once below there =
+    subst (λ k. cond (ltb k (length xs)) (Some k) None ≡ Some i) (sym (stands_first n xs i d once below there))
+    (ap (λ b. cond b (Some i) None) (lt-ltb i (length xs) below))
 
 -- a list cut at the place of one of its numbers
 pub record CutAt (n : ℕ) (xs : List ℕ) (i : ℕ) : Type 0 where

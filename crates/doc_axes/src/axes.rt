@@ -1,6 +1,7 @@
 //! The nodes on an axis (XPath 1.0, section 2.2).
 
 ghost use Rattle.std.specs.Prelude.{◌≡◌, ◌∷◌, ◌++◌, true, IfOk, OnOk};
+ghost use Rattle.doc_tree.specs.Lists.{Distinct};
 ghost use Rattle.doc_tree.specs.Table.{is_live, kids_of};
 ghost use Rattle.doc_tree.specs.Walks.{ancestors};
 ghost use Rattle.doc_tree.specs.declared.axes.Axis.TheVariants as axes;
@@ -97,8 +98,10 @@ fn push_parent(tree: &Tree, list: &mut NodeList, n: NodeId) -> Result<(), AllocE
 /// The kids of the node's parent, none for an attribute and for the root.
 pub(crate) fn kids_beside(tree: &Tree, n: NodeId) -> &[NodeId]
     requires { is_live tree.now.nodes n ≡ true }
-    ensures { result.now ≡ kids_beside tree.now.nodes n }
+    ensures beside { result.now ≡ kids_beside tree.now.nodes n }
+    ensures once { Distinct result.now }
 {
+    tree.laws();
     if tree.kind(n) == Kind::Attribute {
         return &[];
     }

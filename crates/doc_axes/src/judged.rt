@@ -1,9 +1,10 @@
 //! What a node test says of names, kept while nodes are tested one after another (XPath 1.0, section 2.3).
 
-ghost use Rattle.std.specs.Prelude.{◌≡◌, ◌<◌, ℕ, List, Some, false, length, true};
-ghost use Rattle.doc_tree.specs.Table.{Name, is_live, name_of, numbered};
+ghost use Rattle.std.specs.Prelude.{◌≡◌, ◌<◌, ◌≤◌, ℕ, List, Some, false, length, take, true};
+ghost use Rattle.doc_tree.specs.Lists.{mem};
+ghost use Rattle.doc_tree.specs.Table.{Name, is_live, kind_of, name_of, numbered};
 ghost use Rattle.doc_tree.specs.declared.axes.NodeTest.{NodeTest as AnyTest};
-ghost use Rattle.doc_axes.specs.NodeTests.{named, passes};
+ghost use Rattle.doc_axes.specs.NodeTests.{is_principal, named, passes};
 ghost use Rattle.doc_axes.specs.Judging.{IsJudged, accepts};
 
 use crate::node_test::{is_principal, passes};
@@ -50,7 +51,32 @@ fn is_accepted(tree: &Tree, n: NodeId, axis: Axis, judged: &Judged) -> bool
     }
 }
 
-/// The same by a look at the node's kind and name.
+/// How many of some nodes stand before the first that isn't of the axis's principal kind with the name that was accepted last. One look at each; none
+/// of attributes, which are few.
+pub(crate) fn accepted_in_front(tree: &Tree, axis: Axis, nodes: &[NodeId], judged: &Judged) -> usize
+    ensures within { result ≤ length nodes.now }
+    ensures accepted { (node_test : AnyTest) → IsJudged tree.now.names node_test judged.now →
+        (n : ℕ) → mem n (take result nodes.now) ≡ true → passes tree.now.nodes axis node_test n ≡ true }
+{
+    match judged.accepted {
+        Some(accepted) => named_in_front(tree, axis, nodes, accepted),
+        None => 0,
+    }
+}
+
+/// The same for the name that has this number.
+fn named_in_front(tree: &Tree, axis: Axis, nodes: &[NodeId], name: NameId) -> usize
+    ensures within { result ≤ length nodes.now }
+    ensures principal { (n : ℕ) → mem n (take result nodes.now) ≡ true → is_principal axis (kind_of tree.now.nodes n) ≡ true }
+    ensures named { (n : ℕ) → mem n (take result nodes.now) ≡ true → name_of tree.now.nodes n ≡ Some (numbered tree.now.names name) }
+{
+    match axis {
+        Axis::Attribute => 0,
+        _ => tree.elements_named(nodes, name),
+    }
+}
+
+/// `passes_by` by a look at the node's kind and name.
 fn passes_anew(tree: &Tree, n: NodeId, axis: Axis, test: &NodeTest, judged: &mut Judged) -> bool
     requires live { is_live tree.now.nodes n ≡ true }
     requires judged { IsJudged tree.now.names test.now judged.old }

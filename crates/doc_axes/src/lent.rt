@@ -1,6 +1,6 @@
 //! Nodes on an axis that the tree keeps as a list (XPath 1.0, section 2.2).
 
-ghost use Rattle.std.specs.Prelude.{◌≡◌, ◌<◌, true, length, slice_index_or, IfSome};
+ghost use Rattle.std.specs.Prelude.{◌≡◌, ◌<◌, ◌≤◌, true, drop, length, slice_index_or, IfSome};
 ghost use Rattle.doc_tree.specs.Table.{is_live};
 ghost use Rattle.doc_axes.specs.Axes.{axis_nodes, backwards};
 ghost use Rattle.doc_axes.specs.inner.Lending.{lent_nodes};
@@ -69,6 +69,18 @@ impl<'t> Lent<'t> {
             self.nodes[self.nodes.len() - 1 - place]
         } else {
             self.nodes[place]
+        }
+    }
+
+    /// Those behind so many, in the same order.
+    pub(crate) fn behind(self, count: usize) -> Lent<'t>
+        requires { count ≤ length (lent_nodes self) }
+        ensures { lent_nodes result ≡ drop count (lent_nodes self.entry) }
+    {
+        if self.from_end {
+            Lent::from_end(self.nodes.split_at(self.nodes.len() - count).0)
+        } else {
+            Lent::from_start(self.nodes.split_at(count).1)
         }
     }
 }

@@ -15,7 +15,7 @@ mod walks;
 pub use axes::axis_nodes;
 pub use judged::{Judged, passes_by};
 pub use laws::{axes_by_cells, axes_partition};
-pub use node_test::{is_principal, passes};
+pub use node_test::{is_principal, passes, principal_kind};
 pub use passing::push_passing;
 pub use placed::{Placed, passing_at};
 pub use sets::{into_document_order, union_in_order};

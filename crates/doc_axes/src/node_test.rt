@@ -1,6 +1,7 @@
 //! Node tests (XPath 1.0, section 2.3).
 
-ghost use Rattle.std.specs.Prelude.{◌≡◌, true, Some, bytes_eq};
+ghost use Rattle.std.specs.Prelude.{◌≡◌, Option, true, Some, bytes_eq};
+ghost use Rattle.doc_tree.specs.Kinds.{is_kind};
 ghost use Rattle.doc_tree.specs.Table.{is_live, name_of};
 ghost use Rattle.doc_axes.specs.NodeTests.{passes, is_principal, named};
 
@@ -34,6 +35,16 @@ pub fn is_principal(axis: Axis, kind: Kind) -> bool
     match axis {
         Axis::Attribute => kind == Kind::Attribute,
         _ => kind == Kind::Element,
+    }
+}
+
+/// The kind that names test on the axis: its principal kind (XPath 1.0, section 2.3).
+pub fn principal_kind(axis: Axis) -> Kind
+    ensures { (kind : Option Kind) → is_kind result kind ≡ is_principal axis kind }
+{
+    match axis {
+        Axis::Attribute => Kind::Attribute,
+        _ => Kind::Element,
     }
 }
 

@@ -1,15 +1,17 @@
 //! The node at a place among those on an axis that pass a node test, found without a list of them (XPath 1.0, sections 2.3 and 2.4).
 
-ghost use Rattle.std.specs.Prelude.{◌≡◌, ◌+◌, ◌<◌, ◌++◌, ◌∷◌, [], ℕ, List, true, filter, IfSome};
+ghost use Rattle.std.specs.Prelude.{◌≡◌, ◌+◌, ◌<◌, ◌++◌, ◌∷◌, ◌≤◌, [], ℕ, List, true, false, filter, is_none, length, IfSome};
+ghost use Rattle.std.specs.Bool.{OnTrue};
 ghost use Rattle.doc_tree.specs.Lists.{mem};
 ghost use Rattle.doc_tree.specs.Table.{is_live};
 ghost use Rattle.doc_axes.specs.Axes.{axis_nodes};
+ghost use Rattle.doc_axes.specs.Judging.{IsJudged};
 ghost use Rattle.doc_axes.specs.NodeTests.{passes};
 ghost use Rattle.doc_axes.specs.Places.{IsPlaced};
 ghost use Rattle.doc_axes.specs.inner.Lending.{lent_nodes};
 ghost use Rattle.doc_axes.specs.inner.Seeing.{Tells};
 
-use crate::judged::{Judged, passes_by};
+use crate::judged::{Judged, accepted_in_front, passes_by};
 use crate::lent::{Lent, lent_nodes};
 use doc_tree::{Axis, NodeId, NodeTest, Tree};
 
@@ -48,7 +50,7 @@ pub fn passing_at(
     Some(at_place(tree, axis, test, lent, place))
 }
 
-/// The node at the place among those of some live nodes that pass the test.
+/// The node at the place among those of some live nodes that pass the test. Where it is found, those behind it are only counted.
 fn at_place(tree: &Tree, axis: Axis, test: &NodeTest, lent: Lent<'_>, place: usize) -> Placed
     requires { (m : ℕ) → mem m (lent_nodes lent) ≡ true → is_live tree.now.nodes m ≡ true }
     ensures { IsPlaced place (lent_nodes lent.entry) (filter (passes tree.now.nodes axis test.now) (lent_nodes lent.entry)) result }
@@ -56,17 +58,45 @@ fn at_place(tree: &Tree, axis: Axis, test: &NodeTest, lent: Lent<'_>, place: usi
     let on_axis = lent.len();
     let mut judged = Judged::nothing();
     let mut seen = Seen::nothing(place);
-    for next in 0..on_axis {
+    let mut next = 0;
+    while seen.seeks(next, on_axis) {
         let n = lent.at(next);
         if passes_by(tree, n, axis, test, &mut judged) {
             seen.see(n);
         }
+        next += 1;
     }
+    let rest = lent.behind(next);
+    let more = count_passing(tree, axis, test, rest.nodes, &mut judged);
     Placed {
         on_axis,
-        passing: seen.count,
+        passing: seen.count + more,
         node: seen.node,
     }
+}
+
+/// How many of some live nodes pass the test. Elements with the name that was accepted last cost a look each where one follows another.
+fn count_passing(
+    tree: &Tree,
+    axis: Axis,
+    test: &NodeTest,
+    nodes: &[NodeId],
+    judged: &mut Judged,
+) -> usize
+    requires live { (m : ℕ) → mem m nodes.now ≡ true → is_live tree.now.nodes m ≡ true }
+    requires judged { IsJudged tree.now.names test.now judged.old }
+    ensures counted { result ≡ length (filter (passes tree.now.nodes axis test.now) nodes.now) }
+    ensures few { result ≤ length nodes.now }
+{
+    let mut count = 0;
+    let mut place = 0;
+    while place < nodes.len() {
+        let passes = passes_by(tree, nodes[place], axis, test, judged);
+        let more = accepted_in_front(tree, axis, nodes.split_at(place + 1).1, judged);
+        count += usize::from(passes) + more;
+        place += 1 + more;
+    }
+    count
 }
 
 impl Seen {
@@ -79,6 +109,14 @@ impl Seen {
             count: 0,
             node: None,
         }
+    }
+
+    /// Whether the node at the place is not seen yet, and some of so many nodes are left.
+    fn seeks(&self, next: usize, end: usize) -> bool
+        ensures left { OnTrue result (next < end) }
+        ensures found { result ≡ false → is_none self.now.node ≡ true → end ≤ next }
+    {
+        self.node.is_none() && next < end
     }
 
     /// One more node passes.

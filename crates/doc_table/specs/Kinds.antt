@@ -1,8 +1,8 @@
 -- Tests of kinds, which fail where no node lives.
-use Rattle.std.specs.Prelude.{◌==◌, Bool, true, false, ◌&&◌, Option, None, Some, count_by}
+use Rattle.std.specs.Prelude.{◌≡◌, ℕ, ◌==◌, Bool, true, false, ◌&&◌, Option, None, Some, count_by}
 use Rattle.doc_table.specs.declared.kind.Kind.{Kind}
 use Rattle.doc_table.specs.declared.kind.Kind.TheVariants.{Root, Element, Attribute, Text, Comment, Pi}
-use Rattle.doc_table.specs.Table.{Table, kids_of, kind_of}
+use Rattle.doc_table.specs.Table.{Table, Name, kids_of, kind_of, name_of}
 
 -- whether there is a kind, and it is this one
 abbrev pub is_kind : Kind → Option Kind → Bool
@@ -48,3 +48,8 @@ has_own_name (Some Pi) = false
 abbrev pub is_document : Table → Bool
 is_document T =
     (count_by (λ k. is_element (kind_of T k)) (kids_of T 0) == 1) && (count_by (λ k. is_text (kind_of T k)) (kids_of T 0) == 0)
+
+-- a node is an element with this name
+pub record IsElementNamed (T : Table) (own : Name) (n : ℕ) : Type 0 where
+  pub kind : kind_of T n ≡ Some Element
+  pub name : name_of T n ≡ Some own

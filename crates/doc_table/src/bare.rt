@@ -1,8 +1,11 @@
 //! The bare table, and its reading calls.
 
-ghost use Rattle.std.specs.Prelude.{◌≡◌, ◌<◌, ◌≤◌, ℕ, true, length, Some, None, IfOk, IfSome, OnErr, slice_index_or};
+ghost use Rattle.std.specs.Prelude.{◌≡◌, ◌<◌, ◌≤◌, ℕ, true, length, take, Some, None, IfOk, IfSome, OnErr, slice_index_or};
+ghost use Rattle.std.specs.Bool.{OnTrue};
 ghost use Rattle.std.specs.Option.{option_copied, option_map};
 ghost use Rattle.doc_names.specs.Numbering.{Numbered};
+ghost use Rattle.doc_table.specs.Kinds.{IsElementNamed};
+ghost use Rattle.doc_table.specs.Lists.{mem};
 ghost use Rattle.doc_table.specs.Table.{root_alone, kind_of, name_of, parent_of, kids_of, attrs_of, content_of, value_of, decls_of, is_live, numbered};
 ghost use Rattle.doc_table.specs.Walks.{order, ancestors, characters_in, text_bytes};
 ghost use Rattle.doc_table.specs.declared.limits.TheConstants.{MAX_LIVE_TEXT_BYTES};
@@ -177,6 +180,28 @@ impl Bare {
         ensures known { IsSound self.now → IfSome result (λ id. id < length self.now.names) }
     {
         self.node(n)?.content.name()
+    }
+
+    /// Whether a node is an element with the name that has this number.
+    fn is_element_named(&self, n: NodeId, name: NameId) -> bool
+        ensures { OnTrue result (IsElementNamed (table_of self.now) (numbered self.now.names name) n) }
+    {
+        match self.node(n) {
+            Some(node) => node.content.is_element_named(name),
+            None => false,
+        }
+    }
+
+    /// How many of some nodes stand before the first that is no element with the name that has this number. One look at each.
+    pub fn elements_named(&self, nodes: &[NodeId], name: NameId) -> usize
+        ensures within { result ≤ length nodes.now }
+        ensures named { (n : ℕ) → mem n (take result nodes.now) ≡ true → IsElementNamed (table_of self.now) (numbered self.now.names name) n }
+    {
+        let mut count = 0;
+        while count < nodes.len() && self.is_element_named(nodes[count], name) {
+            count += 1;
+        }
+        count
     }
 
     /// The prefix of a name, empty where it has none.

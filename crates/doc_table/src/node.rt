@@ -1,7 +1,9 @@
 //! A node as a tree keeps it.
 
 ghost use Rattle.std.specs.Prelude.{◌≡◌, ◌<◌, ℕ, List, IfSome, Some};
+ghost use Rattle.std.specs.Bool.{OnTrue};
 ghost use Rattle.std.specs.Option.{option_map};
+ghost use Rattle.doc_table.specs.declared.kind.Kind.TheVariants as kinds;
 ghost use Rattle.doc_table.specs.Table.{kind_in, name_in, value_in, decls_in, numbered, Name};
 ghost use Rattle.doc_table.specs.Walks.{characters_in};
 ghost use Rattle.doc_table.specs.inner.Views.{content_seen};
@@ -140,6 +142,18 @@ impl NodeContent {
             | NodeContent::Attribute(name, _)
             | NodeContent::Pi(name, _) => Some(*name),
             NodeContent::Root | NodeContent::Text(_) | NodeContent::Comment(_) => None,
+        }
+    }
+
+    /// Whether it is an element's, with the name that has this number.
+    pub fn is_element_named(&self, name: NameId) -> bool
+        ensures kind { OnTrue result ((names : List Name) → kind_in (content_seen names self.now) ≡ kinds.Element) }
+        ensures name { OnTrue result ((names : List Name) → name_in (content_seen names self.now) ≡ Some (numbered names name)) }
+    {
+        match self {
+            NodeContent::Element(own, _) => *own == name,
+            NodeContent::Root | NodeContent::Attribute(_, _) | NodeContent::Text(_) => false,
+            NodeContent::Comment(_) | NodeContent::Pi(_, _) => false,
         }
     }
 

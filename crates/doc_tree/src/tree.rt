@@ -1,10 +1,11 @@
 //! The tree, and its reading calls.
 
-ghost use Rattle.std.specs.Prelude.{◌≡◌, ◌<◌, true, length, Some, IfOk, IfSome, OnErr};
+ghost use Rattle.std.specs.Prelude.{◌≡◌, ◌<◌, ◌≤◌, ℕ, true, length, take, Some, IfOk, IfSome, OnErr};
 ghost use Rattle.std.specs.Option.{option_map};
 ghost use Rattle.doc_table.specs.Table.{root_alone, kind_of, name_of, parent_of, kids_of, attrs_of, value_of, is_live, numbered};
 ghost use Rattle.doc_names.specs.Numbering.{Numbered};
-ghost use Rattle.doc_table.specs.Kinds.{is_document, is_element, is_kind};
+ghost use Rattle.doc_table.specs.Kinds.{IsElementNamed, is_document, is_element, is_kind};
+ghost use Rattle.doc_table.specs.Lists.{mem};
 ghost use Rattle.doc_tree.specs.NameTests.{has_name};
 ghost use Rattle.doc_table.specs.Walks.{order};
 
@@ -152,6 +153,14 @@ impl Tree {
             Some(name) => self.local_of(name) == local && self.uri_of(name) == uri,
             None => false,
         }
+    }
+
+    /// How many of some nodes stand before the first that is no element with the name that has this number. One look at each.
+    pub fn elements_named(&self, nodes: &[NodeId], name: NameId) -> usize
+        ensures within { result ≤ length nodes.now }
+        ensures named { (n : ℕ) → mem n (take result nodes.now) ≡ true → IsElementNamed self.now.nodes (numbered self.now.names name) n }
+    {
+        self.bare.elements_named(nodes, name)
     }
 
     /// The prefix of a name, empty where it has none.

@@ -18,12 +18,12 @@ pub returns-in-FollowingSibling : goal.returns-in-FollowingSibling
 returns-in-FollowingSibling c =
     c.from_start-in-FollowingSibling.ensures
     ∙ (c.kids_behind.ensures
-    ∙ (ap (kids_behind c.args.n) c.kids_beside.ensures
+    ∙ (ap (kids_behind c.args.n) c.kids_beside.ensures.beside
     ∙ (sym (c.axes_by_cells.ensures.following_sibling c.args.n)
     ∙ ap (λ a. axis_nodes c.args.tree.now.nodes a c.args.n) (sym c.in-FollowingSibling.is))))
 
 pub returns-in-PrecedingSibling : goal.returns-in-PrecedingSibling
 returns-in-PrecedingSibling c =
     c.from_end.ensures
-    ∙ (ap backwards (c.kids_before.ensures ∙ (ap (kids_before c.args.n) c.kids_beside-in-PrecedingSibling.ensures ∙ sym (c.axes_by_cells.ensures.preceding_sibling c.args.n)))
+    ∙ (ap backwards (c.kids_before.ensures ∙ (ap (kids_before c.args.n) c.kids_beside-in-PrecedingSibling.ensures.beside ∙ sym (c.axes_by_cells.ensures.preceding_sibling c.args.n)))
     ∙ ap (λ a. axis_nodes c.args.tree.now.nodes a c.args.n) (sym c.in-PrecedingSibling.is))

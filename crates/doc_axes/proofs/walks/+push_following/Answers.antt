@@ -1,6 +1,7 @@
 -- What follows a node is all below the kids after it, and what follows its parent.
-use Rattle.std.proofs.Common.{◌≡◌, ◌++◌, List, ℕ, sym, ap, ◌∙◌, append_assoc, append-nil}
+use Rattle.std.proofs.Common.{◌≡◌, ◌++◌, List, ℕ, sym, ap, subst, ◌∙◌, append_assoc, append-nil}
 use Rattle.doc_tree.specs.declared.axes.Axis.TheVariants.{Following}
+use Rattle.doc_tree.specs.Lists.{Distinct}
 use Rattle.doc_tree.specs.Table.{kids_of}
 use Rattle.doc_axes.specs.Axes.{axis_order}
 use Rattle.doc_axes.specs.Plain.{plain_below}
@@ -9,6 +10,9 @@ use Rattle.doc_axes.proofs.AxisLemmas.{kid-is_plain}
 use Rattle.doc_axes.proofs.SiblingLemmas.{behind_in}
 use Rattle.doc_axes.proofs.StepLemmas.{following_step, no_following}
 use Rattle.doc_axes.proofs.walks.+push_following.Goals as goal
+
+pub kids_behind-requires : goal.kids_behind-requires
+kids_behind-requires t c = subst Distinct (sym c.kids.ensures) (c.laws.ensures.well_formed.kids_once c.in-Some.parent)
 
 pub push_each_plain-requires : goal.push_each_plain-requires
 push_each_plain-requires t c = λ m h.

@@ -1,6 +1,7 @@
 -- What precedes a node is what precedes its parent, and all below the kids before it.
-use Rattle.std.proofs.Common.{◌≡◌, ◌++◌, List, ℕ, sym, ap, ap₂, ◌∙◌, append_assoc, append-nil}
+use Rattle.std.proofs.Common.{◌≡◌, ◌++◌, List, ℕ, sym, ap, ap₂, subst, ◌∙◌, append_assoc, append-nil}
 use Rattle.doc_tree.specs.declared.axes.Axis.TheVariants.{Preceding}
+use Rattle.doc_tree.specs.Lists.{Distinct}
 use Rattle.doc_tree.specs.Table.{kids_of}
 use Rattle.doc_axes.specs.Axes.{axis_order}
 use Rattle.doc_axes.specs.Plain.{plain_below}
@@ -9,6 +10,9 @@ use Rattle.doc_axes.proofs.AxisLemmas.{kid-is_plain}
 use Rattle.doc_axes.proofs.SiblingLemmas.{before_in}
 use Rattle.doc_axes.proofs.StepLemmas.{preceding_step, no_preceding}
 use Rattle.doc_axes.proofs.walks.+push_preceding.Goals as goal
+
+pub kids_before-requires : goal.kids_before-requires
+kids_before-requires t c = subst Distinct (sym c.kids.ensures) (c.laws.ensures.well_formed.kids_once c.in-Some.parent)
 
 pub push_each_plain-requires : goal.push_each_plain-requires
 push_each_plain-requires t c = λ m h.
