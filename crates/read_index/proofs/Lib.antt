@@ -1,2 +1,3 @@
 pub mod FilingLemmas
+pub mod PartingLemmas
 pub mod ReadLemmas

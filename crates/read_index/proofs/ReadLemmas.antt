@@ -1,19 +1,28 @@
--- What units have read, by the cells that three indexes have of them.
-use Rattle.std.proofs.Common.{◌≡◌, ◌≢◌, ◌∙◌, ℕ, ◌==◌, Bool, true, false, not, ◌||◌, ◌&&◌, List, Option, None, Some, IfNone, refl, sym, ap, inl, inr}
+-- What units have read, by the cells that four indexes have of them.
+use Rattle.std.proofs.Common.{◌≡◌, ◌≢◌, ◌∙◌, ℕ, ◌==◌, Bool, true, false, not, ◌||◌, ◌&&◌, List, Option, None, Some, IfNone, IfSome, refl, sym, ap, inl, inr}
 use Rattle.std.proofs.lemmas.Bool.{cases_eq, eq-eqb, eqb-true, false_from_ne_true}
+use Rattle.std.proofs.lemmas.List.Folds.{list_any-append}
 use Rattle.std.specs.Bool.{OnFalse, OnTrue}
 use Rattle.doc_tree.specs.cell.Cell.{Cell}
 use Rattle.doc_tree.specs.declared.axes.Axis.{Axis}
 use Rattle.xp_outcome.specs.declared.names_along.NamesAlong.{NamesAlong}
 use Rattle.xp_outcome.specs.Evaluation.{Read, cell, names_along, variable}
-use Rattle.cell_index.specs.Cells.{is_among}
+use Rattle.cell_index.specs.Cells.{is_among, is_cell}
 use Rattle.cell_index.specs.Index.{cells_of, has}
 use Rattle.cell_index.specs.Index as cell_index
 use Rattle.read_index.specs.declared.read_index.ReadIndex.{ReadIndex}
 use Rattle.read_index.specs.Names.{is_far, is_named}
-use Rattle.read_index.specs.ReadIndex.{Adds, Removes, Stays, has_read, is_one_of}
+use Rattle.read_index.specs.ReadIndex.{Adds, Removes, Stays, has_read}
 use Rattle.read_index.specs.inner.Filing.{AddsNames, SameElsewhere, StaysElsewhere, filed, filed_part}
+use Rattle.read_index.specs.inner.Parting.{AddsToBoth, has_either}
 use Rattle.read_index.proofs.FilingLemmas.{named_far, named_near}
+
+-- a unit has read a cell where it has it in one of two indexes
+cell_read : (index : ReadIndex) (u : ℕ) (c : Cell) → has_read index u (cell c) ≡ has_either index.cells index.named u c
+cell_read index u c = list_any-append (is_cell c) (cells_of index.cells u) (cells_of index.named u)
+
+either_same : (a b p q : Bool) → a ≡ p → b ≡ q → (a || b) ≡ (p || q)
+either_same a b p q first second = ap (λ (x : Bool). x || b) first ∙ ap (λ (y : Bool). p || y) second
 
 -- a unit has read names along an axis where it has their cell
 pub filed_read : (index : ReadIndex) (u : ℕ) (axis : Axis) (n : ℕ) (far : Bool) → is_far axis ≡ far →
@@ -24,6 +33,7 @@ filed_read index u axis n true is = named_far (cells_of index.near u) (cells_of 
 -- Nothing is read
 
 module _ (index : ReadIndex) (cells_none : (u : ℕ) (c : Cell) → has index.cells u c ≡ false)
+    (named_none : (u : ℕ) (c : Cell) → has index.named u c ≡ false)
     (near_none : (u : ℕ) (c : Cell) → has index.near u c ≡ false)
     (far_none : (u : ℕ) (c : Cell) → has index.far u c ≡ false) where
   part_none : (far : Bool) (u : ℕ) (c : Cell) → has (filed_part index far) u c ≡ false
@@ -31,7 +41,8 @@ module _ (index : ReadIndex) (cells_none : (u : ℕ) (c : Cell) → has index.ce
   part_none true = far_none
 
   pub none_read : (u : ℕ) (r : Read) → has_read index u r ≡ false
-  none_read u (cell c) = cells_none u c
+  none_read u (cell c) =
+      cell_read index u c ∙ either_same (has index.cells u c) (has index.named u c) false false (cells_none u c) (named_none u c)
   none_read u (names_along axis n) = filed_read index u axis n (is_far axis) refl ∙ part_none (is_far axis) u (filed axis n)
   none_read u (variable slot) = refl
 
@@ -54,25 +65,14 @@ part_elsewhere unit old new same false = same.near
 part_elsewhere unit old new same true = same.far
 
 read_elsewhere : (unit : ℕ) (old new : ReadIndex) → SameElsewhere unit old new → (u : ℕ) → u ≢ unit → (r : Read) → has_read new u r ≡ has_read old u r
-read_elsewhere unit old new same u differ (cell c) = same.cells u c differ
+read_elsewhere unit old new same u differ (cell c) =
+    cell_read new u c
+    ∙ either_same (has new.cells u c) (has new.named u c) (has old.cells u c) (has old.named u c) (same.cells u c differ) (same.named u c differ)
+    ∙ sym (cell_read old u c)
 read_elsewhere unit old new same u differ (names_along axis n) =
     filed_read new u axis n (is_far axis) refl ∙ part_elsewhere unit old new same (is_far axis) u (filed axis n) differ
     ∙ sym (filed_read old u axis n (is_far axis) refl)
 read_elsewhere unit old new same u differ (variable slot) = refl
-
--- a unit is removed from all of them
-part_removes : (unit : ℕ) (old new : ReadIndex) → cell_index.Removes unit old.near new.near → cell_index.Removes unit old.far new.far → (far : Bool) →
-    cell_index.Removes unit (filed_part old far) (filed_part new far)
-part_removes unit old new near far false = near
-part_removes unit old new near far true = far
-
-pub removes_all : (unit : ℕ) (old new : ReadIndex) → cell_index.Removes unit old.cells new.cells → cell_index.Removes unit old.near new.near →
-    cell_index.Removes unit old.far new.far → Removes unit old new
-removes_all unit old new cells near far u (cell c) = cells u c
-removes_all unit old new cells near far u (names_along axis n) =
-    filed_read new u axis n (is_far axis) refl ∙ part_removes unit old new near far (is_far axis) u (filed axis n)
-    ∙ ap (λ (b : Bool). b && not (u == unit)) (sym (filed_read old u axis n (is_far axis) refl))
-removes_all unit old new cells near far u (variable slot) = refl
 
 apart : (u unit : ℕ) → u ≢ unit → (u == unit) ≡ false
 apart u unit differ = false_from_ne_true (u == unit) (λ same. differ (eqb-true u unit same))
@@ -80,6 +80,29 @@ apart u unit differ = false_from_ne_true (u == unit) (λ same. differ (eqb-true 
 and_false : (a b : Bool) → b ≡ false → (a && b) ≡ false
 and_false true b is = is
 and_false false b is = refl
+
+-- a unit is removed from all of them
+part_removes : (unit : ℕ) (old new : ReadIndex) → cell_index.Removes unit old.near new.near → cell_index.Removes unit old.far new.far → (far : Bool) →
+    cell_index.Removes unit (filed_part old far) (filed_part new far)
+part_removes unit old new near far false = near
+part_removes unit old new near far true = far
+
+either_kept : (a b kept : Bool) → ((a && kept) || (b && kept)) ≡ ((a || b) && kept)
+either_kept false b kept = refl
+either_kept true b true = refl
+either_kept true b false = and_false b false refl
+
+pub removes_all : (unit : ℕ) (old new : ReadIndex) → cell_index.Removes unit old.cells new.cells → cell_index.Removes unit old.named new.named →
+    cell_index.Removes unit old.near new.near → cell_index.Removes unit old.far new.far → Removes unit old new
+removes_all unit old new cells named near far u (cell c) =
+    let others = not (u == unit) in
+    cell_read new u c
+    ∙ either_same (has new.cells u c) (has new.named u c) (has old.cells u c && others) (has old.named u c && others) (cells u c) (named u c)
+    ∙ either_kept (has old.cells u c) (has old.named u c) others ∙ ap (λ (b : Bool). b && others) (sym (cell_read old u c))
+removes_all unit old new cells named near far u (names_along axis n) =
+    filed_read new u axis n (is_far axis) refl ∙ part_removes unit old new near far (is_far axis) u (filed axis n)
+    ∙ ap (λ (b : Bool). b && not (u == unit)) (sym (filed_read old u axis n (is_far axis) refl))
+removes_all unit old new cells named near far u (variable slot) = refl
 
 -- it may have been changed before
 pub removes_after : (unit : ℕ) (old mid new : ReadIndex) → SameElsewhere unit old mid → Removes unit mid new → Removes unit old new
@@ -119,13 +142,15 @@ part_stays : (old new : ReadIndex) → cell_index.Stays old.near new.near → ce
 part_stays old new near far false = near
 part_stays old new near far true = far
 
-pub stays_all : (old new : ReadIndex) → cell_index.Stays old.cells new.cells → cell_index.Stays old.near new.near →
-    cell_index.Stays old.far new.far → Stays old new
-stays_all old new cells near far u (cell c) = cells u c
-stays_all old new cells near far u (names_along axis n) =
+pub stays_all : (old new : ReadIndex) → cell_index.Stays old.cells new.cells → cell_index.Stays old.named new.named →
+    cell_index.Stays old.near new.near → cell_index.Stays old.far new.far → Stays old new
+stays_all old new cells named near far u (cell c) =
+    cell_read new u c ∙ either_same (has new.cells u c) (has new.named u c) (has old.cells u c) (has old.named u c) (cells u c) (named u c)
+    ∙ sym (cell_read old u c)
+stays_all old new cells named near far u (names_along axis n) =
     filed_read new u axis n (is_far axis) refl ∙ part_stays old new near far (is_far axis) u (filed axis n)
     ∙ sym (filed_read old u axis n (is_far axis) refl)
-stays_all old new cells near far u (variable slot) = refl
+stays_all old new cells named near far u (variable slot) = refl
 
 -- cells and names are added
 part_adds : (unit : ℕ) (names : List NamesAlong) (old new : ReadIndex) → AddsNames false unit names old.near new.near →
@@ -134,9 +159,11 @@ part_adds : (unit : ℕ) (names : List NamesAlong) (old new : ReadIndex) → Add
 part_adds unit names old new near far false = near
 part_adds unit names old new near far true = far
 
-pub adds_all : (unit : ℕ) (cells : List Cell) (names : List NamesAlong) (old new : ReadIndex) → cell_index.Adds unit cells old.cells new.cells →
-    AddsNames false unit names old.near new.near → AddsNames true unit names old.far new.far → Adds unit cells names old new
-adds_all unit cells names old new adds near far u (cell c) = adds u c
+pub adds_all : (unit : ℕ) (cells : List Cell) (names : List NamesAlong) (old new : ReadIndex) →
+    AddsToBoth unit cells old.cells old.named new.cells new.named → AddsNames false unit names old.near new.near →
+    AddsNames true unit names old.far new.far → Adds unit cells names old new
+adds_all unit cells names old new adds near far u (cell c) =
+    cell_read new u c ∙ adds u c ∙ ap (λ (b : Bool). b || ((u == unit) && is_among cells c)) (sym (cell_read old u c))
 adds_all unit cells names old new adds near far u (names_along axis n) =
     filed_read new u axis n (is_far axis) refl
     ∙ part_adds unit names old new near far (is_far axis) (record { axis = axis; node = n }) refl u
@@ -146,6 +173,26 @@ adds_all unit cells names old new adds near far u (variable slot) = none (u == u
     none : (b : Bool) → false ≡ (false || (b && false))
     none true = refl
     none false = refl
+
+-- A unit that is taken for a cell
+
+pub taken_cell : (index : ReadIndex) (unit : ℕ) (c : Cell) → has index.cells unit c ≡ true → has_read index unit (cell c) ≡ true
+taken_cell index unit c there = cell_read index unit c ∙ ap (λ (b : Bool). b || has index.named unit c) there
+
+pub taken_named : (index : ReadIndex) (unit : ℕ) (c : Cell) → has index.named unit c ≡ true → has_read index unit (cell c) ≡ true
+taken_named index unit c there = cell_read index unit c ∙ ap (λ (b : Bool). has index.cells unit c || b) there ∙ or_true (has index.cells unit c)
+  where
+    or_true : (b : Bool) → (b || true) ≡ true
+    or_true true = refl
+    or_true false = refl
+
+pub none_cell : (index : ReadIndex) (c : Cell) → ((u : ℕ) → has index.cells u c ≡ false) → ((u : ℕ) → has index.named u c ≡ false) → (u : ℕ) →
+    has_read index u (cell c) ≡ false
+none_cell index c cells named u = cell_read index u c ∙ either_same (has index.cells u c) (has index.named u c) false false (cells u) (named u)
+
+pub some_then : {A : Type 0} {P Q : A → Type 0} (o : Option A) → ((v : A) → P v → Q v) → IfSome o P → IfSome o Q
+some_then (Some v) next some = next v some
+some_then None next some = tt
 
 -- A unit that is taken for what is filed
 

@@ -9,9 +9,9 @@ use Rattle.read_index.specs.declared.read_index.ReadIndex.{ReadIndex}
 use Rattle.read_index.specs.Names.{is_named}
 use Rattle.read_index.specs.inner.Filing.{far_names, near_names}
 
--- the cells that a unit has read
+-- the cells that a unit has read: the names of nodes among many are kept apart from the others
 abbrev pub cells_read : ReadIndex → ℕ → List Cell
-cells_read index unit = cells_of index.cells unit
+cells_read index unit = cells_of index.cells unit ++ cells_of index.named unit
 
 -- the axes and nodes along which a unit has read names
 abbrev pub names_read : ReadIndex → ℕ → List NamesAlong

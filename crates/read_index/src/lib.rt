@@ -3,6 +3,7 @@
 #![tactic(auto)]
 
 mod filing;
+mod parting;
 mod read_index;
 
 pub use filing::is_far;

@@ -11,6 +11,7 @@ ghost use Rattle.read_index.specs.ReadIndex.{Adds, Removes, Stays, has_read};
 ghost use Rattle.read_index.specs.inner.Filing.{SameElsewhere, filed_part};
 
 use crate::filing::{add_names, filed, is_far};
+use crate::parting::add_cells;
 use cell_index::CellIndex;
 use doc_tree::Cell;
 use std::alloc::{AllocError, Global};
@@ -18,11 +19,18 @@ use xp_outcome::NamesAlong;
 
 /// From each cell, and from the names along each axis from a node, to the units that have read them.
 ///
-/// Units that have read the same cells share them, and so do units that have read names along the same axes from the same nodes. The names
-/// along an axis from a node are one item, filed as a cell is: see `CellIndex` for the memory that each takes, a cell of its own.
+/// Units that have read the same cells share them, and so do units that have read names along the same axes from the same nodes. Where a
+/// unit has read many cells, the names of nodes among them are kept apart, and each part is shared alone: each unit has read the name of its
+/// own node, and units that differ in this share all the other cells. The names along an axis from a node are one item, filed as a cell is.
+///
+/// Takes what its four indexes take (see `CellIndex`): 16 bytes a cell of each set, once for all units that share it; some 100 bytes for a
+/// unit that shares many cells, with one name for itself.
 #[derive(Drop)]
 pub struct ReadIndex {
+    /// The cells, but for the names of nodes that units with many cells have read.
     pub(crate) cells: CellIndex,
+    /// These names of nodes.
+    pub(crate) named: CellIndex,
     /// The names along the axes on which a node stands from its parent, from those above it and from those beside it.
     pub(crate) near: CellIndex,
     /// The names along the other axes.
@@ -36,6 +44,7 @@ impl ReadIndex {
     {
         ReadIndex {
             cells: CellIndex::new(alloc),
+            named: CellIndex::new(alloc),
             near: CellIndex::new(alloc),
             far: CellIndex::new(alloc),
         }
@@ -68,6 +77,7 @@ impl ReadIndex {
         ensures { Removes unit self.old self.new }
     {
         self.cells.remove(unit);
+        self.named.remove(unit);
         self.near.remove(unit);
         self.far.remove(unit);
     }
@@ -78,7 +88,7 @@ impl ReadIndex {
         ensures none { IfNone result ((u : ℕ) → has_read self.old u (of_cell cell.now) ≡ false) }
         ensures unchanged { IfNone result (Stays self.old self.new) }
     {
-        match self.cells.take(cell) {
+        match self.take_cell(cell) {
             Some(unit) => {
                 self.remove(unit);
                 Some(unit)
@@ -133,9 +143,21 @@ impl ReadIndex {
         ensures added { OnOk result (Adds unit cells.now names.now self.old self.new) }
         ensures others { SameElsewhere unit self.old self.new }
     {
-        self.cells.add(unit, cells)?;
+        add_cells(alloc, &mut self.cells, &mut self.named, unit, cells)?;
         add_names(alloc, &mut self.near, unit, names, false)?;
         add_names(alloc, &mut self.far, unit, names, true)
+    }
+
+    /// Takes a unit that has the cell, from the index of cells or from that of names apart, from this index alone.
+    fn take_cell(&mut self, cell: &Cell) -> Option<u64>
+        ensures took { IfSome result (λ unit. (has_read self.old unit (of_cell cell.now) ≡ true) × SameElsewhere unit self.old self.new) }
+        ensures none { IfNone result ((u : ℕ) → has_read self.old u (of_cell cell.now) ≡ false) }
+        ensures unchanged { IfNone result (Stays self.old self.new) }
+    {
+        match self.cells.take(cell) {
+            Some(unit) => Some(unit),
+            None => self.named.take(cell),
+        }
     }
 
     /// Takes a unit that has what is filed under a cell, in the index of far axes or in that of the others, from this index alone.

@@ -60,5 +60,6 @@ StaysElsewhere unit old new = (u : ℕ) (c : Cell) → u ≢ unit → has new u 
 -- each unit but one has read what it had
 pub record SameElsewhere (unit : ℕ) (old new : ReadIndex) : Type 0 where
   pub cells : StaysElsewhere unit old.cells new.cells
+  pub named : StaysElsewhere unit old.named new.named
   pub near : StaysElsewhere unit old.near new.near
   pub far : StaysElsewhere unit old.far new.far
