@@ -18,7 +18,7 @@ or_moved true false c = refl
 or_moved false b c = refl
 
 -- whether a read is of a cell, of names along an axis, or of a let
-abbrev cell_is : Cell → Read → Bool
+abbrev pub cell_is : Cell → Read → Bool
 cell_is q (cell c) = eq_by_cmp cell_cmp q c
 cell_is q (names_along axis n) = false
 cell_is q (variable slot) = false
@@ -34,7 +34,7 @@ let_is q (names_along axis n) = false
 let_is q (variable slot) = eq_by_cmp nat_cmp q slot
 
 -- what a recorder has after some reads
-cells_noted : (q : Cell) (xs : List Read) (held : Recorded) → contains (note_all held xs).cells q ≡ (contains held.cells q || list_any (cell_is q) xs)
+pub cells_noted : (q : Cell) (xs : List Read) (held : Recorded) → contains (note_all held xs).cells q ≡ (contains held.cells q || list_any (cell_is q) xs)
 cells_noted q [] held = sym (or-false (contains held.cells q))
 cells_noted q (cell c ∷ xs) held =
     cells_noted q xs (note held (cell c))

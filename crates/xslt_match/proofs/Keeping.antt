@@ -1,11 +1,11 @@
--- What is kept, by key.
-use Rattle.std.proofs.Common.{◌≡◌, ℕ, zero, suc, ◌+◌, ◌-◌, ◌<◌, ◌≤◌, length-drop, arith, Bool, true, false, cond, ◌&&◌, List, [], ◌∷◌, length, drop, map, refl, sym, ◌∙◌, ap, subst, eqb, eqb-true, true≢false, Option, None, Some, ◌++◌}
+-- What is kept, by key, and what is known of paths, by number.
+use Rattle.std.proofs.Common.{◌≡◌, ℕ, zero, suc, ◌+◌, ◌-◌, ◌<◌, ◌≤◌, length-drop, arith, Bool, true, false, cond, ◌&&◌, List, [], ◌∷◌, length, drop, map, refl, sym, ◌∙◌, ap, subst, eqb, eqb-true, true≢false, Option, None, Some, ◌++◌, ◌⊎◌, inl, inr, set}
 use Rattle.std.specs.Prelude.{not, slice_get, option_and_then, option_map, IfSome}
 use Rattle.std.specs.List.{AllByRecursion as Each}
 use Rattle.std.specs.Map.{lookup}
 use Rattle.std.proofs.lemmas.Option.{slice_get-map}
 use Rattle.indexmap.specs.IndexMap.{insert_entry}
-use Rattle.doc_tree.specs.Table.{Table}
+use Rattle.doc_tree.specs.Table.{Name, Table}
 use Rattle.xp_typed_tree.specs.declared.pattern.TypedPath.{TypedPath}
 use Rattle.xp_typed_tree.specs.declared.pattern.TypedPatternStep.{TypedPatternStep}
 use Rattle.xp_typed_tree.specs.TypedTree.{TypedPathTree}
@@ -13,8 +13,9 @@ use Rattle.xp_typed_tree.specs.TypedView.{pattern_step_seen, path_seen}
 use Rattle.xp_meaning.specs.Evaluation.{Lets}
 use Rattle.xslt_match.specs.declared.kept.StepKey.{StepKey}
 use Rattle.xslt_match.specs.declared.kept.KeptStep.{KeptStep}
+use Rattle.xslt_match.specs.declared.kept.KnownPath.{KnownPath}
 use Rattle.xslt_match.specs.contracts.kept.StepKeyPartialEq.TheImpl.{eq-value}
-use Rattle.xslt_match.specs.Kept.{IsOutcomeAt, last_step, numbered_step}
+use Rattle.xslt_match.specs.Kept.{AreKnown, IsKnown, IsOutcomeAt, last_step, numbered_step}
 
 both : (a b : Bool) → (a && b) ≡ true → (a ≡ true) × (b ≡ true)
 both true b h = (refl, h)
@@ -127,3 +128,53 @@ pub last_behind : (front : List TypedPatternStep) (last : TypedPatternStep) → 
 last_behind [] last = refl
 last_behind (x ∷ []) last = refl
 last_behind (x ∷ y ∷ front) last = last_behind (y ∷ front) last
+
+-- What is known of paths
+
+-- an item of a list with one more at its end
+item_pushed : {X : Type 0} (xs : List X) (x : X) (i : ℕ) (y : X) → slice_get (xs ++ x ∷ []) i ≡ Some y → (slice_get xs i ≡ Some y) ⊎ ((i ≡ length xs) × (x ≡ y))
+item_pushed [] x zero y is = let same : x ≡ y = cc in inr (refl, same)
+item_pushed [] x (suc i) y is = absurd (cc)
+item_pushed (z ∷ xs) x zero y is = inl is
+item_pushed (z ∷ xs) x (suc i) y is = elim (item_pushed xs x i y is) [ inl h ↦ inl h | inr h ↦ inr (ap suc h.0, h.1) ]
+
+-- an item of a list in which one was replaced
+item_replaced : {X : Type 0} (xs : List X) (i : ℕ) (x : X) (j : ℕ) (y : X) → slice_get (set xs i x) j ≡ Some y → ((j ≡ i) × (x ≡ y)) ⊎ (slice_get xs j ≡ Some y)
+item_replaced [] i x j y is = inr is
+item_replaced (z ∷ xs) zero x zero y is = let same : x ≡ y = cc in inl (refl, same)
+item_replaced (z ∷ xs) zero x (suc j) y is = inr is
+item_replaced (z ∷ xs) (suc i) x zero y is = inr is
+item_replaced (z ∷ xs) (suc i) x (suc j) y is = elim (item_replaced xs i x j y is) [ inl h ↦ inl (ap suc h.0, h.1) | inr h ↦ inr h ]
+
+module _ (names : List Name) (ps : List TypedPathTree) where
+  -- what is known of the path with a number is known of the one that stands there
+  known_there : (i j : ℕ) (p q : TypedPathTree) (known found : KnownPath) → slice_get ps i ≡ Some p → IsKnown names p known → slice_get ps j ≡ Some q → j ≡ i → known ≡ found →
+      IsKnown names q found
+  known_there i j p q known found stands fresh there place is =
+      let same : Some p ≡ Some q = sym stands ∙ ap (slice_get ps) (sym place) ∙ there in
+      let one : p ≡ q = cc in
+      subst (λ r. IsKnown names r found) one (subst (IsKnown names p) is fresh)
+
+  pub known_still : (paths now : List KnownPath) → now ≡ paths → AreKnown names ps paths → AreKnown names ps now
+  known_still paths now is each = subst (AreKnown names ps) (sym is) each
+
+  pub none_known : (paths : List KnownPath) → paths ≡ [] → AreKnown names ps paths
+  none_known paths none i p known there at =
+      let cut : None ≡ Some known = ap (λ ks. slice_get ks i) (sym none) ∙ at in
+      absurd (cc)
+
+  pub known_pushed : (paths now : List KnownPath) (p : TypedPathTree) (known : KnownPath) → now ≡ paths ++ known ∷ [] → slice_get ps (length paths) ≡ Some p → IsKnown names p known →
+      AreKnown names ps paths → AreKnown names ps now
+  known_pushed paths now p known is stands fresh each i q found there at =
+      elim (item_pushed paths known i found (ap (λ ks. slice_get ks i) (sym is) ∙ at)) [
+        | inl before ↦ each i q found there before
+        | inr last ↦ known_there (length paths) i p q known found stands fresh there last.0 last.1
+      ]
+
+  pub known_replaced : (paths now : List KnownPath) (i : ℕ) (p : TypedPathTree) (known : KnownPath) → slice_get ps i ≡ Some p → now ≡ set paths i known → IsKnown names p known →
+      AreKnown names ps paths → AreKnown names ps now
+  known_replaced paths now i p known stands is fresh each j q found there at =
+      elim (item_replaced paths i known j found (ap (λ ks. slice_get ks j) (sym is) ∙ at)) [
+        | inl h ↦ known_there i j p q known found stands fresh there h.0 h.1
+        | inr before ↦ each j q found there before
+      ]

@@ -1,7 +1,8 @@
 -- Names that are recorded already.
 use Rattle.std.proofs.Common.{◌≡◌, ℕ, zero, suc, ◌<◌, ◌≤◌, Bool, true, false, cond, not, ◌&&◌, ◌||◌, List, [], ◌∷◌, ◌++◌, length, map, refl, sym, ◌∙◌, ap, subst, append-nil, arith, Option, None, Some, Result, Ok, Err, ◌⊎◌, inl, inr}
-use Rattle.std.specs.Prelude.{IfSome, OnOk, option_and_then}
-use Rattle.std.proofs.lemmas.Bool.{and_parts, or_left, or_right}
+use Rattle.std.specs.Prelude.{IfSome, OnOk}
+use Rattle.std.specs.List.{list_any}
+use Rattle.std.proofs.lemmas.Bool.{and_parts, or_left}
 use Rattle.std.proofs.lemmas.Option.{IfSome_then}
 use Rattle.std.specs.Cmp.{tied_itself}
 use Rattle.std.specs.Ordering.{eq_by_cmp, is_eq}
@@ -14,10 +15,10 @@ use Rattle.doc_tree.specs.kind.Kind.TheVariants as kinds
 use Rattle.doc_tree.specs.Kinds.{is_element}
 use Rattle.doc_tree.specs.declared.axes.Axis.{Axis}
 use Rattle.doc_tree.specs.declared.axes.Axis.TheVariants.{Ancestor, AncestorOrSelf, Attribute, Child, Descendant, DescendantOrSelf, Following, FollowingSibling, Parent, Preceding, PrecedingSibling, SelfNode}
-use Rattle.doc_tree.specs.Table.{Table, kind_of, parent_of}
+use Rattle.doc_tree.specs.Table.{Table, kind_of}
 use Rattle.doc_axes.specs.NodeTests.{is_principal}
 use Rattle.xp_typed_tree.specs.TypedTree.{TypedPatternStepTree}
-use Rattle.xp_outcome.specs.Evaluation.{Read, Evaluation, all_reading, behind, cell, done, names_along, variable}
+use Rattle.xp_outcome.specs.Evaluation.{Read, Evaluation, all_reading, behind, cell, done}
 use Rattle.xp_outcome.specs.Recorded.{Recorded, cell_cmp, has_read, note, note_all}
 use Rattle.xp_outcome.specs.Running.{Ran}
 use Rattle.xp_outcome.proofs.Runs.{note_all-append, ran_all_reading, ran_done}
@@ -30,18 +31,13 @@ use Rattle.xp_meaning.specs.Results.{shown, shown_alloc}
 use Rattle.xslt_match.specs.inner.Named.{all_named, is_named}
 use Rattle.xslt_match.specs.Names.{HoldsNames, ancestor_at, ancestor_over, place_names, places_from, some_anywhere, step_names}
 use Rattle.xslt_ways.specs.Ways.{is_anywhere}
+use Rattle.xslt_match.proofs.JoinedReads.{cell_is, cells_noted}
 
 -- What is held of reads
 
 -- a cell that was read stays so
-still : (c : Cell) (x : Read) (held : Recorded) → has_read held (cell c) ≡ true → has_read (note held x) (cell c) ≡ true
-still c (cell d) held h = contains-insert cell_cmp_total held.cells d c ∙ or_right (eq_by_cmp cell_cmp c d) (contains held.cells c) h
-still c (names_along axis n) held h = h
-still c (variable slot) held h = h
-
 all_still : (c : Cell) (xs : List Read) (held : Recorded) → has_read held (cell c) ≡ true → has_read (note_all held xs) (cell c) ≡ true
-all_still c [] held h = h
-all_still c (x ∷ xs) held h = all_still c xs (note held x) (still c x held h)
+all_still c xs held h = cells_noted c xs held ∙ or_left (contains held.cells c) (list_any (cell_is c) xs) h
 
 -- one that is read is
 read_now : (c : Cell) (held : Recorded) → has_read (note held (cell c)) (cell c) ≡ true
@@ -93,10 +89,6 @@ none_anywhere (s ∷ ss) all =
     by false h later = later
 
 module _ (T : Table) (n : ℕ) where
-  over_at : (ss : List TypedPatternStepTree) → ancestor_over T ss n ≡ ancestor_at T (length ss) n
-  over_at [] = refl
-  over_at (s ∷ ss) = ap (option_and_then (parent_of T)) (over_at ss)
-
   -- the name of a node that may be missing, where it is an element
   abbrev own_name : Option ℕ → List Read
   own_name None = []
@@ -133,8 +125,7 @@ module _ (T : Table) (n : ℕ) where
       step_names T n (s ∷ ss) ≡ step_names T n ss ++ own_name (ancestor_at T (length ss) n)
   steps_are s ss all =
       let parts = and_parts (is_named s) (all_named ss) all in
-      ap (λ xs. step_names T n ss ++ xs)
-      (place_is s parts.0 (some_anywhere ss) (none_anywhere ss parts.1) (ancestor_over T ss n) ∙ ap own_name (over_at ss))
+      ap (λ xs. step_names T n ss ++ xs) (place_is s parts.0 (some_anywhere ss) (none_anywhere ss parts.1) (ancestor_over T ss n))
 
   -- where they are all held, they are recorded already
   own_covered : (held : Recorded) (o : Option ℕ) → IfSome o (λ m. is_element (kind_of T m) ≡ true → has_read held (cell (Name m)) ≡ true) → note_all held (own_name o) ≡ held

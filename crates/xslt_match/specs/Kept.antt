@@ -1,10 +1,10 @@
--- What is kept of the steps of a pattern with positional predicates.
+-- What is kept of the steps of a pattern with positional predicates, and what is known of its path patterns.
 use Rattle.std.specs.Prelude.{◌≡◌, ℕ, Bool, false, Result, Ok, Err, Option, None, Some, IfSome, List, [], ◌∷◌, option_and_then, slice_get}
 use Rattle.std.specs.List.{AllByRecursion as Each}
 use Rattle.doc_tree.specs.Lists.{mem}
 use Rattle.doc_tree.specs.kind.Kind.{Kind}
 use Rattle.doc_tree.specs.Kinds.{is_kind}
-use Rattle.doc_tree.specs.Table.{Contents, Table, kind_of}
+use Rattle.doc_tree.specs.Table.{Contents, Name, Table, kind_of}
 use Rattle.doc_axes.specs.Judging.{IsJudged}
 use Rattle.xp_typed_tree.specs.TypedTree.{TypedPatternStepTree, TypedPathTree}
 use Rattle.xp_outcome.specs.Evaluation.{done, visit}
@@ -15,6 +15,8 @@ use Rattle.xp_meaning.specs.Evaluation.{Lets}
 use Rattle.xslt_match.specs.declared.kept.StepKey.{StepKey}
 use Rattle.xslt_match.specs.declared.kept.KeptStep.{KeptStep}
 use Rattle.xslt_match.specs.declared.kept.KeptSteps.{KeptSteps}
+use Rattle.xslt_match.specs.declared.kept.KnownPath.{KnownPath}
+use Rattle.xslt_match.specs.inner.Named.{all_named}
 use Rattle.xslt_match.specs.Matching.{is_left, matching, step_of}
 
 -- the step of a pattern, by the number of its path pattern and its number there
@@ -39,18 +41,23 @@ last_step [] = None
 last_step (s ∷ []) = Some s
 last_step (s ∷ r ∷ ss) = last_step (r ∷ ss)
 
--- and the one at which the first path pattern does
-abbrev pub first_end : List TypedPathTree → Option TypedPatternStepTree
-first_end [] = None
-first_end (p ∷ ps) = last_step p.steps
+-- what is known of a path pattern is so: what the node test at which it ends says of names, and whether each of its steps looks at the
+-- names of elements, and at one place
+pub record IsKnown (names : List Name) (p : TypedPathTree) (known : KnownPath) : Type 0 where
+  pub judged : IfSome (last_step p.steps) (λ s. IsJudged names s.test known.judged)
+  pub named : known.named ≡ all_named p.steps
+
+-- and so is what is known of each of some path patterns, by their numbers
+abbrev pub AreKnown : List Name → List TypedPathTree → List KnownPath → Type 0
+AreKnown names ps paths = (i : ℕ) (p : TypedPathTree) (known : KnownPath) → slice_get ps i ≡ Some p → slice_get paths i ≡ Some known → IsKnown names p known
 
 -- at nodes of other kinds a pattern reads nothing, and matches none
 abbrev pub RefusesOthers : Contents → Lets → List TypedPathTree → Kind → Type 0
 RefusesOthers C L ps kind = (n : ℕ) → is_kind kind (kind_of C.nodes n) ≡ false → matching C.nodes L ps n ≡ visit (done false)
 
--- what is kept of the pattern's steps is so, and so is what is known of the names at which its first path pattern can end, and of
--- the kind of the nodes at which it looks
+-- what is kept of the pattern's steps is so, and so is what is known of its path patterns, and of the kind of the nodes at which
+-- it looks
 pub record IsKeptFor (C : Contents) (L : Lets) (ps : List TypedPathTree) (kept : KeptSteps) : Type 0 where
   pub selected : Each (λ e. IsOutcomeAt C.nodes L ps e.0 e.1) kept.steps.entries
-  pub judged : IfSome (first_end ps) (λ s. IsJudged C.names s.test kept.judged)
+  pub paths : AreKnown C.names ps kept.paths.items
   pub kind : IfSome kept.kind (RefusesOthers C L ps)

@@ -1,5 +1,5 @@
 -- The names that matching looks at (XSLT 1.0, section 5.2): of the nodes at which a pattern's steps can stand in chains to a node.
-use Rattle.std.specs.Prelude.{◌≡◌, ◌<◌, ℕ, zero, suc, Bool, true, List, [], ◌∷◌, ◌++◌, Option, None, Some, map, flat_map, option_and_then, if◌then◌else◌, IfSome}
+use Rattle.std.specs.Prelude.{◌≡◌, ◌<◌, ℕ, zero, suc, Bool, true, List, [], ◌∷◌, ◌++◌, Option, None, Some, length, map, flat_map, option_and_then, if◌then◌else◌, IfSome}
 use Rattle.std.specs.List.{list_any}
 use Rattle.doc_tree.specs.declared.axes.Axis.{Axis}
 use Rattle.doc_tree.specs.declared.axes.NodeTest.{NodeTest}
@@ -14,10 +14,14 @@ use Rattle.xp_outcome.specs.Recorded.{Recorded, has_read}
 use Rattle.xp_meaning.specs.Reads.{is_by_name}
 use Rattle.xslt_ways.specs.Ways.{is_anywhere}
 
--- the ancestor of n that stands as many levels above it as there are steps, or n itself where there are none
+-- the node that stands so many levels above n
+abbrev pub ancestor_at : Table → ℕ → ℕ → Option ℕ
+ancestor_at T zero n = Some n
+ancestor_at T (suc k) n = option_and_then (parent_of T) (ancestor_at T k n)
+
+-- the one that stands as many levels above n as there are steps
 abbrev pub ancestor_over : Table → List TypedPatternStepTree → ℕ → Option ℕ
-ancestor_over T [] n = Some n
-ancestor_over T (s ∷ ss) n = option_and_then (parent_of T) (ancestor_over T ss n)
+ancestor_over T ss n = ancestor_at T (length ss) n
 
 -- whether some step stands after `//`
 abbrev pub some_anywhere : List TypedPatternStepTree → Bool
@@ -45,11 +49,6 @@ step_names T n (s ∷ ss) = step_names T n ss ++ place_names T s.axis s.test (st
 -- and those of all path patterns, whether or not there is a chain
 abbrev pub pattern_names : Table → ℕ → List TypedPathTree → List Read
 pattern_names T n ps = flat_map (λ p. step_names T n p.steps) ps
-
--- the node that stands so many levels above n
-abbrev pub ancestor_at : Table → ℕ → ℕ → Option ℕ
-ancestor_at T zero n = Some n
-ancestor_at T (suc k) n = option_and_then (parent_of T) (ancestor_at T k n)
 
 -- of so many nodes from n upwards the names are held, where they are elements
 abbrev pub HoldsNames : Table → ℕ → ℕ → Recorded → Type 0

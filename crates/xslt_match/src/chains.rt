@@ -1,14 +1,15 @@
 //! The chains of a path pattern's steps to a node, and the tests of the nodes in them (XSLT 1.0, section 5.2).
 
-ghost use Rattle.std.specs.Prelude.{◌≡◌, ◌∷◌, true, false, map};
+ghost use Rattle.std.specs.Prelude.{◌≡◌, ◌∷◌, Some, true, false, map};
 ghost use Rattle.doc_tree.specs.Table.{is_live};
+ghost use Rattle.doc_axes.specs.NodeTests.{passes};
 ghost use Rattle.xp_outcome.specs.Running.{Ran};
 ghost use Rattle.xp_meaning.specs.Results.{shown};
 ghost use Rattle.xp_typed_tree.specs.TypedView.{path_seen, pattern_step_seen};
 ghost use Rattle.xslt_match.specs.inner.Ends.{ends_elsewhere};
 ghost use Rattle.xslt_match.specs.inner.Keeping.{IsFrontIn, IsPathIn};
 ghost use Rattle.xslt_match.specs.inner.OneChain.{all_from_parents};
-ghost use Rattle.xslt_match.specs.Kept.{IsKeptFor};
+ghost use Rattle.xslt_match.specs.Kept.{IsKeptFor, last_step};
 ghost use Rattle.xslt_match.specs.Matching.{chains, path_matches, starts};
 
 use crate::kept::KeptSteps;
@@ -16,8 +17,8 @@ use crate::leading::{led_to, starts, way_to};
 use crate::matching::Matcher;
 use crate::one_chain::{all_from_parents, has_chain, is_start};
 use crate::testing::{PlacedStep, is_among};
-use doc_axes::passes;
-use doc_tree::{NodeId, Tree};
+use doc_axes::{passes, passes_by};
+use doc_tree::NodeId;
 use std::sync::ledger::Ledger;
 use xp_eval::Caller;
 use xp_outcome::{Recorder, Steps};
@@ -60,17 +61,50 @@ impl Matcher<'_> {
             (shown result) reads.old reads.new steps.old steps.new }
         ensures kept { IsKeptFor self.now.evaluator.caller.tree.now self.now.evaluator.lets.now self.now.pattern.now kept.new }
     {
-        if ends_elsewhere(self.evaluator.caller.tree, &at.path.steps, self.node) {
+        if self.ends_elsewhere(at, kept) {
             return Ok(false);
         }
         self.chain_matches(at, kept, reads, steps)
     }
 
+    /// Whether the node test at which a path ends refuses a live node.
+    fn ends_elsewhere(&self, at: &PlacedPath<'_>, kept: &mut KeptSteps) -> bool
+        requires lives { is_live self.now.evaluator.caller.tree.now.nodes self.now.node ≡ true }
+        requires placed { IsPathIn self.now.pattern.now at.now }
+        requires kept { IsKeptFor self.now.evaluator.caller.tree.now self.now.evaluator.lets.now self.now.pattern.now kept.old }
+        ensures ends { result ≡ ends_elsewhere self.now.evaluator.caller.tree.now.nodes (path_seen at.now.path.now).steps self.now.node }
+        ensures kept { IsKeptFor self.now.evaluator.caller.tree.now self.now.evaluator.lets.now self.now.pattern.now kept.new }
+    {
+        match at.path.steps.split_last() {
+            Some((last, _)) => !self.passes_last(at, last, kept),
+            None => false,
+        }
+    }
+
+    /// Whether a live node passes the node test at which a path ends, by what is known of the names that this accepts.
+    fn passes_last(
+        &self,
+        at: &PlacedPath<'_>,
+        last: &TypedPatternStep,
+        kept: &mut KeptSteps,
+    ) -> bool
+        requires lives { is_live self.now.evaluator.caller.tree.now.nodes self.now.node ≡ true }
+        requires placed { IsPathIn self.now.pattern.now at.now }
+        requires last { last_step (path_seen at.now.path.now).steps ≡ Some (pattern_step_seen last.now) }
+        requires kept { IsKeptFor self.now.evaluator.caller.tree.now self.now.evaluator.lets.now self.now.pattern.now kept.old }
+        ensures passes { result ≡ passes self.now.evaluator.caller.tree.now.nodes (pattern_step_seen last.now).axis (pattern_step_seen last.now).test self.now.node }
+        ensures kept { IsKeptFor self.now.evaluator.caller.tree.now self.now.evaluator.lets.now self.now.pattern.now kept.new }
+    {
+        let tree = self.evaluator.caller.tree;
+        let step = &last.step;
+        match kept.paths.get_mut(at.number) {
+            Some(known) => passes_by(tree, self.node, step.axis, &step.test, &mut known.judged),
+            None => passes(tree, self.node, step.axis, &step.test),
+        }
+    }
+
     /// `path_matches` where the last node test lets the node pass: the chain is followed alone where there is one at most.
-    ///
-    /// It stands apart, so that the paths that are refused at once pay for nothing of it.
-    #[inline(never)]
-    pub(crate) fn chain_matches<L: Ledger>(
+    fn chain_matches<L: Ledger>(
         &self,
         at: &PlacedPath<'_>,
         kept: &mut KeptSteps,
@@ -193,16 +227,5 @@ impl Matcher<'_> {
             alive: alive.as_slice(),
         };
         self.chains(&next, way, kept, reads, steps)
-    }
-}
-
-/// Whether the last step's node test refuses a live node.
-fn ends_elsewhere(tree: &Tree, path_steps: &[TypedPatternStep], n: NodeId) -> bool
-    requires { is_live tree.now.nodes n ≡ true }
-    ensures { result ≡ ends_elsewhere tree.now.nodes (map pattern_step_seen path_steps.now) n }
-{
-    match path_steps.split_last() {
-        Some((last, _)) => !passes(tree, n, last.step.axis, &last.step.test),
-        None => false,
     }
 }

@@ -1,20 +1,26 @@
-//! What steps with positional predicates selected at nodes, kept for the matching of other nodes.
+//! What steps with positional predicates selected at nodes, and what is known of paths, kept for the matching of other nodes.
 
 ghost use Rattle.std.specs.Prelude.{◌≡◌, ℕ, ◌+◌, ◌<◌, List, None, Some, true, false, OnOk, OnErr, IfSome};
 ghost use Rattle.std.specs.Option.{option_copied};
 ghost use Rattle.doc_tree.specs.Table.{Contents};
 ghost use Rattle.xp_typed_tree.specs.TypedTree.{TypedPathTree};
+ghost use Rattle.xp_typed_tree.specs.TypedView.{path_seen};
 ghost use Rattle.xp_outcome.specs.Evaluation.{done, visit};
 ghost use Rattle.xp_meaning.specs.Evaluation.{Lets};
+ghost use Rattle.xslt_match.specs.inner.Keeping.{IsPathIn};
+ghost use Rattle.xslt_match.specs.inner.Named.{all_named};
 ghost use Rattle.xslt_match.specs.Kept.{IsKeptFor, IsOutcomeAt};
 ghost use Rattle.xslt_match.specs.Matching.{matching};
 
+use crate::chains::PlacedPath;
+use crate::names::all_named;
 use crate::nodes::NodeIndex;
 use doc_axes::Judged;
 use doc_tree::{Kind, NodeId, Tree};
 use indexmap::IndexMap;
 use std::alloc::{AllocError, Global};
 use xp_outcome::Recorder;
+use xp_typed_tree::TypedPattern;
 use xp_values::EvalFault;
 
 /// How many outcomes are kept at most: when there are so many, all are let go, and kept anew.
@@ -42,14 +48,23 @@ pub(crate) struct KeptStep {
     pub(crate) visits: usize,
 }
 
-/// What is kept of the steps of one pattern with positional predicates, what each selected at which node; of the node test at which its first path
-/// ends, what this says of names; and where the pattern is of one step that looks at names, the kind of the nodes at which it does.
+/// What is known of a path of a pattern.
+#[derive(Clone, Copy)]
+pub(crate) struct KnownPath {
+    /// What the node test at which it ends says of names.
+    pub(crate) judged: Judged,
+    /// Whether each of its steps looks at the names of elements, and at one place.
+    pub(crate) named: bool,
+}
+
+/// What is kept of the steps of one pattern with positional predicates, what each selected at which node; of its paths, by their numbers, what is
+/// known of each; and where the pattern is of one step that looks at names, the kind of the nodes at which it does.
 ///
 /// It is kept for one tree and one table of lets, as `IsKeptFor` says.
 #[derive(Drop)]
 pub struct KeptSteps {
     steps: IndexMap<StepKey, KeptStep>,
-    pub(crate) judged: Judged,
+    pub(crate) paths: Vec<KnownPath>,
     pub(crate) kind: Option<Kind>,
 }
 
@@ -60,8 +75,34 @@ impl KeptSteps {
     {
         KeptSteps {
             steps: IndexMap::new(alloc),
-            judged: Judged::nothing(),
+            paths: Vec::new(alloc),
             kind: None,
+        }
+    }
+
+    /// Makes a place for what is known of each path of the pattern, where there is none yet.
+    pub(crate) fn reach(&mut self, pattern: &TypedPattern) -> Result<(), AllocError>
+        ensures { (C : Contents) (L : Lets) → IsKeptFor C L pattern.now self.old → IsKeptFor C L pattern.now self.new }
+    {
+        let paths = pattern.paths();
+        while self.paths.len() < paths.len() {
+            let path = &paths[self.paths.len()];
+            self.paths.push(KnownPath {
+                judged: Judged::nothing(),
+                named: all_named(&path.steps),
+            })?;
+        }
+        Ok(())
+    }
+
+    /// Whether each step of a path of the pattern looks at the names of elements, and at one place.
+    pub(crate) fn all_named(&self, at: &PlacedPath<'_>) -> bool
+        ensures { (C : Contents) (L : Lets) (pattern : List TypedPathTree) → IsKeptFor C L pattern self.now → IsPathIn pattern at.now →
+            result ≡ all_named (path_seen at.now.path.now).steps }
+    {
+        match self.paths.get(at.number) {
+            Some(known) => known.named,
+            None => all_named(&at.path.steps),
         }
     }
 

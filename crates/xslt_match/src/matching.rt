@@ -1,31 +1,28 @@
 //! The matching of nodes against match patterns (XSLT 1.0, section 5.2).
 
-ghost use Rattle.std.specs.Prelude.{◌≡◌, ◌∷◌, [], Option, Some, true, false, OnOk};
+ghost use Rattle.std.specs.Prelude.{◌≡◌, ◌∷◌, [], true, false, OnOk};
 ghost use Rattle.doc_tree.specs.Table.{is_live};
-ghost use Rattle.doc_tree.specs.Kinds.{is_kind};
-ghost use Rattle.doc_axes.specs.NodeTests.{is_principal, passes};
 ghost use Rattle.xp_outcome.specs.Evaluation.{all_reading, done};
 ghost use Rattle.xp_outcome.specs.Running.{Ran};
 ghost use Rattle.xp_meaning.specs.Results.{shown};
-ghost use Rattle.xp_typed_tree.specs.TypedView.{path_seen, pattern_step_seen};
-ghost use Rattle.xslt_match.specs.inner.Ends.{ends_elsewhere};
+ghost use Rattle.xp_typed_tree.specs.TypedView.{path_seen};
 ghost use Rattle.xslt_match.specs.inner.Keeping.{IsPathIn};
-ghost use Rattle.xslt_match.specs.Kept.{IsKeptFor, last_step};
+ghost use Rattle.xslt_match.specs.Kept.{IsKeptFor};
 ghost use Rattle.xslt_match.specs.Matching.{matching, path_matches, some_path};
 ghost use Rattle.xslt_match.specs.Names.{HoldsNames, pattern_names, step_names};
 
 use crate::chains::PlacedPath;
 use crate::kept::KeptSteps;
 use crate::names::{NamesUp, read_names_up};
-use doc_axes::passes_by;
-use doc_tree::{Axis, Kind, NodeId, Tree};
+use doc_axes::principal_kind;
+use doc_tree::{NodeId, Tree};
 use std::alloc::Global;
 use std::sync::ledger::Ledger;
 use xp_calls::is_by_name;
 use xp_eval::{Caller, Evaluator};
 use xp_meaning::Lets;
 use xp_outcome::{Recorder, Steps};
-use xp_typed_tree::{TypedPattern, TypedPatternStep};
+use xp_typed_tree::TypedPattern;
 use xp_values::EvalError;
 
 /// Whether a live node matches a pattern (XSLT 1.0, section 5.2), or the first fault of the tests.
@@ -38,7 +35,8 @@ use xp_values::EvalError;
 /// Beside what it held, the recorder holds these names and what the tests read; see `Ran` for what stands where memory is wanting. A
 /// path whose last node test refuses the node costs one look, and one for each name that is read. One in which no step but the first stands after
 /// `//` costs, beside the tests, the square of the number of its steps and no memory, and where it begins by `//` the depth
-/// besides. Another costs, beside the tests, for each two of its steps at most the square of the depth.
+/// besides. Another costs, beside the tests, for each two of its steps at most the square of the depth. Each path takes a place in memory, for what is
+/// known of it.
 pub fn matches<L: Ledger>(
     alloc: Global,
     tree: &Tree,
@@ -64,7 +62,7 @@ pub fn matches<L: Ledger>(
 ///
 /// A step with a positional predicate is evaluated once at each node, and what it gave there is kept for the other nodes
 /// below it; its visits and its reads count each time. So it costs for each of these nodes what the step reads, and a
-/// look-up.
+/// look-up. What the last node test of a path says of names is kept too, so that most nodes cost it a comparison of numbers.
 pub fn matches_with<L: Ledger>(
     evaluator: &Evaluator<'_>,
     pattern: &TypedPattern,
@@ -87,6 +85,7 @@ pub fn matches_with<L: Ledger>(
     if kept.refuses(evaluator.caller.tree, node) {
         return Ok(false);
     }
+    kept.reach(pattern)?;
     let matcher = Matcher {
         evaluator: *evaluator,
         pattern,
@@ -112,9 +111,6 @@ pub(crate) struct Matcher<'r> {
 
 impl Matcher<'_> {
     /// Records the names that the pattern's steps look at, and tells whether a live node matches some path.
-    ///
-    /// It stands apart, so that a pattern of one path pays for nothing of it.
-    #[inline(never)]
     fn several_paths<L: Ledger>(
         &self,
         kept: &mut KeptSteps,
@@ -156,11 +152,9 @@ impl Matcher<'_> {
             return Ok(false);
         }
         let tree = self.evaluator.caller.tree;
-        read_names_up(tree, &at.path.steps, self.node, levels, reads)?;
-        if self.ends_elsewhere(at, kept) {
-            return Ok(false);
-        }
-        self.chain_matches(at, kept, reads, steps)
+        let named = kept.all_named(at);
+        read_names_up(tree, &at.path.steps, named, self.node, levels, reads)?;
+        self.path_matches(at, kept, reads, steps)
     }
 
     /// Whether the pattern's only path is one step that looks at names, and these of nodes of another kind: then it reads nothing and matches none. The
@@ -182,41 +176,6 @@ impl Matcher<'_> {
         }
     }
 
-    /// Whether the node test at which the pattern's first path ends refuses a live node.
-    fn ends_elsewhere(&self, at: &PlacedPath<'_>, kept: &mut KeptSteps) -> bool
-        requires lives { is_live self.now.evaluator.caller.tree.now.nodes self.now.node ≡ true }
-        requires placed { IsPathIn self.now.pattern.now at.now }
-        requires only { self.now.pattern.now ≡ path_seen at.now.path.now ∷ [] }
-        requires kept { IsKeptFor self.now.evaluator.caller.tree.now self.now.evaluator.lets.now self.now.pattern.now kept.old }
-        ensures ends { result ≡ ends_elsewhere self.now.evaluator.caller.tree.now.nodes (path_seen at.now.path.now).steps self.now.node }
-        ensures kept { IsKeptFor self.now.evaluator.caller.tree.now self.now.evaluator.lets.now self.now.pattern.now kept.new }
-    {
-        match at.path.steps.split_last() {
-            Some((last, _)) => !self.passes_last(at, last, kept),
-            None => false,
-        }
-    }
-
-    /// Whether a live node passes the node test at which the pattern's first path ends, by what is known of the names that this accepts.
-    fn passes_last(
-        &self,
-        at: &PlacedPath<'_>,
-        last: &TypedPatternStep,
-        kept: &mut KeptSteps,
-    ) -> bool
-        requires lives { is_live self.now.evaluator.caller.tree.now.nodes self.now.node ≡ true }
-        requires placed { IsPathIn self.now.pattern.now at.now }
-        requires only { self.now.pattern.now ≡ path_seen at.now.path.now ∷ [] }
-        requires last { last_step (path_seen at.now.path.now).steps ≡ Some (pattern_step_seen last.now) }
-        requires kept { IsKeptFor self.now.evaluator.caller.tree.now self.now.evaluator.lets.now self.now.pattern.now kept.old }
-        ensures passes { result ≡ passes self.now.evaluator.caller.tree.now.nodes (pattern_step_seen last.now).axis (pattern_step_seen last.now).test self.now.node }
-        ensures kept { IsKeptFor self.now.evaluator.caller.tree.now self.now.evaluator.lets.now self.now.pattern.now kept.new }
-    {
-        let tree = self.evaluator.caller.tree;
-        let step = &last.step;
-        passes_by(tree, self.node, step.axis, &step.test, &mut kept.judged)
-    }
-
     /// Whether a live node matches some path of the pattern; all are tested.
     fn some_path<L: Ledger>(
         &self,
@@ -236,15 +195,5 @@ impl Matcher<'_> {
             matched |= here;
         }
         Ok(matched)
-    }
-}
-
-/// The kind that names test on an axis: its principal kind (XPath 1.0, section 2.3).
-fn principal_kind(axis: Axis) -> Kind
-    ensures { (kind : Option Kind) → is_kind result kind ≡ is_principal axis kind }
-{
-    match axis {
-        Axis::Attribute => Kind::Attribute,
-        _ => Kind::Element,
     }
 }

@@ -17,7 +17,7 @@ ghost use Rattle.xslt_ways.specs.Ways.{is_anywhere};
 
 use crate::matching::Matcher;
 use crate::one_chain::is_anywhere;
-use doc_axes::is_principal;
+use doc_axes::{is_principal, principal_kind};
 use doc_tree::{Axis, Cell, Kind, NodeId, Tree};
 use std::alloc::AllocError;
 use xp_calls::is_by_name;
@@ -82,20 +82,23 @@ impl NamesUp {
     }
 }
 
-/// `read_step_names`, which records nothing where the names of so many nodes from the one upwards are recorded that the steps look at no others.
+/// `read_step_names` of steps of which it is known whether each looks at the names of elements, and at one place. It records nothing where these do, and
+/// the names of so many nodes from the one upwards are recorded that they look at no others.
 pub(crate) fn read_names_up(
     tree: &Tree,
     path_steps: &[TypedPatternStep],
+    named: bool,
     n: NodeId,
     levels: &mut usize,
     reads: &mut Recorder,
 ) -> Result<(), AllocError>
-    requires { HoldsNames tree.now.nodes n levels.old reads.old }
+    requires held { HoldsNames tree.now.nodes n levels.old reads.old }
+    requires named { named ≡ all_named (map pattern_step_seen path_steps.now) }
     ensures ran { (count : ℕ) → Ran (all_reading (step_names tree.now.nodes n (map pattern_step_seen path_steps.now)) (done tt))
         (shown_alloc result) reads.old reads.new count count }
     ensures named { OnOk result (HoldsNames tree.now.nodes n levels.new reads.new) }
 {
-    if !all_named(path_steps) {
+    if !named {
         return read_step_names(tree, path_steps, n, reads);
     }
     if *levels < path_steps.len() {
@@ -106,7 +109,7 @@ pub(crate) fn read_names_up(
 }
 
 /// Whether each step looks at the names of elements, and at one place.
-fn all_named(path_steps: &[TypedPatternStep]) -> bool
+pub(crate) fn all_named(path_steps: &[TypedPatternStep]) -> bool
     ensures { result ≡ all_named (map pattern_step_seen path_steps.now) }
 {
     match path_steps.split_first() {
@@ -242,8 +245,5 @@ fn read_name(tree: &Tree, axis: Axis, m: NodeId, reads: &mut Recorder) -> Result
 fn has_principal(tree: &Tree, axis: Axis, m: NodeId) -> bool
     ensures { result ≡ is_principal axis (kind_of tree.now.nodes m) }
 {
-    match tree.kind_of(m) {
-        Some(kind) => is_principal(axis, kind),
-        None => false,
-    }
+    tree.is_kind(m, principal_kind(axis))
 }

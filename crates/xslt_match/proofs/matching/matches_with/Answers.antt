@@ -1,6 +1,6 @@
 use Rattle.std.proofs.Common.{◌≡◌, ◌∙◌, [], ◌∷◌, ap, arith, subst, sym}
-use Rattle.xp_outcome.proofs.Runs.{ran_alike, ran_done}
-use Rattle.xp_meaning.proofs.Exits.{ran_ticked}
+use Rattle.xp_outcome.proofs.Runs.{ran_alike, ran_done, ran_late}
+use Rattle.xp_meaning.proofs.Exits.{exit_memory, ran_ticked}
 use Rattle.xp_typed_tree.specs.TypedView.{paths_seen}
 use Rattle.xp_typed_tree.specs.WellTyped.{PathsTyped}
 use Rattle.xslt_match.proofs.Chaining.{names_matched, path_there}
@@ -11,6 +11,9 @@ use Rattle.xslt_match.proofs.matching.matches_with.Goals as goal
 pub returns-then-refuses-clause-ran : goal.returns-then-refuses-clause-ran
 returns-then-refuses-clause-ran g c =
     ran_alike (c.refuses.ensures c.args.evaluator.now.lets.now c.args.pattern.now c.requires.kept c.if-refuses.true) (ran_ticked c.tick.ensures (ran_done _ _ _))
+
+pub returns-in_err-reach-clause-ran : goal.returns-in_err-reach-clause-ran
+returns-in_err-reach-clause-ran g c = exit_memory _ c.from_residual.ensures.1 (ran_ticked c.tick.ensures (ran_late _ _ _))
 
 pub one_path-requires-clause-only : goal.one_path-requires-clause-only
 one_path-requires-clause-only g c =

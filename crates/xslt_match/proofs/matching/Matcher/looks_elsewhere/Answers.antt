@@ -17,7 +17,7 @@ returns-in-len1-clause-kept c =
     let m = c.args.self.now in
     record {
       selected = c.requires.kept.selected;
-      judged = c.requires.kept.judged;
+      paths = c.requires.kept.paths;
       kind = λ n other.
           others_refused m.evaluator.caller.tree.now.nodes n m.evaluator.lets.now m.pattern.now c.args.at.now.path.now c.step-item.result c.requires.only
           (sym c.as_slice.ensures.value ∙ one_item c.as_slice.result.now c.step-item.result (omega (arith, c.in-len1.len_at_least, c.in-len1.len_below)) c.step-item.is)
