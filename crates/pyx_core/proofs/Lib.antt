@@ -1,4 +1,5 @@
 pub mod LinesLemmas
+pub mod LiteralLines
 pub mod ByteLemmas
 pub mod EndLemmas
 pub mod EscapeLemmas

@@ -40,10 +40,10 @@ pub struct Events {
 }
 
 /// Puts an event to those that wait.
-fn put(waiting: &mut VecDeque<Located>, line: u64, event: Event) -> Result<(), AllocError>
-    ensures { Puts waiting.old.items waiting.new.items (located line event ∷ []) result }
+fn put(waiting: &mut VecDeque<Located>, event: Located) -> Result<(), AllocError>
+    ensures { Puts waiting.old.items waiting.new.items (event ∷ []) result }
 {
-    waiting.push_back(Located { line, event })?;
+    waiting.push_back(event)?;
     Ok(())
 }
 
@@ -53,8 +53,20 @@ fn complete(waiting: &mut VecDeque<Located>, begun: Begun) -> Result<(), AllocEr
 {
     match begun {
         Begun::Nothing => Ok(()),
-        Begun::Element { line, name, attrs } => put(waiting, line, Event::Start { name, attrs }),
-        Begun::Text { line, text } => put(waiting, line, Event::Chars { text }),
+        Begun::Element { line, name, attrs } => put(
+            waiting,
+            Located {
+                line,
+                event: Event::Start { name, attrs },
+            },
+        ),
+        Begun::Text { line, text } => put(
+            waiting,
+            Located {
+                line,
+                event: Event::Chars { text },
+            },
+        ),
     }
 }
 
@@ -128,12 +140,32 @@ impl Events {
         }
     }
 
+    /// Takes characters that are lent, which are copied at once to those that are begun.
+    pub fn lent_text(&mut self, alloc: Global, line: u64, text: &str) -> Result<(), AllocError>
+        ensures { (taken done : List Located) (begun : Option Located) → Collected self.old taken done begun →
+            Goes self.new taken done (but_text begun) (with_text line text.now begun) result }
+    {
+        match &mut self.begun {
+            Begun::Text { text: begun, .. } => begun.push_str(text),
+            _ => self.begin_lent(alloc, line, text),
+        }
+    }
+
+    /// Begins characters that are lent, if there are any, which completes the begun event.
+    fn begin_lent(&mut self, alloc: Global, line: u64, text: &str) -> Result<(), AllocError>
+        ensures { (taken done : List Located) (begun : Option Located) → Collected self.old taken done begun →
+            Goes self.new taken done (option_to_list begun) (begin_text line text.now) result }
+    {
+        let text = Text::copy(alloc, text)?;
+        self.begin(begin_text(line, text))
+    }
+
     /// Takes an event that no line continues.
     pub fn whole(&mut self, line: u64, event: Event) -> Result<(), AllocError>
         ensures { (taken done : List Located) (begun : Option Located) → Collected self.old taken done begun →
             Goes self.new taken done (option_to_list begun ++ located line event ∷ []) None result }
     {
         self.complete()?;
-        put(&mut self.waiting, line, event)
+        put(&mut self.waiting, Located { line, event })
     }
 }

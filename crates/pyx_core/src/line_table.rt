@@ -1,10 +1,10 @@
 //! What a line is by itself: the table of lines by their first character.
 
-ghost use Rattle.std.specs.Prelude.{◌≡◌, true, false, IfOk, MatchOption};
+ghost use Rattle.std.specs.Prelude.{◌≡◌, true, false, IfOk, IfSome, MatchOption};
 ghost use Rattle.std.specs.List.{list_all, after_first};
 ghost use Rattle.std.specs.Str.{chars, is_utf8};
 ghost use Rattle.sch_base.specs.Characters.{is_xml_char};
-ghost use Rattle.pyx_core.specs.inner.Plain.{is_literal, AreLiteral};
+ghost use Rattle.pyx_core.specs.inner.Plain.{is_literal, AreLiteral, IsMarked};
 ghost use Rattle.pyx_core.specs.LineTable.{is_space, is_qname, is_target, name_part, read_start, read_end, read_chars, read_comment, read_attribute, read_pi, read_marked, read_text, line_of};
 
 use crate::escapes::unescape_line;
@@ -58,6 +58,25 @@ fn read_literal(alloc: Global, bytes: &[u8]) -> Result<Result<Line, PyxKind>, Al
     match bytes.split_first() {
         Some((mark, body)) => read_marked(alloc, char::from(*mark), literal_text(body), true),
         None => Ok(Ok(Line::Skipped)),
+    }
+}
+
+/// What is after the mark in a line of bytes that are known to be literal and begin with it.
+pub fn literal_body(bytes: &[u8], mark: u8, is_literal: bool) -> Option<&str>
+    requires literal { AreLiteral is_literal bytes.now }
+    ensures { IfSome result (λ body. IsMarked mark body.now bytes.now) }
+{
+    if !is_literal {
+        return None;
+    }
+    match bytes.split_first() {
+        Some((first, body)) => {
+            if *first == mark {
+                return Some(literal_text(body));
+            }
+            None
+        }
+        None => None,
     }
 }
 
@@ -127,7 +146,7 @@ fn read_marked(
 ///
 /// The characters are decoded only where the name has a colon or bytes that are not of ASCII.
 #[tactic(auto, using(crate::proofs::PlainLemmas::plain_name))]
-fn is_qname(text: &str) -> bool
+pub fn is_qname(text: &str) -> bool
     ensures { result ≡ is_qname text.now }
 {
     is_plain_name(text.as_bytes()) || split_qname(text).is_some()
@@ -185,7 +204,7 @@ fn read_comment(
 }
 
 /// A name and what is after the space that ends it, still escaped; without a space there is nothing after it.
-fn parts(body: &str) -> (&str, &str)
+pub fn parts(body: &str) -> (&str, &str)
     ensures name { result.0.now ≡ name_part body.now }
     ensures text { result.1.now ≡ after_first is_space body.now }
 {

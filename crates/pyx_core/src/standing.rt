@@ -1,6 +1,6 @@
 //! Lines in their context.
 
-ghost use Rattle.std.specs.Prelude.{◌≡◌, ◌&&◌, not, ◌++◌, ◌∷◌, [], List, ℕ, suc, length, None, Some, IfOk, OnOk, OnErr};
+ghost use Rattle.std.specs.Prelude.{◌≡◌, ◌&&◌, not, ◌++◌, ◌∷◌, [], List, ℕ, suc, length, false, Ok, None, Some, IfOk, IfSome, OnOk, OnErr};
 ghost use Rattle.std.specs.List.{list_all};
 ghost use Rattle.std.specs.Str.{bytes_eq, chars};
 ghost use Rattle.sch_base.specs.Characters.{is_whitespace};
@@ -12,12 +12,12 @@ ghost use Rattle.pyx_core.specs.declared.mode.Mode.TheVariants.{Fragment};
 ghost use Rattle.pyx_core.specs.Before.{is_fragment, is_second, has_item, makes_item, misplaced, lacking, kept, is_outside, at_top, open_names, outer, is_innermost, takes_attribute, is_text, pending};
 ghost use Rattle.pyx_core.specs.Reading.{judge};
 ghost use Rattle.pyx_core.specs.inner.Plain.{AreLiteral};
-ghost use Rattle.pyx_core.specs.inner.Standing.{AreNamed, ends_innermost, HasRead, Settles, TakesLine, TakesLast};
+ghost use Rattle.pyx_core.specs.inner.Standing.{AreNamed, ends_innermost, attribute_line, IsInside, HasRead, Settles, TakesLine, TakesLast};
 
 use crate::begun::{Begun, Events};
-use crate::line_table::{Line, line_of};
+use crate::line_table::{Line, is_qname, line_of, literal_body, parts};
 use crate::plain::literal_text;
-use crate::{Event, Mode, PyxKind};
+use crate::{Attr, Event, Mode, PyxKind};
 use sch_base::{Text, is_whitespace};
 use std::alloc::{AllocError, Global};
 
@@ -175,6 +175,14 @@ impl Standing {
         makes_item(self.mode, line) || self.has_item
     }
 
+    /// Whether the top item has begun after characters.
+    fn has_item_after_chars(&self, text: &str) -> bool
+        ensures { (mode : Mode) (taken : List Located) (before : List Line) → HasRead self.now mode taken before →
+            result ≡ has_item mode (line_of.Chars text.now ∷ before) }
+    {
+        is_fragment(self.mode) && !text.is_empty() || self.has_item
+    }
+
     /// The rule that the line breaks after those before it.
     fn misplaced(&self, line: &Line) -> Option<PyxKind>
         ensures { (mode : Mode) (taken : List Located) (before : List Line) → HasRead self.now mode taken before →
@@ -276,6 +284,84 @@ impl Standing {
         }
     }
 
+    /// The name of the element that the line with these bytes begins, where they are known to be literal and the line
+    /// is good.
+    #[tactic(auto, using(crate::proofs::LiteralLines::start_good))]
+    fn literal_start<'a>(&self, bytes: &'a [u8], is_literal: bool) -> Option<&'a str>
+        requires literal { AreLiteral is_literal bytes.now }
+        ensures { (mode : Mode) (taken : List Located) (before : List Line) → HasRead self.now mode taken before →
+            IfSome result (λ name. judge mode before bytes.now ≡ Ok (line_of.Start name.now)) }
+    {
+        let name = literal_body(bytes, b'(', is_literal)?;
+        if self.at_top() && self.has_item {
+            return None;
+        }
+        is_qname(name).then_some(name)
+    }
+
+    /// The text of the character line with these bytes, where they are known to be literal and an element is open.
+    fn literal_chars<'a>(&self, bytes: &'a [u8], is_literal: bool) -> Option<&'a str>
+        requires literal { AreLiteral is_literal bytes.now }
+        ensures { (mode : Mode) (taken : List Located) (before : List Line) → HasRead self.now mode taken before →
+            IfSome result (λ text. IsInside mode before bytes.now text.now) }
+    {
+        let text = literal_body(bytes, b'-', is_literal)?;
+        if self.at_top() {
+            return None;
+        }
+        Some(text)
+    }
+
+    /// The name and the value in the attribute line with these bytes, where they are known to be literal and the line is
+    /// good.
+    fn literal_attribute<'a>(&self, bytes: &'a [u8], is_literal: bool) -> Option<(&'a str, &'a str)>
+        requires literal { AreLiteral is_literal bytes.now }
+        ensures { (mode : Mode) (taken : List Located) (before : List Line) → HasRead self.now mode taken before →
+            IfSome result (λ attr. judge mode before bytes.now ≡ Ok (attribute_line attr.0.now attr.1.now)) }
+    {
+        let body = literal_body(bytes, b'A', is_literal)?;
+        if self.takes_attribute() {
+            let (name, value) = parts(body);
+            if is_qname(name) {
+                return Some((name, value));
+            }
+        }
+        None
+    }
+
+    /// Starts an element that has its place.
+    fn start(&mut self, alloc: Global, number: u64, name: &str) -> Result<(), AllocError>
+        ensures { (mode : Mode) (taken : List Located) (before : List Line) → HasRead self.old mode taken before →
+            number ≡ suc (length before) → AreNamed (line_of.Start name.now ∷ before) →
+            Settles self.new mode taken before (line_of.Start name.now) result }
+    {
+        self.has_item = true;
+        let top = Text::copy(alloc, name)?;
+        self.opened.push(top)?;
+        let name = Text::copy(alloc, name)?;
+        self.events.start(alloc, number, name)
+    }
+
+    /// Takes characters within an element.
+    fn chars(&mut self, alloc: Global, number: u64, text: &str) -> Result<(), AllocError>
+        ensures { (mode : Mode) (taken : List Located) (before : List Line) → HasRead self.old mode taken before →
+            number ≡ suc (length before) → at_top before ≡ false →
+            Settles self.new mode taken before (line_of.Chars text.now) result }
+    {
+        self.has_item = self.has_item_after_chars(text);
+        self.events.lent_text(alloc, number, text)
+    }
+
+    /// Takes an attribute of the element that is begun.
+    fn attribute(&mut self, alloc: Global, name: &str, value: &str) -> Result<(), AllocError>
+        ensures { (mode : Mode) (taken : List Located) (before : List Line) → HasRead self.old mode taken before →
+            Settles self.new mode taken before (attribute_line name.now value.now) result }
+    {
+        let name = Text::copy(alloc, name)?;
+        let value = Text::copy(alloc, value)?;
+        self.events.attribute(Attr { name, value })
+    }
+
     /// The line with these bytes, which may be known to be literal, or the first rule that it breaks after the lines
     /// before it.
     fn judge(
@@ -304,7 +390,9 @@ impl Standing {
     /// Judges the line with these bytes, which may be known to be literal, and takes it if it is good; else the answer is
     /// the rule that it breaks.
     ///
-    /// A line that ends the innermost open element, as nearly each end does, is compared with the open name alone.
+    /// Those lines that come most are taken from their bytes, without a value of their own: one that ends the innermost
+    /// open element, which is compared with the open name alone, and literal ones that begin an element, are
+    /// characters in one or are an attribute.
     pub fn take(
         &mut self,
         alloc: Global,
@@ -320,6 +408,34 @@ impl Standing {
             self.end_innermost(number)?;
             return Ok(None);
         }
+        if let Some(name) = self.literal_start(bytes, is_literal) {
+            self.start(alloc, number, name)?;
+            return Ok(None);
+        }
+        if let Some(text) = self.literal_chars(bytes, is_literal) {
+            self.chars(alloc, number, text)?;
+            return Ok(None);
+        }
+        if let Some((name, value)) = self.literal_attribute(bytes, is_literal) {
+            self.attribute(alloc, name, value)?;
+            return Ok(None);
+        }
+        self.take_judged(alloc, number, bytes, is_literal)
+    }
+
+    /// Judges the line with these bytes, which may be known to be literal, and takes it if it is good; else the answer is
+    /// the rule that it breaks.
+    fn take_judged(
+        &mut self,
+        alloc: Global,
+        number: u64,
+        bytes: &[u8],
+        is_literal: bool,
+    ) -> Result<Option<PyxKind>, AllocError>
+        requires literal { AreLiteral is_literal bytes.now }
+        ensures { (mode : Mode) (taken : List Located) (before : List Line) → HasRead self.old mode taken before →
+            number ≡ suc (length before) → TakesLine self.new mode taken before (judge mode before bytes.now) result }
+    {
         let line = match self.judge(alloc, bytes, is_literal)? {
             Ok(line) => line,
             Err(kind) => return Ok(Some(kind)),

@@ -15,6 +15,11 @@ is_literal b = lies_in ((32, 91) ∷ (93, 126) ∷ []) b
 abbrev pub AreLiteral : Bool → List ℕ → Type 0
 AreLiteral said bytes = said ≡ true → list_all is_literal bytes ≡ true
 
+-- such characters, of which the first is the mark and the others are the body
+pub record IsMarked (mark : ℕ) (body bytes : List ℕ) : Type 0 where
+  pub is : bytes ≡ mark ∷ body
+  pub literal : list_all is_literal bytes ≡ true
+
 -- a letter of ASCII or the underscore, each a NameStartChar
 abbrev pub is_plain_start : ℕ → Bool
 is_plain_start b = lies_in ((65, 90) ∷ (95, 95) ∷ (97, 122) ∷ []) b

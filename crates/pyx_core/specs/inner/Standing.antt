@@ -4,11 +4,12 @@ use Rattle.std.specs.List.{list_all}
 use Rattle.pyx_core.specs.declared.event.Located.{Located}
 use Rattle.pyx_core.specs.declared.fault.PyxKind.{PyxKind}
 use Rattle.pyx_core.specs.declared.line_table.Line.{Line}
+use Rattle.pyx_core.specs.declared.line_table.Line.TheVariants.{Attribute, Chars}
 use Rattle.pyx_core.specs.declared.mode.Mode.{Mode}
 use Rattle.pyx_core.specs.declared.standing.Standing.{Standing}
-use Rattle.pyx_core.specs.Before.{outermost_first, open_names, is_innermost, has_item, pending, closed, lacking}
+use Rattle.pyx_core.specs.Before.{outermost_first, open_names, at_top, is_innermost, has_item, pending, closed, lacking}
 use Rattle.pyx_core.specs.Nesting.{is_name}
-use Rattle.pyx_core.specs.Reading.{ended}
+use Rattle.pyx_core.specs.Reading.{judge, ended}
 use Rattle.pyx_core.specs.Fronts.{IsFront}
 use Rattle.pyx_core.specs.inner.Begun.{Collected}
 
@@ -65,3 +66,12 @@ TakesLast standing mode taken before (Ok line) result =
 TakesLast standing mode taken before (Err kind) result =
     MatchResult result (λ found. (found ≡ Some kind) × Has standing taken (closed mode before))
     (λ _. IsFront (taken ++ standing.events.waiting.items) (closed mode before))
+
+-- the line of an attribute
+abbrev pub attribute_line : List ℕ → List ℕ → Line
+attribute_line name value = Attribute (record { name = name; value = value })
+
+-- a line that is good by its bytes is characters within an element
+pub record IsInside (mode : Mode) (before : List Line) (bytes text : List ℕ) : Type 0 where
+  pub inside : at_top before ≡ false
+  pub good : judge mode before bytes ≡ Ok (Chars text)
