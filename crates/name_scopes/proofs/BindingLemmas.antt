@@ -1,12 +1,12 @@
 -- Declarations in scope: how they are found, and how they come and go.
 use Rattle.std.proofs.Common.{◌≡◌, ◌≢◌, ℕ, ◌+◌, ◌<◌, ◌≤◌, suc, zero, Bool, true, false, cond, eqb, List, [], ◌∷◌, ◌++◌, length, map, get_or, set, drop, slice_get, Option, None, Some, option_map, refl, sym, ap, ap₂, ◌∙◌, subst, ⊎_elim, true≢false, arith, eqb-true, eq-eqb, length-append, get_or-set_same, get_or-set_other}
-use Rattle.std.specs.Prelude.{option_and_then}
+use Rattle.std.specs.Prelude.{option_and_then, unwrap_or}
 use Rattle.std.specs.Str.{bytes_eq}
 use Rattle.std.proofs.lemmas.Slice.Eq.{bytes_eq-Decides}
 use Rattle.std.proofs.lemmas.List.{get_or_past}
 use Rattle.std.proofs.lemmas.Bool.{cases_lt}
 use Rattle.doc_tree.specs.Numbering.{EachOnce, Numbered}
-use Rattle.doc_tree.specs.Scope.{Decl, first_declared}
+use Rattle.doc_tree.specs.Scope.{Decl, first_declared, namespace_in, xml_prefix, xmlns_prefix}
 use Rattle.name_scopes.specs.declared.scope.Binding.{Binding}
 use Rattle.name_scopes.specs.inner.Scope.{newest_first, bound, uri_of, nearest_at, Shadow, Bound}
 
@@ -185,6 +185,35 @@ pub kept-declared : (words : List (List ℕ)) (items : List Binding) (latest : L
 kept-declared words items latest prefix number s once is o e =
     nearest-declared words prefix number once is (newest_first items) s.shadow
     ∙ ap₂ (λ xs o. option_and_then (λ place. option_map uri_of (slice_get xs place)) o) (newest-twice items) (sym (s.nearest number) ∙ e)
+
+-- a number that has a place is that of a word
+below-placed : (count : ℕ) (L : List Binding) (number place : ℕ) → Shadow count L → nearest_at L number ≡ Some place → number < count
+below-placed count [] number place s h = absurd (cc)
+below-placed count (b ∷ L) number place s h = by (eqb b.number number) refl h (below-placed count L number place s.2)
+  where
+    by : (t : Bool) → eqb b.number number ≡ t → cond t (Some (length L)) (nearest_at L number) ≡ Some place → (nearest_at L number ≡ Some place → number < count) → number < count
+    by true e h rest = subst (λ n. n < count) (eqb-true b.number number e) s.0
+    by false e h rest = rest h
+
+-- the nearest declaration of a prefix, by a hint of its number
+pub hinted-declared : (words : List (List ℕ)) (items : List Binding) (latest : List (Option ℕ)) (prefix : List ℕ) (number place : ℕ) → Bound words items latest → EachOnce words →
+    get_or words number [] ≡ prefix → get_or latest number None ≡ Some place → first_declared (map (bound words) (newest_first items)) prefix ≡ option_map uri_of (slice_get items place)
+hinted-declared words items latest prefix number place s once is e =
+    let below : number < length words = below-placed (length words) (newest_first items) number place s.shadow (sym (s.nearest number) ∙ e) in
+    kept-declared words items latest prefix number s once (index-get words number below ∙ ap Some is) (Some place) e
+
+-- the default namespace
+empty-xmlns : bytes_eq [] xmlns_prefix ≡ false
+unfolding xmlns_prefix
+empty-xmlns = refl
+
+empty-xml : bytes_eq [] xml_prefix ≡ false
+unfolding xml_prefix
+empty-xml = refl
+
+pub default-is : (scope : List Decl) (o : Option (List ℕ)) → first_declared scope [] ≡ o → namespace_in scope [] ≡ Some (unwrap_or o [])
+default-is scope None e = rw (empty-xmlns, empty-xml, e) refl
+default-is scope (Some uri) e = rw (empty-xmlns, empty-xml, e) refl
 
 -- the nearest declaration goes
 pub forgotten : (words : List (List ℕ)) (had items : List Binding) (b : Binding) → had ≡ items ++ b ∷ [] →

@@ -29,3 +29,4 @@ pub mod PieceTests
 pub mod PieceSteps
 pub mod PieceWhole
 pub mod PieceFront
+pub mod LonePiece

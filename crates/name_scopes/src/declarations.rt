@@ -1,6 +1,6 @@
 //! The attributes that declare namespaces (Namespaces in XML 1.0, section 3).
 
-ghost use Rattle.std.specs.Prelude.{◌≡◌, ◌≢◌, ◌++◌, List, ℕ, None, Some, MatchOption};
+ghost use Rattle.std.specs.Prelude.{◌≡◌, ◌≢◌, ◌++◌, List, ℕ, false, None, Some, MatchOption};
 ghost use Rattle.doc_tree.specs.Scope.{xmlns_prefix};
 ghost use Rattle.name_scopes.specs.Declarations.{declaration_of, declares_namespace, is_plain};
 
@@ -40,7 +40,21 @@ pub(crate) fn declared_prefix(attr: &Attr) -> Option<&str>
 fn after_xmlns(name: &str) -> Option<&str>
     ensures { MatchOption result ((rest : List ℕ) → name.now ≢ xmlns_prefix ++ rest) (λ rest. name.now ≡ xmlns_prefix ++ rest.now) }
 {
+    if starts_otherwise(name) {
+        return None;
+    }
     name.strip_prefix("xmlns")
+}
+
+/// Whether a name's first byte is another than that of `xmlns`, which is so of most names.
+#[tactic(auto, unfolding(doc_tree::specs::Scope::xmlns_prefix))]
+fn starts_otherwise(name: &str) -> bool
+    ensures { (rest : List ℕ) → name.now ≡ xmlns_prefix ++ rest → result ≡ false }
+{
+    match name.as_bytes().first() {
+        Some(byte) => *byte != b'x',
+        None => true,
+    }
 }
 
 /// Whether an attribute declares nothing.

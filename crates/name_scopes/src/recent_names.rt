@@ -1,6 +1,7 @@
 //! The numbers of names that came lately.
 
 ghost use Rattle.std.specs.Prelude.{◌≡◌, ◌<◌, true, is_none, IfOk, IfSome, MatchOption};
+ghost use Rattle.std.specs.Str.{bytes_eq};
 ghost use Rattle.doc_tree.specs.Numbering.{Numbered};
 ghost use Rattle.doc_tree.specs.Scope.{namespace_in};
 ghost use Rattle.name_scopes.specs.QNames.{prefix_part};
@@ -11,8 +12,8 @@ use crate::scope::Scope;
 use doc_tree::{NameId, NodeId, Tree};
 use std::alloc::AllocError;
 
-/// How many nodes are kept.
-const SLOTS: usize = 64;
+/// How many nodes are kept, and how many prefixes of a scope.
+pub(crate) const SLOTS: usize = 64;
 
 /// Nodes that came lately, each in the slot of its name: where a name comes again, its number is found by comparing it
 /// with that of the node, which costs less than asking the table of names.
@@ -75,17 +76,27 @@ fn number_at(tree: &Tree, node: NodeId, name: QName, uri: &str) -> Option<NameId
     ensures { IfSome result (λ id. Numbered tree.now.names tree.now.names (record { prefix = name.entry.prefix.now; local = name.entry.local.now; uri = uri.now }) id) }
 {
     let id = tree.name(node)?;
-    if tree.local_of(id) == name.local
-        && tree.prefix_of(id) == name.prefix
-        && tree.uri_of(id) == uri
+    if is_same(tree.local_of(id), name.local)
+        && is_same(tree.prefix_of(id), name.prefix)
+        && is_same(tree.uri_of(id), uri)
     {
         return Some(id);
     }
     None
 }
 
-/// The slot of a QName, by its length and its last byte.
-fn slot(name: &str) -> usize
+/// Whether two texts are the same. Most prefixes and many namespaces are empty, and cost no comparison of bytes.
+fn is_same(a: &str, b: &str) -> bool
+    ensures { result ≡ bytes_eq a.now b.now }
+{
+    if a.is_empty() {
+        return b.is_empty();
+    }
+    a == b
+}
+
+/// The slot of a QName or of a prefix, by its length and its last byte.
+pub(crate) fn slot(name: &str) -> usize
     ensures { result < SLOTS }
 {
     let bytes = name.as_bytes();

@@ -1,10 +1,11 @@
 //! The declarations in scope at a place of a document.
 
-ghost use Rattle.std.specs.Prelude.{◌≡◌, ◌∷◌, ◌++◌, ◌<◌, [], List, ℕ, None, drop, length, vec_len, OnErr, OnOk, slice_get, slice_index_or, slice_set};
+ghost use Rattle.std.specs.Prelude.{◌≡◌, ◌∷◌, ◌++◌, ◌<◌, [], List, ℕ, None, Some, drop, length, vec_len, IfSome, OnErr, OnOk, slice_get, slice_index_or, slice_set};
 ghost use Rattle.std.specs.Option.{option_copied, option_map};
 ghost use Rattle.doc_tree.specs.Scope.{first_declared, namespace_in};
 ghost use Rattle.name_scopes.specs.inner.Scope.{uri_of};
 
+use crate::recent_names::{SLOTS, slot};
 use doc_tree::{WordTable, is_xml, is_xmlns, undeclared_namespace, xml_namespace};
 use sch_base::Text;
 use std::alloc::{AllocError, Global};
@@ -29,6 +30,8 @@ pub(crate) struct Scope {
     bindings: Vec<Binding>,
     /// The place of the nearest declaration of each prefix.
     latest: Vec<Option<usize>>,
+    /// The number of the prefix that was declared last in each slot, a hint alone.
+    hints: [usize; SLOTS],
 }
 
 impl Model for Scope {
@@ -53,6 +56,7 @@ impl Scope {
             prefixes: WordTable::new(alloc),
             bindings: Vec::new(alloc),
             latest: Vec::new(alloc),
+            hints: [0; SLOTS],
         }
     }
 
@@ -66,6 +70,7 @@ impl Scope {
         let place = self.bindings.len();
         push_binding(&mut self.bindings, self.alloc, number, uri, shadowed)?;
         put_place(&mut self.latest, number, Some(place));
+        self.hints[slot(prefix)] = number;
         Ok(())
     }
 
@@ -89,6 +94,9 @@ impl Scope {
     pub(crate) fn namespace(&self, prefix: &str) -> Option<&str>
         ensures { option_copied result ≡ namespace_in self.now prefix.now }
     {
+        if prefix.is_empty() {
+            return Some(self.default_namespace());
+        }
         if is_xmlns(prefix) {
             return None;
         }
@@ -101,6 +109,16 @@ impl Scope {
         }
     }
 
+    /// The default namespace, which is empty where none is declared (section 6.2).
+    fn default_namespace(&self) -> &str
+        ensures { namespace_in self.now [] ≡ Some result.now }
+    {
+        match self.nearest("") {
+            Some(uri) => uri,
+            None => "",
+        }
+    }
+
     /// The namespace that the nearest declaration of a prefix gives it.
     fn nearest(&self, prefix: &str) -> Option<&str>
         ensures { option_copied result ≡ first_declared self.now prefix.now }
@@ -109,6 +127,10 @@ impl Scope {
             return None;
         }
         self.prefixes.laws();
+        let hint = self.hints[slot(prefix)];
+        if let Some(place) = hinted_place(&self.prefixes, &self.latest, hint, prefix) {
+            return uri_at(&self.bindings, place);
+        }
         match self.prefixes.find(prefix) {
             Some(number) => match place_at(&self.latest, number) {
                 Some(place) => uri_at(&self.bindings, place),
@@ -166,6 +188,22 @@ fn place_at(latest: &Vec<Option<usize>>, number: usize) -> Option<usize>
         Some(place) => *place,
         None => None,
     }
+}
+
+/// The place that is kept for a number, where a prefix is the word with this number.
+fn hinted_place(
+    prefixes: &WordTable,
+    latest: &Vec<Option<usize>>,
+    number: usize,
+    prefix: &str,
+) -> Option<usize>
+    ensures { IfSome result (λ place. (slice_index_or prefixes.now number [] ≡ prefix.now) × (slice_index_or latest.now.items number None ≡ Some place)) }
+{
+    let place = place_at(latest, number)?;
+    if prefixes.word(number) == prefix {
+        return Some(place);
+    }
+    None
 }
 
 /// Puts a place for a number, where there is room for it.

@@ -33,6 +33,9 @@ pub(crate) fn check_attrs(
 ) -> Result<Option<DocKind>, AllocError>
     ensures { IfOk result (λ found. found ≡ attrs_fault scope.now attrs.now) }
 {
+    if attrs.is_empty() {
+        return Ok(None);
+    }
     if lack_prefix(scope, attrs) {
         return Ok(Some(DocKind::NoPrefix));
     }

@@ -3,20 +3,27 @@ use Rattle.std.proofs.Common.{None, Some, sym, ap, ◌∙◌, arith}
 use Rattle.std.proofs.lemmas.Bool.Decides.{nat_tests}
 use Rattle.doc_tree.specs.Scope.{first_declared}
 use Rattle.name_scopes.specs.inner.Scope.{newest_first}
-use Rattle.name_scopes.proofs.BindingLemmas.{never-declared, kept-declared, nothing-declared}
+use Rattle.name_scopes.proofs.BindingLemmas.{hinted-declared, never-declared, kept-declared, nothing-declared}
 use Rattle.name_scopes.proofs.scope.Scope.nearest.Goals as goal
+
+pub returns-in-Some : goal.returns-in-Some
+returns-in-Some c =
+    c.uri_at.ensures
+    ∙ sym (hinted-declared c.self.inside.prefixes c.self.inside.bindings.items c.self.inside.latest.items c.args.prefix.now _ c.in-Some.place c.self.invariant c.laws.ensures
+    c.in-Some.ensures.0 c.in-Some.ensures.1)
+    ∙ ap (λ l. first_declared l c.args.prefix.now) c.self.view_is
 
 pub returns-in-Some-place_at : goal.returns-in-Some-place_at
 returns-in-Some-place_at c =
-    c.uri_at.ensures
-    ∙ sym (kept-declared c.self.inside.prefixes c.self.inside.bindings.items c.self.inside.latest.items c.args.prefix.now c.in-Some.number c.self.invariant c.laws.ensures
-    c.in-Some.ensures.found (Some c.in-Some-place_at.place) (sym c.place_at.ensures ∙ c.in-Some-place_at.is))
+    c.uri_at-in-Some-place_at.ensures
+    ∙ sym (kept-declared c.self.inside.prefixes c.self.inside.bindings.items c.self.inside.latest.items c.args.prefix.now c.in-Some-find.number c.self.invariant c.laws.ensures
+    c.in-Some-find.ensures.found (Some c.in-Some-place_at.place) (sym c.place_at.ensures ∙ c.in-Some-place_at.is))
     ∙ ap (λ l. first_declared l c.args.prefix.now) c.self.view_is
 
 pub returns-in-None-place_at : goal.returns-in-None-place_at
 returns-in-None-place_at c =
-    sym (kept-declared c.self.inside.prefixes c.self.inside.bindings.items c.self.inside.latest.items c.args.prefix.now c.in-Some.number c.self.invariant c.laws.ensures
-    c.in-Some.ensures.found None (sym c.place_at.ensures ∙ c.in-None-place_at.is))
+    sym (kept-declared c.self.inside.prefixes c.self.inside.bindings.items c.self.inside.latest.items c.args.prefix.now c.in-Some-find.number c.self.invariant c.laws.ensures
+    c.in-Some-find.ensures.found None (sym c.place_at.ensures ∙ c.in-None-place_at.is))
     ∙ ap (λ l. first_declared l c.args.prefix.now) c.self.view_is
 
 pub returns-in-None : goal.returns-in-None
