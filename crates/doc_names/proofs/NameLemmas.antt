@@ -1,7 +1,8 @@
 -- Names spelled by the words of a table: they stay when words are added, and each stands once.
-use Rattle.std.proofs.Common.{◌≡◌, ℕ, ◌<◌, ◌≤◌, suc, zero, Bool, true, false, List, [], ◌∷◌, ◌++◌, map, length, take, get_or, slice_get, None, Some, refl, sym, ap, ap₂, ◌∙◌, inl, inr, ⊎_elim, arith, length-append}
+use Rattle.std.proofs.Common.{◌≡◌, ℕ, ◌<◌, ◌≤◌, suc, zero, Bool, true, false, ◌&&◌, bytes_eq, eqb, eqb-true, eq-eqb, true≢false, List, [], ◌∷◌, ◌++◌, map, length, take, get_or, slice_get, None, Some, refl, sym, ap, ap₂, subst, ◌∙◌, inl, inr, ⊎_elim, arith, length-append}
 use Rattle.std.specs.Prelude.{Result, Ok, Err, OnErr}
 use Rattle.std.specs.List.{list_any}
+use Rattle.std.proofs.lemmas.Slice.Eq.{bytes_eq-Decides}
 use Rattle.indexmap.specs.IndexSet.{insert_key}
 use Rattle.doc_names.specs.declared.names.NameKey.{NameKey}
 use Rattle.doc_names.specs.Name.{Name, no_name, numbered}
@@ -89,6 +90,42 @@ get-some (w ∷ ws) (suc i) h = get-some ws i (omega arith)
 
 word-number : (words : List (List ℕ)) (i j : ℕ) → EachOnce words → i < length words → j < length words → get_or words i [] ≡ get_or words j [] → i ≡ j
 word-number words i j once hi hj e = once i j (get_or words i []) (get-some words i hi) (get-some words j hj ∙ ap Some (sym e))
+
+-- two words are the same where their numbers are
+same-word : (words : List (List ℕ)) (i j : ℕ) → EachOnce words → i < length words → j < length words → eqb i j ≡ bytes_eq (get_or words i []) (get_or words j [])
+same-word words i j once hi hj = by (eqb i j) refl
+  where
+    v : List ℕ
+    v = get_or words i []
+
+    w : List ℕ
+    w = get_or words j []
+
+    by : (t : Bool) → eqb i j ≡ t → t ≡ bytes_eq v w
+    by true e = sym ((bytes_eq-Decides v w).1 (ap (λ k. get_or words k []) (eqb-true i j e)))
+    by false e = other (bytes_eq v w) refl
+      where
+        other : (t : Bool) → bytes_eq v w ≡ t → false ≡ t
+        other true h = absurd (true≢false (sym (eq-eqb i j (word-number words i j once hi hj ((bytes_eq-Decides v w).0 h))) ∙ e))
+        other false h = refl
+
+-- so names are one expanded name where the numbers of their namespaces and local parts are
+same-expanded : (words : List (List ℕ)) (a b : NameKey) → EachOnce words → KeyIsBelow (length words) a → KeyIsBelow (length words) b →
+    (eqb a.uri b.uri && eqb a.local b.local) ≡ (bytes_eq (spelled words a).uri (spelled words b).uri && bytes_eq (spelled words a).local (spelled words b).local)
+same-expanded words a b once ha hb = ap₂ (λ x y. x && y) (same-word words a.uri b.uri once ha.uri hb.uri) (same-word words a.local b.local once ha.local hb.local)
+
+key-below : (n : ℕ) (keys : List NameKey) (i : ℕ) (key : NameKey) → KeysAreBelow n keys → slice_get keys i ≡ Some key → KeyIsBelow n key
+key-below n [] i key k h = absurd (cc)
+key-below n (x ∷ keys) zero key k h = let same : x ≡ key = (cc) in subst (KeyIsBelow n) same k.0
+key-below n (x ∷ keys) (suc i) key k h = key-below n keys i key k.1 h
+
+pub one-expanded : (words : List (List ℕ)) (keys : List NameKey) (i j : ℕ) (a b : NameKey) → EachOnce words → KeysAreBelow (length words) keys →
+    slice_get keys i ≡ Some a → slice_get keys j ≡ Some b → (eqb a.uri b.uri && eqb a.local b.local) ≡
+    (bytes_eq (numbered (map (spelled words) keys) i).uri (numbered (map (spelled words) keys) j).uri
+    && bytes_eq (numbered (map (spelled words) keys) i).local (numbered (map (spelled words) keys) j).local)
+one-expanded words keys i j a b once below at_i at_j =
+    rw (numbered-some words keys i a at_i, numbered-some words keys j b at_j)
+    (same-expanded words a b once (key-below (length words) keys i a below at_i) (key-below (length words) keys j b below at_j))
 
 -- no name stands twice
 pub names-once : (words : List (List ℕ)) (keys : List NameKey) → EachOnce words → EachOnce keys → KeysAreBelow (length words) keys → EachOnce (map (spelled words) keys)

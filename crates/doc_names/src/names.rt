@@ -1,6 +1,6 @@
 //! Names, numbered in the order of first use.
 
-ghost use Rattle.std.specs.Prelude.{◌≡◌, [], IfOk, OnErr, length, take};
+ghost use Rattle.std.specs.Prelude.{◌≡◌, ◌<◌, ◌&&◌, [], bytes_eq, IfOk, OnErr, length, take};
 ghost use Rattle.doc_names.specs.Name.{numbered};
 ghost use Rattle.doc_names.specs.Numbering.{EachOnce, Numbered};
 ghost use Rattle.doc_names.specs.inner.Keys.{Extends, KeyOf};
@@ -96,6 +96,22 @@ impl NameTable {
         ensures { self.new ≡ take len self.old }
     {
         self.keys.truncate(len);
+    }
+
+    /// Whether two names are one expanded name (Namespaces in XML 1.0, section 2.1), whatever their prefixes. Compares numbers of words.
+    pub fn are_one_expanded(&self, a: NameId, b: NameId) -> bool
+        requires a { a < length self.now }
+        requires b { b < length self.now }
+        ensures { result ≡ (bytes_eq (numbered self.now a).uri (numbered self.now b).uri && bytes_eq (numbered self.now a).local (numbered self.now b).local) }
+    {
+        self.words.laws();
+        match (
+            self.keys.get_index(a.index()),
+            self.keys.get_index(b.index()),
+        ) {
+            (Some(first), Some(second)) => first.uri == second.uri && first.local == second.local,
+            _ => unreachable!(),
+        }
     }
 
     /// The prefix of a name, empty for a number that no name has.

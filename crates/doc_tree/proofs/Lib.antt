@@ -1,3 +1,4 @@
+pub mod AlikeLemmas
 pub use Rattle.doc_table.proofs.ListLemmas
 pub use Rattle.doc_table.proofs.Below
 pub mod ScopeLemmas

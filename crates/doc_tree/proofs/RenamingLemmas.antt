@@ -1,5 +1,5 @@
 -- A node against whose new name nothing speaks may have it.
-use Rattle.std.proofs.Common.{◌≡◌, ℕ, Bool, true, false, not, ◌&&◌, ◌||◌, List, Option, None, Some, refl, sym, ap, ap₂, ◌∙◌, true≢false, eqb, eqb-true, unwrap_or}
+use Rattle.std.proofs.Common.{◌≡◌, ℕ, true, false, not, ◌&&◌, ◌||◌, List, Option, None, Some, refl, sym, ap, ap₂, ◌∙◌, true≢false, eqb, eqb-true, unwrap_or}
 use Rattle.std.specs.Str.{bytes_eq}
 use Rattle.std.proofs.lemmas.Bool.{and_parts}
 use Rattle.std.proofs.lemmas.Slice.Eq.{bytes_eq-Decides}
@@ -13,7 +13,7 @@ use Rattle.doc_tree.specs.declared.refusal.EditRefusal.TheVariants.{WrongKind, N
 use Rattle.doc_tree.specs.Edited.{attribute_name_at, element_name_at}
 use Rattle.doc_tree.specs.NameTests.{attribute_in, attribute_meant, has_name, named}
 use Rattle.doc_tree.specs.Refusals.{are_two, declares_namespace, is_unbound, name_pair_refusal, name_refusal, renaming_refusal}
-use Rattle.doc_tree.specs.Scope.{namespace_or_none, xmlns_prefix}
+use Rattle.doc_tree.specs.Scope.{xmlns_prefix}
 use Rattle.doc_tree.proofs.AttributeLemmas.{found-member, has-expanded, known}
 use Rattle.doc_tree.proofs.RefusalLemmas.{find-in, find-none, is-element, none-of-four, none-of-three, not-true, or-false}
 

@@ -12,8 +12,10 @@ pub use Rattle.doc_table.specs.InOrder
 pub use Rattle.doc_table.specs.SameTree
 pub mod Scope
 pub mod NameTests
+pub mod Alike
 pub mod Refusals
 pub mod Edited
+pub mod inner
 pub use Rattle.doc_edits.specs.Changes
 pub use Rattle.doc_table.specs.Declaring
 pub use Rattle.doc_table.specs.declared.kind

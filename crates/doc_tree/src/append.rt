@@ -7,6 +7,7 @@ ghost use Rattle.doc_table.specs.Growth.{Grew, FitsUnder, NameIsKnown, Refuses, 
 ghost use Rattle.doc_table.specs.Kinds.{holds_kids};
 ghost use Rattle.doc_table.specs.inner.Labels.{LabelIsBelow, content_labelled};
 
+use crate::alike::note;
 use crate::tree::Tree;
 use doc_table::{AppendError, Label, NewNode, NodeId};
 
@@ -52,6 +53,14 @@ impl Tree {
         ensures refused { IfErr result (Refuses (passed_limit self.old.nodes parent (content_labelled self.old.names label.now text.now))) }
         ensures unchanged { OnErr result (self.new ≡ self.old) }
     {
-        self.bare.append(parent, label, text)
+        self.bare.laws();
+        let count = self.count_alike(parent, label, text);
+        match self.bare.append(parent, label, text) {
+            Ok(number) => {
+                note(&mut self.alike, number, count);
+                Ok(number)
+            }
+            Err(error) => Err(error),
+        }
     }
 }

@@ -70,6 +70,7 @@ impl Tree {
             Some(a) => {
                 self.laws();
                 edits_keep_documents();
+                self.alike.clear();
                 doc_edits::remove(&mut self.bare, *a);
                 Ok(())
             }
@@ -95,7 +96,10 @@ impl Tree {
     {
         self.laws();
         match found {
-            Some(a) => doc_edits::say(&mut self.bare, *a, value),
+            Some(a) => {
+                self.alike.clear();
+                doc_edits::say(&mut self.bare, *a, value)
+            }
             None => self.gain(n, prefix, local, value),
         }
     }
@@ -110,6 +114,7 @@ impl Tree {
         ensures unchanged { OnErr result (self.new ≡ self.old) }
     {
         let uri = Text::copy(self.bare.alloc, self.attribute_uri(n, prefix))?;
+        self.alike.clear();
         doc_edits::gain(&mut self.bare, n, prefix, local, uri.as_str(), value)?;
         Ok(())
     }

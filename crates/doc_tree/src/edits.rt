@@ -39,6 +39,7 @@ impl Tree {
             return Err(EditError::Refused(reason));
         }
         edits_keep_documents();
+        self.alike.clear();
         doc_edits::say(&mut self.bare, n, text)?;
         Ok(())
     }
@@ -62,6 +63,7 @@ impl Tree {
             return Err(EditError::Refused(reason));
         }
         edits_keep_documents();
+        self.alike.clear();
         doc_edits::delete(&mut self.bare, n)?;
         Ok(())
     }

@@ -95,6 +95,7 @@ impl Tree {
             return Err(EditError::Refused(passed));
         }
         edits_keep_documents();
+        self.alike.clear();
         let number = doc_edits::insert(&mut self.bare, parent, at as usize - 1, &piece.bare)?;
         Ok(number)
     }

@@ -1,6 +1,7 @@
 //! The tree of a document by the data model of XPath 1.0, section 5: nodes by number, names by number, document order.
 #![tactic(auto)]
 
+mod alike;
 mod append;
 mod attributes;
 mod axes;

@@ -89,6 +89,7 @@ impl Tree {
         ensures unchanged { OnErr result (self.new ≡ self.old) }
     {
         let uri = Text::copy(self.bare.alloc, self.element_uri(n, prefix))?;
+        self.alike.clear();
         doc_edits::rename(&mut self.bare, n, prefix, local, uri.as_str())?;
         Ok(())
     }
@@ -108,6 +109,7 @@ impl Tree {
         ensures unchanged { OnErr result (self.new ≡ self.old) }
     {
         let uri = Text::copy(self.bare.alloc, self.attribute_uri(n, prefix))?;
+        self.alike.clear();
         doc_edits::rename(&mut self.bare, a, prefix, local, uri.as_str())?;
         Ok(())
     }

@@ -9,6 +9,7 @@ ghost use Rattle.doc_table.specs.Lists.{mem};
 ghost use Rattle.doc_tree.specs.NameTests.{has_name};
 ghost use Rattle.doc_table.specs.Walks.{order};
 
+use crate::alike::UNKNOWN;
 use doc_names::NameId;
 use doc_table::{Bare, Kind, NodeId};
 use std::alloc::{AllocError, Global};
@@ -20,13 +21,16 @@ use std::marker::Model;
 /// answer of a number that isn't live as of a node that holds nothing.
 pub struct Tree {
     pub(crate) bare: Bare,
+    /// How many elements like it stand before each node among its siblings, by number, as far as they are counted; empty after an edit.
+    pub(crate) alike: Vec<u32>,
 }
 
 /// One call lets a whole tree go, wherever its owner ends.
 impl Drop for Tree {
     fn drop(self) {
-        let Tree { bare } = self;
+        let Tree { bare, alike } = self;
         drop(bare);
+        drop(alike);
     }
 }
 
@@ -39,7 +43,10 @@ impl Model for Tree {
 
     ghost view = { λ t. contents t.bare };
 
-    ghost invariant = { λ t. IsSound t.bare };
+    ghost use Rattle.doc_table.specs.inner.Parts.{table_of};
+    ghost use Rattle.doc_tree.specs.inner.Counted.{AreCounted};
+
+    ghost invariant = { λ t. IsSound t.bare × AreCounted (table_of t.bare) t.alike.items };
 }
 
 impl Tree {
@@ -47,8 +54,11 @@ impl Tree {
     pub fn new(alloc: Global) -> Result<Tree, AllocError>
         ensures { IfOk result (λ tree. tree ≡ root_alone) }
     {
+        let mut alike = Vec::new(alloc);
+        alike.push(UNKNOWN)?;
         Ok(Tree {
             bare: Bare::new(alloc)?,
+            alike,
         })
     }
 

@@ -16,7 +16,7 @@ returns-clause-document c =
     ap is_document c.in_ok-delete.ensures.deleted
     ∙ (ap (λ (t : Contents). is_document (deleted t.nodes c.args.n)) c.self.view_is
     ∙ document-kept c.args.self.now.nodes c.args.n c.deletion_refusal.result c.edits_keep_documents.ensures
-    (subst (λ (t : Contents). WellFormed t.nodes) c.self.view_is (well-formed (table_of c.self.inside.bare) c.self.invariant.formed)) c.deletion_refusal.ensures c.in_default.is c.requires.document)
+    (subst (λ (t : Contents). WellFormed t.nodes) c.self.view_is (well-formed (table_of c.self.inside.bare) c.self.invariant.0.formed)) c.deletion_refusal.ensures c.in_default.is c.requires.document)
 
 -- where something speaks against it
 

@@ -24,7 +24,7 @@ insert-requires-clause-may c =
     (may-take c.args.self.now c.args.parent c.args.at c.args.piece.now.nodes
     (nothing-against c.args.self.now c.args.parent c.args.at c.args.piece.now.nodes c.top_kind.result c.room_refusal.result c.top_kind.ensures.kind c.in_default.ensures.good
     c.room_refusal.ensures c.in_default-room_refusal.is)
-    (ordered c.args.piece.now.nodes (subst (λ (t : Contents). Formed t.nodes) c.piece.view_is c.piece.invariant.formed)) c.requires.one))
+    (ordered c.args.piece.now.nodes (subst (λ (t : Contents). Formed t.nodes) c.piece.view_is c.piece.invariant.0.formed)) c.requires.one))
 
 pub returns-clause-document : goal.returns-clause-document
 returns-clause-document c =
@@ -35,8 +35,8 @@ returns-clause-document c =
     (nothing-against c.args.self.now c.args.parent c.args.at c.args.piece.now.nodes c.top_kind.result c.room_refusal.result c.top_kind.ensures.kind c.in_default.ensures.good
     c.room_refusal.ensures c.in_default-room_refusal.is)
     c.edits_keep_documents.ensures
-    (subst (λ (t : Contents). WellFormed t.nodes) c.self.view_is (well-formed (table_of c.self.inside.bare) c.self.invariant.formed))
-    (well-formed c.args.piece.now.nodes (subst (λ (t : Contents). Formed t.nodes) c.piece.view_is c.piece.invariant.formed)) c.requires.one c.requires.document))
+    (subst (λ (t : Contents). WellFormed t.nodes) c.self.view_is (well-formed (table_of c.self.inside.bare) c.self.invariant.0.formed))
+    (well-formed c.args.piece.now.nodes (subst (λ (t : Contents). Formed t.nodes) c.piece.view_is c.piece.invariant.0.formed)) c.requires.one c.requires.document))
 
 -- where something speaks against the place
 
