@@ -300,3 +300,31 @@ module _ (T : Table) (form : WellFormed T) (ord : Ordered T) (up : HasWaysUp T) 
       by true e o f = none_earlier n (ap (λ b. cond b [] (kids_above T (parent_of T n))) e)
       by false e None f = none_earlier n (ap (λ b. cond b [] (kids_above T (parent_of T n))) e ∙ ap (kids_above T) f)
       by false e (Some p) f = earlier_axis n p e f
+
+-- What stands before a node begins the kids beside it
+
+front_of : (n : ℕ) (ks : List ℕ) → (back : List ℕ) × (ks ≡ before n ks ++ back)
+front_of n [] = ([], refl)
+front_of n (m ∷ ms) = by (eqb n m) (front_of n ms)
+  where
+    by : (b : Bool) → (back : List ℕ) × (ms ≡ before n ms ++ back) → (back : List ℕ) × (m ∷ ms ≡ cond b [] (m ∷ before n ms) ++ back)
+    by true r = (m ∷ ms, refl)
+    by false r = (r.0, ap (λ l. m ∷ l) r.1)
+
+before_is_front : (n : ℕ) (ks : List ℕ) → (back : List ℕ) × (ks ≡ kids_before n ks ++ back)
+before_is_front n ks = by (mem n ks) (front_of n ks)
+  where
+    by : (b : Bool) → (back : List ℕ) × (ks ≡ before n ks ++ back) → (back : List ℕ) × (ks ≡ cond b (before n ks) [] ++ back)
+    by true r = r
+    by false r = (ks, refl)
+
+pub first_kids : (T : Table) (n : ℕ) (nodes : List ℕ) → nodes ≡ kids_before n (kids_beside T n) → (p : ℕ) × ((back : List ℕ) × (kids_of T p ≡ nodes ++ back))
+first_kids T n nodes are = by (is_attribute T n) (parent_of T n) are
+  where
+    none : nodes ≡ [] → (p : ℕ) × ((back : List ℕ) × (kids_of T p ≡ nodes ++ back))
+    none e = (0, (kids_of T 0, sym (ap (λ l. l ++ kids_of T 0) e)))
+
+    by : (b : Bool) (o : Option ℕ) → nodes ≡ kids_before n (cond b [] (kids_above T o)) → (p : ℕ) × ((back : List ℕ) × (kids_of T p ≡ nodes ++ back))
+    by true o e = none e
+    by false None e = none e
+    by false (Some p) e = let r = before_is_front n (kids_of T p) in (p, (r.0, r.1 ∙ ap (λ l. l ++ r.0) (sym e)))

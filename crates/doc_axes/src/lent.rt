@@ -2,8 +2,9 @@
 
 ghost use Rattle.std.specs.Prelude.{◌≡◌, ◌<◌, ◌≤◌, true, drop, length, slice_index_or, IfSome};
 ghost use Rattle.doc_tree.specs.Table.{is_live};
+ghost use Rattle.doc_tree.specs.declared.axes.Axis.TheVariants.{PrecedingSibling};
 ghost use Rattle.doc_axes.specs.Axes.{axis_nodes, backwards};
-ghost use Rattle.doc_axes.specs.inner.Lending.{lent_nodes};
+ghost use Rattle.doc_axes.specs.inner.Lending.{AreFirstKids, lent_nodes};
 
 use crate::axes::kids_beside;
 use crate::laws::axes_by_cells;
@@ -20,7 +21,8 @@ pub(crate) struct Lent<'t> {
 /// The nodes on the axis from a live node, where the tree keeps them as a list.
 pub(crate) fn lent_nodes(tree: &Tree, n: NodeId, axis: Axis) -> Option<Lent<'_>>
     requires { is_live tree.now.nodes n ≡ true }
-    ensures { IfSome result (λ lent. lent_nodes lent ≡ axis_nodes tree.now.nodes axis n) }
+    ensures nodes { IfSome result (λ lent. lent_nodes lent ≡ axis_nodes tree.now.nodes axis n) }
+    ensures before { axis ≡ PrecedingSibling → IfSome result (AreFirstKids tree.now.nodes) }
 {
     axes_by_cells(tree);
     match axis {
@@ -45,7 +47,9 @@ impl<'t> Lent<'t> {
 
     /// Nodes from the last to the first.
     fn from_end(nodes: &'t [NodeId]) -> Lent<'t>
-        ensures { lent_nodes result ≡ backwards nodes.now }
+        ensures lent { lent_nodes result ≡ backwards nodes.now }
+        ensures nodes { result.nodes.now ≡ nodes.now }
+        ensures turned { result.from_end ≡ true }
     {
         Lent {
             nodes,

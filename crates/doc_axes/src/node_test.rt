@@ -32,10 +32,7 @@ pub fn passes(tree: &Tree, n: NodeId, axis: Axis, test: &NodeTest) -> bool
 pub fn is_principal(axis: Axis, kind: Kind) -> bool
     ensures { result ≡ is_principal axis (Some kind) }
 {
-    match axis {
-        Axis::Attribute => kind == Kind::Attribute,
-        _ => kind == Kind::Element,
-    }
+    kind == principal_kind(axis)
 }
 
 /// The kind that names test on the axis: its principal kind (XPath 1.0, section 2.3).

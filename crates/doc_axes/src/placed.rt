@@ -1,15 +1,15 @@
 //! The node at a place among those on an axis that pass a node test, found without a list of them (XPath 1.0, sections 2.3 and 2.4).
 
-ghost use Rattle.std.specs.Prelude.{◌≡◌, ◌+◌, ◌<◌, ◌++◌, ◌∷◌, ◌≤◌, [], ℕ, List, true, false, filter, is_none, length, IfSome};
-ghost use Rattle.std.specs.Bool.{OnTrue};
+ghost use Rattle.std.specs.Prelude.{◌≡◌, ◌+◌, ◌<◌, ◌++◌, ◌∷◌, ◌≤◌, [], ℕ, List, true, drop, filter, length, max, nat_le, IfSome};
 ghost use Rattle.doc_tree.specs.Lists.{mem};
 ghost use Rattle.doc_tree.specs.Table.{is_live};
+ghost use Rattle.doc_tree.specs.declared.axes.Axis.TheVariants.{PrecedingSibling};
 ghost use Rattle.doc_axes.specs.Axes.{axis_nodes};
 ghost use Rattle.doc_axes.specs.Judging.{IsJudged};
 ghost use Rattle.doc_axes.specs.NodeTests.{passes};
 ghost use Rattle.doc_axes.specs.Places.{IsPlaced};
-ghost use Rattle.doc_axes.specs.inner.Lending.{lent_nodes};
-ghost use Rattle.doc_axes.specs.inner.Seeing.{Tells};
+ghost use Rattle.doc_axes.specs.inner.Lending.{AreFirstKids, lent_nodes};
+ghost use Rattle.doc_axes.specs.inner.Seeing.{EndsPassing, Tells};
 
 use crate::judged::{Judged, accepted_in_front, passes_by};
 use crate::lent::{Lent, lent_nodes};
@@ -52,26 +52,71 @@ pub fn passing_at(
 
 /// The node at the place among those of some live nodes that pass the test. Where it is found, those behind it are only counted.
 fn at_place(tree: &Tree, axis: Axis, test: &NodeTest, lent: Lent<'_>, place: usize) -> Placed
-    requires { (m : ℕ) → mem m (lent_nodes lent) ≡ true → is_live tree.now.nodes m ≡ true }
+    requires live { (m : ℕ) → mem m (lent_nodes lent) ≡ true → is_live tree.now.nodes m ≡ true }
+    requires before { axis ≡ PrecedingSibling → AreFirstKids tree.now.nodes lent }
     ensures { IsPlaced place (lent_nodes lent.entry) (filter (passes tree.now.nodes axis test.now) (lent_nodes lent.entry)) result }
 {
     let on_axis = lent.len();
     let mut judged = Judged::nothing();
     let mut seen = Seen::nothing(place);
     let mut next = 0;
-    while seen.seeks(next, on_axis) {
+    while !seen.is_done() && next < on_axis {
         let n = lent.at(next);
         if passes_by(tree, n, axis, test, &mut judged) {
             seen.see(n);
         }
         next += 1;
     }
-    let rest = lent.behind(next);
-    let more = count_passing(tree, axis, test, rest.nodes, &mut judged);
+    let mut passing = seen.count;
+    if seen.is_done() {
+        passing += count_behind(tree, axis, test, lent, next, &mut judged);
+    }
     Placed {
         on_axis,
-        passing: seen.count + more,
+        passing,
         node: seen.node,
+    }
+}
+
+/// How many of some live nodes pass the test behind one that passes.
+fn count_behind(
+    tree: &Tree,
+    axis: Axis,
+    test: &NodeTest,
+    lent: Lent<'_>,
+    next: usize,
+    judged: &mut Judged,
+) -> usize
+    requires live { (m : ℕ) → mem m (lent_nodes lent) ≡ true → is_live tree.now.nodes m ≡ true }
+    requires before { axis ≡ PrecedingSibling → AreFirstKids tree.now.nodes lent }
+    requires within { next ≤ length (lent_nodes lent) }
+    requires passing { EndsPassing (passes tree.now.nodes axis test.now) next (lent_nodes lent) }
+    requires judged { IsJudged tree.now.names test.now judged.old }
+    ensures { result ≡ length (filter (passes tree.now.nodes axis test.now) (drop next (lent_nodes lent.entry))) }
+{
+    if let Some(count) = counted_before(tree, axis, test, lent, next) {
+        return count;
+    }
+    let rest = lent.behind(next);
+    count_passing(tree, axis, test, rest.nodes, judged)
+}
+
+/// The same where the tree knows it: of elements of one expanded name that stand before one of them among its siblings.
+fn counted_before(
+    tree: &Tree,
+    axis: Axis,
+    test: &NodeTest,
+    lent: Lent<'_>,
+    next: usize,
+) -> Option<usize>
+    requires before { axis ≡ PrecedingSibling → AreFirstKids tree.now.nodes lent }
+    requires within { next ≤ length (lent_nodes lent) }
+    requires passing { EndsPassing (passes tree.now.nodes axis test.now) next (lent_nodes lent) }
+    ensures { IfSome result (λ count. count ≡ length (filter (passes tree.now.nodes axis test.now) (drop next (lent_nodes lent.entry)))) }
+{
+    match (axis, test) {
+        (Axis::PrecedingSibling, NodeTest::Named { .. }) => tree.alike_before(lent.at(next - 1)),
+        _ => None,
     }
 }
 
@@ -111,12 +156,11 @@ impl Seen {
         }
     }
 
-    /// Whether the node at the place is not seen yet, and some of so many nodes are left.
-    fn seeks(&self, next: usize, end: usize) -> bool
-        ensures left { OnTrue result (next < end) }
-        ensures found { result ≡ false → is_none self.now.node ≡ true → end ≤ next }
+    /// Whether the node at the place is seen, or any where none is asked for.
+    fn is_done(&self) -> bool
+        ensures { result ≡ nat_le (max self.now.place 1) self.now.count }
     {
-        self.node.is_none() && next < end
+        self.count >= self.place.max(1)
     }
 
     /// One more node passes.

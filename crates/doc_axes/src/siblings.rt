@@ -34,24 +34,9 @@ fn place_among(kids: &[NodeId], n: NodeId) -> Option<usize>
     requires { Distinct kids.now }
     ensures { result ≡ position (λ kid. n == kid) kids.now }
 {
-    let likely = place_by_number(kids, n);
+    let likely = kids.partition_point(|kid| kid.index() < n.index());
     if likely < kids.len() && kids[likely] == n {
         return Some(likely);
     }
     kids.iter().position(|kid| n == *kid)
-}
-
-/// Where the node stands if it does and the kids stand in the order of their numbers.
-fn place_by_number(kids: &[NodeId], n: NodeId) -> usize {
-    let mut low = 0;
-    let mut high = kids.len();
-    while low < high {
-        let middle = low + (high - low) / 2;
-        if kids[middle].index() < n.index() {
-            low = middle + 1;
-        } else {
-            high = middle;
-        }
-    }
-    low
 }

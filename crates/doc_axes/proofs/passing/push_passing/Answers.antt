@@ -8,7 +8,7 @@ use Rattle.doc_axes.proofs.passing.push_passing.Goals as goal
 
 pub push_those-requires : goal.push_those-requires
 push_those-requires c = λ m h.
-    axis_live c.args.tree.now.nodes c.laws.ensures.ordered c.args.axis c.args.n m (sym (ap (mem m) c.in-Some.ensures) ∙ h)
+    axis_live c.args.tree.now.nodes c.laws.ensures.ordered c.args.axis c.args.n m (sym (ap (mem m) c.in-Some.ensures.nodes) ∙ h)
 
 pub returns-then-not-is_turned-clause-pushed : goal.returns-then-not-is_turned-clause-pushed
 returns-then-not-is_turned-clause-pushed c =

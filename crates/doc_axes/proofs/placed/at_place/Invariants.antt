@@ -1,8 +1,8 @@
-use Rattle.std.proofs.Common.{◌-◌, ◌≤◌, filter, length, take}
+use Rattle.std.proofs.Common.{◌-◌, ◌≤◌, filter, length, max, take}
 use Rattle.doc_axes.specs.NodeTests.{passes}
 use Rattle.doc_axes.specs.Judging.{IsJudged}
 use Rattle.doc_axes.specs.inner.Lending.{lent_nodes}
-use Rattle.doc_axes.specs.inner.Seeing.{Tells}
+use Rattle.doc_axes.specs.inner.Seeing.{EndsPassing, Tells}
 use Rattle.doc_axes.proofs.placed.at_place.Given as goal
 
 abbrev pub decreases-loop-lent : goal.decreases-loop-lent
@@ -14,4 +14,5 @@ invariant-loop-lent l = record {
   few : l.seen.count ≤ l.next;
   within : l.next ≤ length (lent_nodes l.fn.lent);
   judged : IsJudged l.tree.names l.test l.judged;
+  last : max l.fn.place 1 ≤ l.seen.count → EndsPassing (passes l.tree.nodes l.fn.axis l.test) l.next (lent_nodes l.fn.lent);
 }

@@ -9,4 +9,4 @@ returns-then-eq c =
     let n = c.args.n in
     let kid = c.index-kids-likely.result in
     let same : kid ≡ n = eqb-true kid n (sym c.eq.ensures ∙ c.if-eq.true) in
-    sym (placed_once n c.args.kids.now c.place_by_number-likely.result kid (c.requires n) c.if-likely-kids.true (sym c.index-kids-likely.is ∙ same))
+    sym (placed_once n c.args.kids.now c.partition_point-likely.result kid (c.requires n) c.if-likely-kids.true (sym c.index-kids-likely.is ∙ same))

@@ -12,7 +12,7 @@ pub returns-then-self : goal.returns-then-self
 returns-then-self c =
     let nodes = c.args.self.nodes.now in
     let k = c.args.count in
-    c.from_end.ensures
+    c.from_end.ensures.lent
     ∙ (ap backwards c.split_at.ensures.front
     ∙ (drop_backwards nodes k (omega (arith, c.requires, lent_length nodes c.args.self.from_end))
     ∙ ap (λ b. drop k (if b then backwards nodes else nodes)) (sym c.if-self.true)))
