@@ -8,7 +8,7 @@ use Rattle.xp_outcome.specs.Cells.{cells_of}
 use Rattle.xp_outcome.specs.Evaluation.{Read, cell, names_along, variable}
 use Rattle.xp_outcome.specs.Slots.{in_slot}
 use Rattle.sch_compiled.specs.declared.plan.Plan.{Plan}
-use Rattle.sch_units.specs.Units.{lets_of}
+use Rattle.sch_locality_laws.specs.Units.{lets_of}
 use Rattle.sch_locality_laws.specs.Locality.{Unchanged}
 use Rattle.edit_costs.specs.Dirty.{is_changed, is_touched}
 use Rattle.edit_costs.specs.SameOutcome.{same_outcome}

@@ -8,8 +8,8 @@ use Rattle.xp_outcome.specs.Slots.{in_slot}
 use Rattle.xp_meaning.specs.Evaluation.{Lets}
 use Rattle.sch_compiled.specs.declared.parts.LetInForce.{LetInForce}
 use Rattle.sch_compiled.specs.declared.plan.Plan.{Plan}
-use Rattle.sch_units.specs.Laws.{LetsStandInOrder}
-use Rattle.sch_units.specs.Units.{lets_of, unit_let}
+use Rattle.sch_locality_laws.specs.Laws.{LetsStandInOrder}
+use Rattle.sch_locality_laws.specs.Units.{lets_of, unit_let}
 
 -- slots that are all filled, and others with the same values and no more, are the same
 same_slots : {V : Type 0} (xs ys : List (Option V)) → length xs ≤ length ys → ((i : ℕ) → i < length ys → (v : V) × (in_slot ys i ≡ Some v)) →

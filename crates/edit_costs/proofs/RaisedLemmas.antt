@@ -10,8 +10,8 @@ use Rattle.xp_outcome.specs.Slots.{in_slot}
 use Rattle.xp_values.specs.declared.values.EvalFault.{EvalFault}
 use Rattle.xp_values.specs.declared.values.Value.{Value}
 use Rattle.sch_compiled.specs.declared.plan.Plan.{Plan}
-use Rattle.sch_units.specs.Units.{lets_of}
-use Rattle.sch_units.specs.Validity.{let_fault}
+use Rattle.sch_locality_laws.specs.Units.{lets_of}
+use Rattle.sch_locality_laws.specs.Validity.{let_fault}
 use Rattle.edit_costs.specs.Costs.{Raised, cost_of}
 use Rattle.edit_costs.specs.Evaluating.{SpentOn, Took}
 use Rattle.edit_costs.specs.Units.{ValidationUnit, in_force, has_fault, work_of}

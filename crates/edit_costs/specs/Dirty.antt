@@ -7,7 +7,7 @@ use Rattle.xp_outcome.specs.Cells.{cells_of}
 use Rattle.xp_outcome.specs.Evaluation.{Read, cell, names_along, variable}
 use Rattle.xp_outcome.specs.Slots.{in_slot}
 use Rattle.sch_compiled.specs.declared.plan.Plan.{Plan}
-use Rattle.sch_units.specs.Units.{lets_of}
+use Rattle.sch_locality_laws.specs.Units.{lets_of}
 use Rattle.edit_costs.specs.SameOutcome.{same_outcome}
 use Rattle.edit_costs.specs.Units.{ValidationUnit, in_force, under, reads_of, units_of}
 

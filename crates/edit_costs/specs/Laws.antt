@@ -13,7 +13,7 @@ use Rattle.xp_meaning.specs.Evaluation.{Lets}
 use Rattle.sch_compiled.specs.declared.parts.LetInForce.{LetInForce}
 use Rattle.sch_compiled.specs.declared.plan.Plan.{Plan}
 use Rattle.sch_compiled.specs.Soundness.{IsSound}
-use Rattle.sch_units.specs.Units.{lets_of, unit_let, unit_pair}
+use Rattle.sch_locality_laws.specs.Units.{lets_of, unit_let, unit_pair}
 use Rattle.sch_locality_laws.specs.Locality.{RulesTyped}
 use Rattle.edit_costs.specs.Dirty.{is_dirty}
 use Rattle.edit_costs.specs.SameOutcome.{same_outcome}

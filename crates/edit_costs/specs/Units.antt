@@ -8,8 +8,8 @@ use Rattle.xp_outcome.specs.Slots.{in_slot}
 use Rattle.xp_meaning.specs.Evaluation.{Lets}
 use Rattle.sch_compiled.specs.declared.parts.LetInForce.{LetInForce}
 use Rattle.sch_compiled.specs.declared.plan.Plan.{Plan}
-use Rattle.sch_units.specs.Units.{lets_of, unit_let, unit_pair}
-use Rattle.sch_units.specs.Validity.{let_fault, pair_fault, pair_outcome, pattern_numbers}
+use Rattle.sch_locality_laws.specs.Units.{lets_of, unit_let, unit_pair}
+use Rattle.sch_locality_laws.specs.Validity.{let_fault, pair_fault, pair_outcome, pattern_numbers}
 
 -- a let in force, by its slot, or a node under an active pattern, by the numbers of the pattern and of the node
 pub data ValidationUnit : Type 0 where

@@ -4,7 +4,7 @@
 
 ghost use Rattle.edit_costs.specs.Laws.{CleanUnitsStand, LetsNeedThoseBefore, SameOutcomesAreEqual};
 
-use sch_locality_laws::units_stand;
+pub use sch_locality_laws::{rules_are_typed, units_are_local, units_stand};
 use xp_meaning_laws::{lets_read_are_named, meaning_needs_slots_alone};
 
 /// A unit that edits leave clean gives, reads and costs the same in the tree that they make.

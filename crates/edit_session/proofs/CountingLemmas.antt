@@ -18,18 +18,18 @@ use Rattle.sch_compiled.specs.declared.state_fault.StateFault.{StateFault}
 use Rattle.sch_compiled.specs.Findings.{OutcomeTable, ToldInOrder, is_told, outcome_at}
 use Rattle.sch_compiled.specs.Plan.{rules_of}
 use Rattle.sch_units.specs.Validity.{first_fault, pair_outcome}
-use Rattle.state_run.specs.declared.scanning.Evaluated.{Evaluated}
-use Rattle.state_run.specs.declared.scanning.Evaluated.TheVariants.{Whole, Faulted}
-use Rattle.state_run.specs.Evaluated.{Evaluates}
-use Rattle.edit_costs.specs.Costs.{Raised, cost_of}
-use Rattle.kept_state.specs.Kept.{Kept}
-use Rattle.kept_state.specs.Running.{to_run}
+use Rattle.kept_units.specs.scanning.Evaluated.{Evaluated}
+use Rattle.kept_units.specs.scanning.Evaluated.TheVariants.{Whole, Faulted}
+use Rattle.kept_units.specs.Evaluated.{Evaluates}
+use Rattle.kept_units.specs.Costs.{Raised, cost_of}
+use Rattle.kept_units.specs.Kept.{Kept}
+use Rattle.kept_units.specs.Running.{to_run}
 use Rattle.edit_session.specs.Counts.{counts_of, failed_assertions, fired_rules, over_pairs, successful_reports}
 use Rattle.edit_session.specs.declared.counting.Counts.{Counts}
 use Rattle.edit_session.specs.declared.counting.Tally.{Tally}
 use Rattle.edit_session.specs.Standing.{Standing}
 use Rattle.edit_session.specs.inner.Counting.{Counted, FiredRules, FailedAssertions, SuccessfulReports, adds, adds_kept, counts_by, fault_of, node_adds, nodes_add, pairs_add, part}
-use Rattle.state_run.specs.Outcomes.{Holds}
+use Rattle.kept_units.specs.Outcomes.{Holds}
 use Rattle.edit_session.proofs.FaultLemmas.{run-clear}
 use Rattle.edit_session.proofs.SearchLemmas.{or_right}
 

@@ -12,13 +12,13 @@ use Rattle.sch_compiled.specs.declared.plan.Plan.{Plan}
 use Rattle.sch_compiled.specs.declared.state_fault.StateFault.{StateFault}
 use Rattle.sch_units.specs.Units.{lets_of}
 use Rattle.sch_units.specs.Validity.{first_fault, first_let_fault, first_node_fault, first_with, let_fault, pattern_numbers}
-use Rattle.edit_costs.specs.Costs.{Raised, cost_of}
-use Rattle.edit_costs.specs.Units.{ValidationUnit, has_fault, in_force, let_units, node_units, under, units_of}
-use Rattle.kept_state.specs.Kept.{Kept}
-use Rattle.kept_state.specs.Running.{is_run, to_run}
+use Rattle.kept_units.specs.Costs.{Raised, cost_of}
+use Rattle.kept_units.specs.Units.{ValidationUnit, has_fault, in_force, let_units, node_units, under, units_of}
+use Rattle.kept_units.specs.Kept.{Kept}
+use Rattle.kept_units.specs.Running.{is_run, to_run}
 use Rattle.edit_session.specs.declared.state.ReportError.{ReportError}
-use Rattle.edit_session.specs.declared.state.Shown.{Shown}
-use Rattle.edit_session.specs.declared.state.Shown.TheVariants.{Fault}
+use Rattle.edit_session.specs.shown.Shown.{Shown}
+use Rattle.edit_session.specs.shown.Shown.TheVariants.{Fault}
 use Rattle.edit_session.specs.State.{shown_by, shows}
 use Rattle.edit_session.specs.Wrote.{RoseBy, WroteState}
 use Rattle.edit_session.proofs.SearchLemmas.{option_none}

@@ -12,14 +12,14 @@ use Rattle.sch_compiled.specs.Findings.{outcome_at}
 use Rattle.sch_compiled.specs.Soundness.{IsSound}
 use Rattle.sch_units.specs.Units.{lets_of}
 use Rattle.sch_units.specs.Validity.{pair_outcome}
-use Rattle.sch_locality_laws.specs.Locality.{RulesTyped}
-use Rattle.edit_costs.specs.Dirty.{dirty_units}
-use Rattle.edit_costs.specs.Units.{in_force, under}
-use Rattle.state_run.specs.Outcomes.{Holds, LetsHold}
-use Rattle.kept_state.specs.Kept.{Keeps, Kept}
-use Rattle.kept_state.specs.Laws.{DirtyUnitsAreRun, EditsKeep}
-use Rattle.kept_state.specs.Running.{IsDone, IsFresh, to_run}
-use Rattle.kept_state.specs.Steps.{Marks, unless_touched}
+use Rattle.kept_units.specs.Locality.{RulesTyped}
+use Rattle.kept_units.specs.Dirty.{dirty_units}
+use Rattle.kept_units.specs.Units.{in_force, under}
+use Rattle.kept_units.specs.Outcomes.{Holds, LetsHold}
+use Rattle.kept_units.specs.Kept.{Keeps, Kept}
+use Rattle.kept_units.specs.KeptLaws.{DirtyUnitsAreRun, EditsKeep}
+use Rattle.kept_units.specs.Running.{IsDone, IsFresh, to_run}
+use Rattle.kept_units.specs.Steps.{Marks, unless_touched}
 use Rattle.kept_units.specs.declared.kept_units.KeptUnits.{KeptUnits}
 use Rattle.kept_units.specs.Keeping.{seen_in}
 

@@ -32,12 +32,12 @@ use Rattle.std.proofs.KnownBytes.{Appends-nil}
 use Rattle.sch_io.specs.Wrote.{Appends}
 use Rattle.edit_session.specs.declared.state.ReportError.{ReportError}
 use Rattle.edit_session.specs.declared.state.ReportError.TheVariants.{Memory}
-use Rattle.edit_session.specs.declared.state.Shown.{Shown}
-use Rattle.edit_session.specs.declared.state.Shown.TheVariants as shown
+use Rattle.edit_session.specs.shown.Shown.{Shown}
+use Rattle.edit_session.specs.shown.Shown.TheVariants as shown
 use Rattle.edit_session.specs.State.{report_of, shown_by, shows, state_text, text_by}
 use Rattle.edit_session.specs.Wrote.{WroteState}
-use Rattle.state_run.specs.Outcomes.{Holds}
-use Rattle.unit_live_laws.specs.LiveReads.{PairsFindAtLiveNodes}
+use Rattle.kept_units.specs.Outcomes.{Holds}
+use Rattle.kept_units.specs.LiveReads.{PairsFindAtLiveNodes}
 use Rattle.edit_session.specs.inner.Shown.{ShownAs, shown_of}
 use Rattle.edit_session.proofs.SearchLemmas.{mem_item, or_right, with_none, with_some}
 

@@ -6,11 +6,11 @@ use Rattle.doc_tree.specs.Table.{Table}
 use Rattle.xp_outcome.specs.Recorded.{Recorded}
 use Rattle.sch_compiled.specs.declared.plan.Plan.{Plan}
 use Rattle.sch_units.specs.Units.{lets_of}
-use Rattle.edit_costs.specs.Units.{ValidationUnit, under, units_of}
+use Rattle.kept_units.specs.Units.{ValidationUnit, under, units_of}
 use Rattle.cover_laws.specs.Covering.{holds_touched}
-use Rattle.kept_state.specs.Kept.{Kept}
-use Rattle.kept_state.specs.Running.{is_run, to_run}
-use Rattle.kept_state.specs.Steps.{differs, unless_changed, unless_touched}
+use Rattle.kept_units.specs.Kept.{Kept}
+use Rattle.kept_units.specs.Running.{is_run, to_run}
+use Rattle.kept_units.specs.Steps.{differs, unless_changed, unless_touched}
 use Rattle.edit_session.specs.Laws.{StaleAfterEdit, keeps_touched}
 
 -- what something touched is among is stale

@@ -4,11 +4,11 @@ use Rattle.doc_tree.specs.cell.Cell.{Cell}
 use Rattle.doc_tree.specs.Table.{Table}
 use Rattle.xp_outcome.specs.Recorded.{Recorded}
 use Rattle.sch_compiled.specs.declared.plan.Plan.{Plan}
-use Rattle.edit_costs.specs.Units.{ValidationUnit, under}
+use Rattle.kept_units.specs.Units.{ValidationUnit, under}
 use Rattle.cover_laws.specs.Covering.{holds_touched}
-use Rattle.kept_state.specs.Kept.{Keeps, Kept}
-use Rattle.kept_state.specs.Running.{is_stale}
-use Rattle.kept_state.specs.Steps.{Marks}
+use Rattle.kept_units.specs.Kept.{Keeps, Kept}
+use Rattle.kept_units.specs.Running.{is_stale}
+use Rattle.kept_units.specs.Steps.{Marks}
 
 -- whether something that is kept of what a unit read is touched, as a tree tells; of a stale unit nothing is kept
 abbrev pub keeps_touched : Table → (Cell → Bool) → Option Recorded → Bool

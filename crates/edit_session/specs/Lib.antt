@@ -1,4 +1,13 @@
-pub mod State
+pub use Rattle.svrl_out.specs.State
+pub use Rattle.svrl_out.specs.declared.shown
+pub use Rattle.kept_units.specs.Kept
+pub use Rattle.kept_units.specs.KeptLaws
+pub use Rattle.kept_units.specs.Running
+pub use Rattle.kept_units.specs.Steps
+pub use Rattle.kept_units.specs.Costs
+pub use Rattle.kept_units.specs.Dirty
+pub use Rattle.kept_units.specs.Units
+pub use Rattle.kept_units.specs.Locality
 pub mod Pairs
 pub mod Standing
 pub mod Wrote

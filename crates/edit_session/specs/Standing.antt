@@ -2,7 +2,7 @@
 use Rattle.std.specs.Prelude.{◌≡◌, true, false}
 use Rattle.doc_tree.specs.Table.{Contents, Table}
 use Rattle.sch_compiled.specs.declared.plan.Plan.{Plan}
-use Rattle.kept_state.specs.Kept.{Kept}
+use Rattle.kept_units.specs.Kept.{Kept}
 use Rattle.kept_units.specs.Keeping.{Held, seen}
 use Rattle.edit_session.specs.declared.refusal.OpenRefusal.{OpenRefusal}
 use Rattle.edit_session.specs.declared.refusal.OpenRefusal.TheVariants.{TooManyPairs, Memory}

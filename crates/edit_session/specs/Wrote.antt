@@ -7,8 +7,8 @@ use Rattle.doc_tree.specs.Table.{Table}
 use Rattle.sch_compiled.specs.declared.plan.Plan.{Plan}
 use Rattle.edit_session.specs.declared.state.ReportError.{ReportError}
 use Rattle.edit_session.specs.declared.state.ReportError.TheVariants.{Failed, Memory}
-use Rattle.edit_session.specs.declared.state.Shown.{Shown}
-use Rattle.edit_session.specs.declared.state.Shown.TheVariants.{Fault}
+use Rattle.edit_session.specs.shown.Shown.{Shown}
+use Rattle.edit_session.specs.shown.Shown.TheVariants.{Fault}
 use Rattle.edit_session.specs.State.{shows, state_text}
 
 -- a state adds one to the sink's faults where a write failed, and none else

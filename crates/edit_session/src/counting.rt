@@ -4,18 +4,17 @@ ghost use Rattle.std.specs.Prelude.{◌≡◌, ◌+◌, ◌<◌, true, false, So
 ghost use Rattle.sch_compiled.specs.Plan.{rules_of};
 ghost use Rattle.sch_compiled.specs.Soundness.{IsCounted};
 ghost use Rattle.sch_compiled.specs.declared.findings.Outcome.TheVariants.{Fired};
-ghost use Rattle.state_run.specs.Outcomes.{Holds, LetsHold};
+ghost use Rattle.kept_units.specs.Outcomes.{Holds, LetsHold};
 ghost use Rattle.edit_session.specs.Counts.{counts_of, is_kind, is_of_kind};
 ghost use Rattle.edit_session.specs.inner.Counting.{Counted, Grows, adds, counts_by, fault_of, node_adds, pairs_add, part};
 
 use crate::told::told_in_order;
 use doc_tree::{NodeId, Tree};
-use rule_run::Lets;
+use kept_units::{Evaluated, Lets, came_to_among};
 use sch_compiled::{
     Finding, FindingList, Findings, Outcome, Plan, PlanAssert, PlanAssertList, PlanRuleList,
     StateFault,
 };
-use state_run::{Evaluated, came_to_among};
 use std::alloc::{AllocError, Global};
 
 /// What a document counts by a plan, over all its nodes under all active patterns.

@@ -10,7 +10,9 @@ mod state;
 mod told;
 
 pub use counting::Counts;
+pub use kept_units::dirty_are_run;
 pub use laws::{pair_cap_is_for_pairs, stale_after_edit};
 pub use refusal::OpenRefusal;
 pub use session::Session;
-pub use state::{ReportError, Shown};
+pub use state::ReportError;
+pub use svrl_out::Shown;

@@ -3,34 +3,21 @@
 ghost use Rattle.std.specs.Prelude.{◌≡◌};
 ghost use Rattle.sch_compiled.specs.Findings.{ToldInOrder};
 ghost use Rattle.sch_compiled.specs.Soundness.{IsCounted};
-ghost use Rattle.state_run.specs.Evaluated.{Evaluates};
-ghost use Rattle.state_run.specs.Outcomes.{Holds, LetsHold};
+ghost use Rattle.kept_units.specs.Evaluated.{Evaluates};
+ghost use Rattle.kept_units.specs.Outcomes.{Holds, LetsHold};
 ghost use Rattle.edit_session.specs.declared.state.ReportError.TheVariants as errors;
 ghost use Rattle.edit_session.specs.Wrote.{WroteState};
 ghost use Rattle.edit_session.specs.inner.Shown.{ShownAs, shown_of};
 
 use crate::told::told_in_order;
 use doc_tree::{NodeId, Tree};
-use rule_run::Lets;
+use kept_units::{Evaluated, Lets, came_to_among, units_read_live_cells};
 use sch_compiled::{Findings, Plan};
 use sch_io::Sink;
 use sch_units::{first_match_fires, lets_stand_in_order};
-use state_run::{Evaluated, came_to_among};
 use std::alloc::{AllocError, Global};
-use svrl_out::{OutError, write_fault, write_report_among};
+use svrl_out::{OutError, Shown, write_fault, write_report_among};
 use thiserror::Error;
-use unit_live_laws::units_read_live_cells;
-
-/// What a text that was written shows.
-#[derive(Clone, Copy, Debug, PartialEq, Eq)]
-pub enum Shown {
-    /// A report without a finding.
-    Clean,
-    /// A report with a finding.
-    Findings,
-    /// The line of a fault.
-    Fault,
-}
 
 /// Why a state was not written whole.
 #[derive(Clone, Copy, Debug, PartialEq, Eq, Error)]

@@ -15,8 +15,8 @@ use Rattle.xp_locality_laws.specs.Locality.{Changed}
 use Rattle.sch_compiled.specs.declared.plan.Plan.{Plan}
 use Rattle.sch_units.specs.Laws.{LetsStandInOrder}
 use Rattle.sch_units.specs.Units.{lets_of}
-use Rattle.sch_locality_laws.specs.Edits.{EditsChange}
-use Rattle.sch_locality_laws.specs.Locality.{GivenLetsAreLocal}
+use Rattle.edit_costs.specs.Edits.{EditsChange}
+use Rattle.edit_costs.specs.Locality.{GivenLetsAreLocal}
 use Rattle.edit_costs.specs.Dirty.{is_changed, is_dirty, is_new, is_touched}
 use Rattle.edit_costs.specs.Laws.{LetsNeedThoseBefore, SameOutcomesAreEqual}
 use Rattle.edit_costs.specs.SameOutcome.{same_outcome}

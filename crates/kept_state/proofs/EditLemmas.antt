@@ -12,8 +12,8 @@ use Rattle.xp_meaning.specs.Conversions.{nodes_of}
 use Rattle.xp_meaning.specs.Evaluation.{Lets}
 use Rattle.xp_locality_laws.specs.Locality.{Changed}
 use Rattle.sch_compiled.specs.declared.plan.Plan.{Plan}
-use Rattle.sch_locality_laws.specs.Edits.{EditsChange}
-use Rattle.sch_locality_laws.specs.Locality.{GivenLetsAreLocal}
+use Rattle.edit_costs.specs.Edits.{EditsChange}
+use Rattle.edit_costs.specs.Locality.{GivenLetsAreLocal}
 use Rattle.edit_costs.specs.Units.{ValidationUnit, in_force, under}
 use Rattle.cover_laws.specs.Covering.{EditsTouchHeldAlike, HeldAlike, HeldStaysAlike, IsOfLive, holds_touched}
 use Rattle.kept_state.specs.Kept.{IsTyped, IsUnit, Keeps, Kept, LetsLive, LetsPass, noted, reads_under}

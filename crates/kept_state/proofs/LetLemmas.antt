@@ -20,7 +20,7 @@ use Rattle.xp_locality_laws.specs.Locality.{AllKept, Changed}
 use Rattle.sch_compiled.specs.declared.parts.LetInForce.{LetInForce}
 use Rattle.sch_compiled.specs.declared.plan.Plan.{Plan}
 use Rattle.sch_compiled.specs.Soundness.{IsSound}
-use Rattle.sch_locality_laws.specs.Locality.{GivenLetsAreLocal}
+use Rattle.edit_costs.specs.Locality.{GivenLetsAreLocal}
 use Rattle.edit_costs.specs.Laws.{IsBefore, LetsNeedThoseBefore, SameOutcomesAreEqual}
 use Rattle.edit_costs.specs.SameOutcome.{same_outcome}
 use Rattle.edit_costs.specs.Units.{ValidationUnit, in_force, under, let_reads}

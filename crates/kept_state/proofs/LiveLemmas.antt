@@ -18,7 +18,7 @@ use Rattle.xp_meaning_laws.specs.KnownReads.{IsLiveRead, LetsAreLive}
 use Rattle.xp_locality_laws.specs.Locality.{Changed}
 use Rattle.sch_compiled.specs.declared.parts.LetInForce.{LetInForce}
 use Rattle.sch_compiled.specs.declared.plan.Plan.{Plan}
-use Rattle.sch_locality_laws.specs.Locality.{GivenLetsAreLocal}
+use Rattle.edit_costs.specs.Locality.{GivenLetsAreLocal}
 use Rattle.edit_costs.specs.Units.{ValidationUnit, in_force, under, let_reads}
 use Rattle.cover_laws.specs.Covering.{IsOfLive, holds_touched, names_at}
 use Rattle.kept_state.specs.Kept.{IsTyped, IsUnit, LetsLive, noted, reads_under}

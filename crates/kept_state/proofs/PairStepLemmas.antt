@@ -9,7 +9,7 @@ use Rattle.sch_compiled.specs.declared.plan.Plan.{Plan}
 use Rattle.sch_compiled.specs.Soundness.{IsSound}
 use Rattle.sch_units.specs.Laws.{LetsStandInOrder}
 use Rattle.sch_units.specs.Units.{lets_of}
-use Rattle.sch_locality_laws.specs.Locality.{GivenLetsAreLocal, RulesTyped}
+use Rattle.edit_costs.specs.Locality.{GivenLetsAreLocal, RulesTyped}
 use Rattle.edit_costs.specs.Laws.{LetsNeedThoseBefore, SameOutcomesAreEqual}
 use Rattle.edit_costs.specs.Units.{ValidationUnit, in_force, under}
 use Rattle.kept_state.specs.Kept.{IsUnit, Keeps, Kept}

@@ -19,7 +19,7 @@ use Rattle.sch_compiled.specs.Soundness.{IsSound}
 use Rattle.sch_units.specs.Laws.{LetsStandInOrder}
 use Rattle.sch_units.specs.Units.{lets_of, unit_let, unit_pair}
 use Rattle.sch_units.specs.Validity.{outcome_of}
-use Rattle.sch_locality_laws.specs.Locality.{GivenLetsAreLocal}
+use Rattle.edit_costs.specs.Locality.{GivenLetsAreLocal}
 use Rattle.edit_costs.specs.Laws.{LetsNeedThoseBefore}
 use Rattle.edit_costs.specs.Units.{ValidationUnit, in_force, under, reads_of}
 use Rattle.cover_laws.specs.Covering.{HeldAlike}

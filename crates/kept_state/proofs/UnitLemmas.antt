@@ -21,7 +21,7 @@ use Rattle.sch_compiled.specs.declared.parts.LetInForce.{LetInForce}
 use Rattle.sch_compiled.specs.declared.plan.Plan.{Plan}
 use Rattle.sch_units.specs.Units.{unit_pair}
 use Rattle.sch_units.specs.Validity.{outcome_of}
-use Rattle.sch_locality_laws.specs.Locality.{GivenLetsAreLocal}
+use Rattle.edit_costs.specs.Locality.{GivenLetsAreLocal}
 use Rattle.edit_costs.specs.Units.{ValidationUnit, in_force, under, let_reads}
 use Rattle.cover_laws.specs.Covering.{has_touched, has_touched_name, holds_touched, names_at}
 use Rattle.xp_outcome.proofs.SetTests.{none_in}

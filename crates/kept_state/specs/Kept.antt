@@ -16,7 +16,7 @@ use Rattle.sch_compiled.specs.declared.parts.LetInForce.{LetInForce}
 use Rattle.sch_compiled.specs.declared.plan.Plan.{Plan}
 use Rattle.sch_units.specs.Units.{unit_let, unit_pair}
 use Rattle.sch_units.specs.Validity.{outcome_of}
-use Rattle.sch_locality_laws.specs.Locality.{RulesTyped}
+use Rattle.edit_costs.specs.Locality.{RulesTyped}
 use Rattle.edit_costs.specs.Units.{ValidationUnit, in_force, under, let_reads}
 use Rattle.cover_laws.specs.Covering.{HeldAlike}
 

@@ -8,7 +8,7 @@ use Rattle.doc_edit_laws.specs.Along.{Edits}
 use Rattle.xp_outcome.specs.Recorded.{Recorded}
 use Rattle.sch_compiled.specs.declared.plan.Plan.{Plan}
 use Rattle.sch_compiled.specs.Soundness.{IsSound}
-use Rattle.sch_locality_laws.specs.Locality.{RulesTyped}
+use Rattle.edit_costs.specs.Locality.{RulesTyped}
 use Rattle.edit_costs.specs.Dirty.{dirty_units, is_dirty}
 use Rattle.edit_costs.specs.Units.{ValidationUnit, units_of}
 use Rattle.kept_state.specs.Kept.{IsTyped, IsUnit, Keeps, Kept}

@@ -5,7 +5,7 @@ use Rattle.doc_tree.specs.Laws.{WellFormed}
 use Rattle.doc_tree.specs.Table.{Table, is_live}
 use Rattle.sch_compiled.specs.declared.plan.Plan.{Plan}
 use Rattle.sch_compiled.specs.Soundness.{IsSound}
-use Rattle.sch_locality_laws.specs.Locality.{RulesTyped}
+use Rattle.edit_costs.specs.Locality.{RulesTyped}
 use Rattle.edit_costs.specs.Units.{ValidationUnit, in_force, under}
 use Rattle.kept_state.specs.Kept.{IsUnit, Keeps, Kept}
 use Rattle.kept_state.specs.Running.{GoesOn, IsDone, IsFresh, is_run, is_stale}

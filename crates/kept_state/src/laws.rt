@@ -4,8 +4,7 @@ ghost use Rattle.kept_state.specs.Laws.{DirtyAreRun, DirtyUnitsAreRun, EditsKeep
 ghost use Rattle.kept_state.specs.Refreshing.{RefreshesKeep};
 
 use cover_laws::{edits_touch_held_alike, held_stays_alike, reads_are_touched};
-use edit_costs::{lets_need_those_before, same_outcomes_are_equal};
-use sch_locality_laws::{units_are_local, units_stand};
+use edit_costs::{lets_need_those_before, same_outcomes_are_equal, units_are_local, units_stand};
 use sch_units::lets_stand_in_order;
 use unit_live_laws::units_read_live_cells;
 

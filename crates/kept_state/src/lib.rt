@@ -3,6 +3,8 @@
 
 mod laws;
 
+pub use edit_costs::rules_are_typed;
 pub use laws::{
     dirty_are_run, edits_keep, kept_is_right, lets_keep, nothing_keeps, pairs_keep, refreshes_keep,
 };
+pub use unit_live_laws::units_read_live_cells;

@@ -11,7 +11,7 @@ use Rattle.xp_outcome.specs.Slots.{in_slot}
 use Rattle.xp_meaning.specs.Evaluation.{Lets}
 use Rattle.sch_compiled.specs.declared.plan.Plan.{Plan}
 use Rattle.sch_compiled.specs.Findings.{outcome_at}
-use Rattle.sch_locality_laws.specs.Locality.{RulesTyped}
+use Rattle.kept_state.specs.Locality.{RulesTyped}
 use Rattle.sch_units.specs.Units.{unit_pair}
 use Rattle.sch_units.specs.Validity.{outcome_of, pattern_numbers}
 use Rattle.edit_costs.specs.Costs.{Raised}

@@ -8,4 +8,7 @@ mod marking;
 mod refreshing_lets;
 mod refreshing_pairs;
 
+pub use kept_state::{dirty_are_run, edits_keep, rules_are_typed, units_read_live_cells};
 pub use kept_units::KeptUnits;
+pub use rule_run::Lets;
+pub use state_run::{Evaluated, came_to_among, evaluate};

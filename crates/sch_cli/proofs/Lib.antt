@@ -1,1 +1,4 @@
+pub use Rattle.sch_commands.proofs.PairLemmas
+pub use Rattle.sch_commands.proofs.ScriptCases
+pub use Rattle.sch_commands.proofs.WayLemmas
 pub mod RunLemmas

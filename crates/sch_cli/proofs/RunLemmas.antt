@@ -7,8 +7,8 @@ use Rattle.sch_io.specs.ShelfState.{ShelfState}
 use Rattle.sch_io.specs.SinkLog.{SinkLog}
 use Rattle.sch_io.specs.Wrote.{Appends, Wrote}
 use Rattle.sch_io.specs.declared.error.Failed.{Failed}
-use Rattle.edit_session.specs.declared.state.Shown.{Shown}
-use Rattle.edit_session.specs.declared.state.Shown.TheVariants as shown
+use Rattle.sch_commands.specs.shown.Shown.{Shown}
+use Rattle.sch_commands.specs.shown.Shown.TheVariants as shown
 use Rattle.sch_words.specs.declared.status.Status.{Status}
 use Rattle.sch_words.specs.declared.status.Status.TheVariants as status
 use Rattle.sch_stops.specs.declared.watches.WatchesRefusal.TheVariants as watches

@@ -20,6 +20,11 @@ pub use Rattle.sch_commands.specs.Following
 pub use Rattle.sch_commands.specs.Steps
 pub use Rattle.sch_commands.specs.Measuring
 pub use Rattle.sch_commands.specs.Behaviours
+pub use Rattle.sch_commands.specs.inner.Ways
+pub use Rattle.sch_commands.specs.InTurn
+pub use Rattle.sch_commands.specs.Pairs
+pub use Rattle.sch_commands.specs.State
+pub use Rattle.sch_commands.specs.shown
 pub mod Runs
 pub mod Headline
 pub mod Ran

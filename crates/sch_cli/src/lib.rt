@@ -6,4 +6,5 @@ mod program;
 
 pub use process::run_if_read;
 pub use program::run;
+pub use sch_commands::pair_cap_is_for_pairs;
 pub use sch_words::{HostArguments, Status, Words, WordsError, read_words};

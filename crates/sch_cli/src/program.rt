@@ -14,8 +14,7 @@ ghost use Rattle.sch_commands.specs.Carried.{line_of_end, status_of_end};
 ghost use Rattle.sch_commands.specs.Written.{may_write};
 ghost use Rattle.sch_cli.specs.inner.Ended.{HasStatus};
 
-use edit_session::Shown;
-use sch_commands::carry_out;
+use sch_commands::{Shown, carry_out};
 use sch_io::{Shelf, Sink, write_all};
 use sch_stops::Stop;
 use sch_words::{Status, Words};

@@ -5,8 +5,8 @@ use Rattle.doc_tree.specs.Table.{Table}
 use Rattle.doc_tree.specs.declared.refusal.EditRefusal.TheVariants.{IdsSpent}
 use Rattle.edit_command_laws.specs.OneEdit.{OneEdit}
 use Rattle.edit_script.specs.Undos as item
-use Rattle.edit_session.specs.State.{state_text}
-use Rattle.edit_session.specs.declared.state.Shown.{Shown}
+use Rattle.sch_cli.specs.State.{state_text}
+use Rattle.sch_cli.specs.shown.Shown.{Shown}
 use Rattle.name_scopes.specs.ScopedTree.{OneTree}
 use Rattle.sch_include.specs.Included.{OneInclusion}
 use Rattle.sch_plan.specs.OnePlan.{OnePlan}
@@ -17,14 +17,14 @@ use Rattle.sch_stops.specs.Output.{Output, stopped, usage_line}
 use Rattle.sch_loading.specs.Loading.{Expanding, Reporting}
 use Rattle.sch_loading.specs.Stages.{Came, Is, Onward, Stage, Then, goes, halts, unread}
 use Rattle.sch_loading.proofs.StageLemmas.{Single, one-is, one-then, through}
-use Rattle.sch_commands.specs.Telling.{Telling, by_plan, by_watches}
+use Rattle.sch_cli.specs.Telling.{Telling, by_plan, by_watches}
 use Rattle.watch_lines_laws.specs.Reading.{OneReading}
-use Rattle.sch_commands.specs.Behaviours.{Any, BeginsStates, IsEnd, Making, Measures, MeasuresText, Opening, OpeningAll, States, WatchingAll, behaviour}
-use Rattle.sch_commands.specs.Following.{Begins, Earlier, Follows, earlier_of, edited, edits, has_no_history, items_of, lacking_numbers, lacks_numbers, nothing_yet, refused, refuses, then_shown, undoes, undone, without_history}
-use Rattle.sch_commands.specs.Output.{expanded, in_front, notice_output, state, summed_up}
+use Rattle.sch_cli.specs.Behaviours.{Any, BeginsStates, IsEnd, Making, Measures, MeasuresText, Opening, OpeningAll, States, WatchingAll, behaviour}
+use Rattle.sch_cli.specs.Following.{Begins, Earlier, Follows, earlier_of, edited, edits, has_no_history, items_of, lacking_numbers, lacks_numbers, nothing_yet, refused, refuses, then_shown, undoes, undone, without_history}
+use Rattle.sch_cli.specs.Output.{expanded, in_front, notice_output, state, summed_up}
 use Rattle.sch_cli_laws.proofs.OneOutput.{one-expanding, one-making, one-measures, one-opening, one-opening-all, one-reporting, one-taken, one-watching-all}
 use Rattle.sch_cli_laws.specs.Decided.{BegunIsFront}
-use Rattle.sch_commands.proofs.ScriptCases.{refused-or-none, refused-same}
+use Rattle.sch_cli.proofs.ScriptCases.{refused-or-none, refused-same}
 
 -- the text is a front of the output's bytes
 abbrev IsFront : List ℕ → Output → Type 0

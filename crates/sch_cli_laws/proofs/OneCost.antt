@@ -17,16 +17,16 @@ use Rattle.sch_stops.specs.Output.{Output, stopped, usage_line}
 use Rattle.sch_loading.specs.Loading.{Expanding, Reporting}
 use Rattle.sch_loading.specs.Stages.{Is, Stage, Then, goes, halts}
 use Rattle.sch_loading.proofs.StageLemmas.{Single, one-by, one-is, one-then}
-use Rattle.sch_commands.specs.Following.{Earlier, earlier_of, items_of}
-use Rattle.sch_commands.specs.Telling.{Telling, by_plan, by_watches, edit_cost}
-use Rattle.sch_undo.specs.InTurn.{TouchesInTurn, none as no_cells, then as more_cells}
+use Rattle.sch_cli.specs.Following.{Earlier, earlier_of, items_of}
+use Rattle.sch_cli.specs.Telling.{Telling, by_plan, by_watches, edit_cost}
+use Rattle.sch_cli.specs.InTurn.{TouchesInTurn, none as no_cells, then as more_cells}
 use Rattle.watch_lines_laws.specs.Reading.{OneReading}
-use Rattle.sch_commands.specs.Behaviours.{Any, Making, Opening, OpeningAll, StatesCost, WatchingAll, behaviour}
-use Rattle.sch_commands.specs.Output.{expanded, notice_output, summed_up}
-use Rattle.sch_commands.specs.Steps.{EditsCost, at_a_fault, at_the_end, of_edited, of_lacking, of_none, of_refused, of_undone}
+use Rattle.sch_cli.specs.Behaviours.{Any, Making, Opening, OpeningAll, StatesCost, WatchingAll, behaviour}
+use Rattle.sch_cli.specs.Output.{expanded, notice_output, summed_up}
+use Rattle.sch_cli.specs.Steps.{EditsCost, at_a_fault, at_the_end, of_edited, of_lacking, of_none, of_refused, of_undone}
 use Rattle.sch_cli_laws.proofs.OneOutput.{one-expanding, one-making, one-opening, one-opening-all, one-reporting, one-watching-all}
 use Rattle.sch_cli_laws.specs.Decided.{OneCost}
-use Rattle.sch_commands.proofs.ScriptCases.{refused-or-none}
+use Rattle.sch_cli.proofs.ScriptCases.{refused-or-none}
 
 -- the last of some commands, and those before it
 none-last : (commands : List Edit) (command : Edit) → [] ≡ commands ++ command ∷ [] → ⊥

@@ -32,8 +32,8 @@ use Rattle.sch_abstract.specs.Flat.{flat_schema}
 use Rattle.sch_compiled.specs.declared.plan.Plan.{Plan}
 use Rattle.sch_plan.specs.Compiled.{compiled}
 use Rattle.sch_plan.specs.OnePlan.{OnePlan}
-use Rattle.edit_session.specs.Pairs.{has_too_many_pairs}
-use Rattle.edit_session.specs.declared.state.Shown.{Shown}
+use Rattle.sch_cli.specs.Pairs.{has_too_many_pairs}
+use Rattle.sch_cli.specs.shown.Shown.{Shown}
 use Rattle.sch_stops.specs.declared.refusal.FileRefusal.TheVariants.{TooLarge}
 use Rattle.sch_words.specs.declared.status.Status.TheVariants.{Usage}
 use Rattle.sch_measure.specs.Shelf.{measure_files}
@@ -42,18 +42,18 @@ use Rattle.xp_typed_tree.specs.TypedTree.{TypedTree}
 use Rattle.watch_lines.specs.Watches.{WatchesAre}
 use Rattle.watch_lines_laws.specs.Reading.{OneReading}
 use Rattle.sch_stops.specs.declared.watches.WatchesRefusal.TheVariants as watches
-use Rattle.sch_commands.specs.Telling.{Telling, by_plan, by_watches, under}
-use Rattle.sch_commands.specs.Behaviours.{Any, Apart, IsEnd, IsOutput, Making, Measures, Opening, OpeningAll, OpeningWatch, States, Treeing, WatchingAll, WatchingOn, asked_by, behaviour, too_many_pairs, tree_under, watched_on}
-use Rattle.sch_commands.specs.Measuring.{LeadsTo, measure_text, measured_as, past_edited, past_refused, to_a_fault, to_the_end}
+use Rattle.sch_cli.specs.Telling.{Telling, by_plan, by_watches, under}
+use Rattle.sch_cli.specs.Behaviours.{Any, Apart, IsEnd, IsOutput, Making, Measures, Opening, OpeningAll, OpeningWatch, States, Treeing, WatchingAll, WatchingOn, asked_by, behaviour, too_many_pairs, tree_under, watched_on}
+use Rattle.sch_cli.specs.Measuring.{LeadsTo, measure_text, measured_as, past_edited, past_refused, to_a_fault, to_the_end}
 use Rattle.sch_words.specs.Commands.{Command, tell, expand, validate, follow, measure, summarize, watch, command_of, default_phase}
 use Rattle.sch_loading.specs.Documents.{IsDocument, IsParsed}
-use Rattle.sch_commands.specs.Following.{Earlier, Follows, IsTakenBack, comes_to_end, earlier_of, edits, has_no_history, items_of, lacks_numbers, refuses, stops_at, then_shown, undoes}
+use Rattle.sch_cli.specs.Following.{Earlier, Follows, IsTakenBack, comes_to_end, earlier_of, edits, has_no_history, items_of, lacks_numbers, refuses, stops_at, then_shown, undoes}
 use Rattle.sch_stops.specs.EditLines.{edit_line, no_history_line, refused_line, undo_line}
 use Rattle.sch_loading.specs.Loading.{Compiling, Expanding, Expressing, Fetching, Flattening, Inclusion, Loading, Parsing, Planning, Reading, Reporting, Saying, Scripting, Watching, as_script, at_include, expressions, held_under, included, parsed, planned, refused_document, refused_report, refused_rule, refused_watches}
 use Rattle.sch_stops.specs.Output.{Output, stopped, usage_line}
-use Rattle.sch_commands.specs.Output.{expanded, in_front, notice_output, state, summed_up}
+use Rattle.sch_cli.specs.Output.{expanded, in_front, notice_output, state, summed_up}
 use Rattle.sch_loading.specs.Stages.{Came, Is, Stage, Then, goes, halt_at, halt_if, halts, unread}
-use Rattle.sch_commands.proofs.ScriptCases.{command-same, ends-or-goes, refused-or-none, refused-same, stops-or-goes}
+use Rattle.sch_cli.proofs.ScriptCases.{command-same, ends-or-goes, refused-or-none, refused-same, stops-or-goes}
 use Rattle.sch_loading.proofs.StageLemmas.{IsDecided, Single, no_unread, one-by, one-is, one-then}
 
 -- a file is one tree, or has one first fault

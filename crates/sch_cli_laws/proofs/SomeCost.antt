@@ -3,19 +3,19 @@ use Rattle.std.proofs.Common.{◌≡◌, ℕ, ◌+◌, List, [], ◌∷◌, take
 use Rattle.sch_io.specs.Files.{Files}
 use Rattle.doc_tree.specs.Table.{Table}
 use Rattle.edit_script.specs.Undos as item
-use Rattle.edit_session.specs.declared.state.Shown.{Shown}
+use Rattle.sch_cli.specs.shown.Shown.{Shown}
 use Rattle.sch_words.specs.Commands.{Command, tell, expand, validate, follow, measure, summarize, watch, command_of}
 use Rattle.sch_words.specs.declared.status.Status.TheVariants.{Usage}
 use Rattle.sch_stops.specs.Output.{Output, stopped, usage_line}
 use Rattle.sch_loading.specs.Loading.{Expanding, Reporting}
 use Rattle.sch_loading.specs.Stages.{Is, Stage, Then, goes, halts}
 use Rattle.sch_loading.proofs.StageLemmas.{through}
-use Rattle.sch_commands.specs.Telling.{Telling, by_plan, by_watches, edit_cost, under}
-use Rattle.sch_commands.specs.Behaviours.{Any, Making, Measures, Opening, OpeningAll, States, StatesCost, WatchingAll, behaviour}
-use Rattle.sch_commands.specs.Following.{Earlier, Follows, comes_to_end, earlier_of, edits, has_no_history, items_of, lacks_numbers, refuses, stops_at, then_shown, undoes}
-use Rattle.sch_commands.specs.Output.{expanded, notice_output, state, summed_up}
-use Rattle.sch_commands.specs.Steps.{EditsCost, at_a_fault, at_the_end, of_edited, of_lacking, of_none, of_refused, of_undone}
-use Rattle.sch_commands.proofs.WayLemmas.{touches}
+use Rattle.sch_cli.specs.Telling.{Telling, by_plan, by_watches, edit_cost, under}
+use Rattle.sch_cli.specs.Behaviours.{Any, Making, Measures, Opening, OpeningAll, States, StatesCost, WatchingAll, behaviour}
+use Rattle.sch_cli.specs.Following.{Earlier, Follows, comes_to_end, earlier_of, edits, has_no_history, items_of, lacks_numbers, refuses, stops_at, then_shown, undoes}
+use Rattle.sch_cli.specs.Output.{expanded, notice_output, state, summed_up}
+use Rattle.sch_cli.specs.Steps.{EditsCost, at_a_fault, at_the_end, of_edited, of_lacking, of_none, of_refused, of_undone}
+use Rattle.sch_cli.proofs.WayLemmas.{touches}
 use Rattle.sch_cli_laws.specs.Decided.{SomeCost}
 
 -- what is written for the commands and undos of a script has visits

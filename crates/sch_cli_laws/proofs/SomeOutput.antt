@@ -35,9 +35,9 @@ use Rattle.sch_abstract.specs.Flat.{flat_schema}
 use Rattle.sch_compiled.specs.declared.plan.Plan.{Plan}
 use Rattle.sch_plan.specs.Compiled.{compiled}
 use Rattle.sch_plan_laws.specs.Planned.{EachPhaseIsCompiled}
-use Rattle.edit_session.specs.Pairs.{CapIsForPairs, has_too_many_pairs}
-use Rattle.edit_session.proofs.PairLemmas.{under-cap}
-use Rattle.edit_session.specs.declared.state.Shown.{Shown}
+use Rattle.sch_cli.specs.Pairs.{CapIsForPairs, has_too_many_pairs}
+use Rattle.sch_cli.proofs.PairLemmas.{under-cap}
+use Rattle.sch_cli.specs.shown.Shown.{Shown}
 use Rattle.sch_words.specs.Commands.{Command, tell, expand, validate, follow, measure, summarize, watch, command_of, default_phase}
 use Rattle.sch_measure.specs.Shelf.{measure_files}
 use Rattle.sch_measure.specs.declared.shelf.TheConstants.{SCHEMA_NAME, DOCUMENT_NAME, SCRIPT_NAME}
@@ -47,18 +47,18 @@ use Rattle.sch_stops.specs.Output.{Output, stopped, usage_line}
 use Rattle.sch_stops.specs.Refusals.{include_line}
 use Rattle.sch_loading.specs.Loading.{Compiling, Expanding, Expressing, Fetching, Flattening, Inclusion, Loading, Parsing, Planning, Reading, Reporting, Saying, Scripting, Watching, as_script, at_include, held_under, missing, refused_document, refused_file, refused_report, refused_rule, refused_watches, script_too_large}
 use Rattle.sch_loading.specs.Stages.{Is, Stage, Then, goes, halt_at, halt_if, halts}
-use Rattle.sch_commands.specs.Telling.{Telling, by_plan, by_watches}
+use Rattle.sch_cli.specs.Telling.{Telling, by_plan, by_watches}
 use Rattle.xp_typed_tree.specs.TypedTree.{TypedTree}
 use Rattle.watch_lines.specs.Watches.{WatchesAre}
 use Rattle.watch_lines.specs.declared.fault.WatchFault.{WatchFault}
 use Rattle.watch_lines_laws.specs.Reading.{EachFileIsRead}
 use Rattle.sch_stops.specs.declared.watches.WatchesRefusal.TheVariants as watches
-use Rattle.sch_commands.specs.Behaviours.{Any, IsEnd, Making, Measures, Opening, OpeningAll, OpeningWatch, Scripted, States, Treed, Treeing, Watched, WatchedScript, WatchingAll, WatchingOn, behaviour, too_many_pairs, tree_under, watched_on}
-use Rattle.sch_commands.specs.Following.{Earlier, Follows, earlier_of, edits, edits_alone, items_of, refuses, then_shown}
-use Rattle.sch_commands.specs.inner.Ways.{CanGoOn}
-use Rattle.sch_commands.proofs.WayLemmas.{WayLaws, can-start, items-formed, way-follows, ways-exist}
-use Rattle.sch_commands.specs.Measuring.{LeadsTo, measure_text, measured_as, past_edited, past_refused, to_a_fault, to_the_end}
-use Rattle.sch_commands.specs.Output.{expanded, in_front, notice_output, state, summed_up}
+use Rattle.sch_cli.specs.Behaviours.{Any, IsEnd, Making, Measures, Opening, OpeningAll, OpeningWatch, Scripted, States, Treed, Treeing, Watched, WatchedScript, WatchingAll, WatchingOn, behaviour, too_many_pairs, tree_under, watched_on}
+use Rattle.sch_cli.specs.Following.{Earlier, Follows, earlier_of, edits, edits_alone, items_of, refuses, then_shown}
+use Rattle.sch_cli.specs.Ways.{CanGoOn}
+use Rattle.sch_cli.proofs.WayLemmas.{WayLaws, can-start, items-formed, way-follows, ways-exist}
+use Rattle.sch_cli.specs.Measuring.{LeadsTo, measure_text, measured_as, past_edited, past_refused, to_a_fault, to_the_end}
+use Rattle.sch_cli.specs.Output.{expanded, in_front, notice_output, state, summed_up}
 use Rattle.sch_cli_laws.specs.Decided.{SomeOutput}
 use Rattle.sch_cli_laws.proofs.Ways.{apart-ends, Anything, Ends, goes-ends, halt-at-ends, halt-if-ends, halted, on_with, then-ends}
 

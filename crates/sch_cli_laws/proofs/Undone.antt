@@ -22,9 +22,9 @@ use Rattle.edit_commands.specs.Commands.{IsEdited, command_refusal}
 use Rattle.edit_command_laws.specs.OneEdit.{OneEdit}
 use Rattle.edit_command_laws.specs.TreesKept.{EditsKeepTrees}
 use Rattle.edit_iso_laws.proofs.InTurnLemmas.{kept-in-turn}
-use Rattle.edit_session.specs.Pairs.{has_too_many_pairs}
-use Rattle.edit_session.specs.State.{state_text}
-use Rattle.edit_session.specs.declared.state.Shown.{Shown}
+use Rattle.sch_cli.specs.Pairs.{has_too_many_pairs}
+use Rattle.sch_cli.specs.State.{state_text}
+use Rattle.sch_cli.specs.shown.Shown.{Shown}
 use Rattle.sch_compiled.specs.declared.plan.Plan.{Plan}
 use Rattle.sch_include.specs.Included.{OneInclusion}
 use Rattle.sch_plan.specs.OnePlan.{OnePlan}
@@ -36,12 +36,12 @@ use Rattle.sch_loading.specs.Documents.{IsParsed}
 use Rattle.sch_loading.specs.Loading.{Fetching, Loading, Parsing, Planning, Scripting, as_script, held_under, parsed}
 use Rattle.sch_loading.specs.Stages.{Is, Then, goes, halt_if, halts, unread}
 use Rattle.sch_loading.proofs.StageLemmas.{goes-first, through}
-use Rattle.sch_commands.specs.Behaviours.{Any, IsWhole, Opening, OpeningAll, Scripted, States, Treed, Treeing, too_many_pairs, tree_under}
-use Rattle.sch_commands.specs.Following.{Earlier, Follows, IsTakenBack, earlier_of, edits, items_of, lacks_numbers, refuses, then_shown, undoes}
-use Rattle.sch_commands.specs.Output.{ended, in_front, state}
-use Rattle.sch_commands.specs.Telling.{Telling, by_plan, under}
+use Rattle.sch_cli.specs.Behaviours.{Any, IsWhole, Opening, OpeningAll, Scripted, States, Treed, Treeing, too_many_pairs, tree_under}
+use Rattle.sch_cli.specs.Following.{Earlier, Follows, IsTakenBack, earlier_of, edits, items_of, lacks_numbers, refuses, then_shown, undoes}
+use Rattle.sch_cli.specs.Output.{ended, in_front, state}
+use Rattle.sch_cli.specs.Telling.{Telling, by_plan, under}
 use Rattle.sch_cli_laws.proofs.OneOutput.{one-opening}
-use Rattle.sch_commands.proofs.ScriptCases.{refused-or-none}
+use Rattle.sch_cli.proofs.ScriptCases.{refused-or-none}
 use Rattle.sch_cli_laws.specs.Undone.{RunsUndone, SavedDocumentsValidateAlike, UndoneAtOnce, UndosShowTheSame, WritesUndone}
 
 -- An undo

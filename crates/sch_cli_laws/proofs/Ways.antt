@@ -3,7 +3,7 @@ use Rattle.std.proofs.Common.{◌≡◌, List, [], ◌++◌, ℕ, Bool, true, fa
 use Rattle.sch_stops.specs.Output.{Output}
 use Rattle.sch_loading.specs.Stages.{Is, Stage, Then, goes, halt_at, halt_if, halts}
 use Rattle.sch_loading.proofs.StageLemmas.{goes-first, halts-first}
-use Rattle.sch_commands.specs.Behaviours.{Apart}
+use Rattle.sch_cli.specs.Behaviours.{Apart}
 
 -- a stage goes on with a value of which something holds, or halts the run
 pub data Ends {A : Type 0} (stage : Stage A) (holds : A → Type 0) : Type 0 where

@@ -39,11 +39,11 @@ use Rattle.sch_compiled.specs.declared.plan.Plan.{Plan}
 use Rattle.sch_plan_laws.specs.Places.{PlansNeedNoPlaces}
 use Rattle.sch_plan.specs.Compiled.{compiled}
 use Rattle.sch_words.specs.declared.status.Status.TheVariants.{Clean}
-use Rattle.sch_commands.specs.Behaviours.{Any, IsWhole, Opening, Treed, Treeing}
+use Rattle.sch_cli.specs.Behaviours.{Any, IsWhole, Opening, Treed, Treeing}
 use Rattle.sch_words.specs.Commands.{expand, validate}
 use Rattle.sch_loading.specs.Loading.{Compiling, Expanding, Fetching, Flattening, Inclusion, Loading, Planning, Reading, at_include, held_under, included, planned, refused_rule}
 use Rattle.sch_stops.specs.Output.{Output}
-use Rattle.sch_commands.specs.Output.{expanded, state}
+use Rattle.sch_cli.specs.Output.{expanded, state}
 use Rattle.sch_loading.specs.Stages.{Came, Is, Stage, Then, goes, halt_at, halts, unread}
 use Rattle.sch_loading.proofs.StageLemmas.{goes-first, goes-on, through}
 use Rattle.sch_cli_laws.specs.WholeSchemas.{ExpansionsStay, ExpansionsValidateAlike}

@@ -3,7 +3,7 @@ use Rattle.std.specs.Prelude.{◌≡◌, ℕ, List, ◌++◌}
 use Rattle.sch_io.specs.Files.{Files}
 use Rattle.sch_stops.specs.Output.{Output}
 use Rattle.sch_loading.specs.Stages.{goes}
-use Rattle.sch_commands.specs.Behaviours.{IsOutput, asked_by}
+use Rattle.sch_cli.specs.Behaviours.{IsOutput, asked_by}
 use Rattle.sch_cli.specs.Runs.{Costs}
 
 -- words and files have an output

@@ -15,9 +15,9 @@ use Rattle.edit_script.specs.Undos.{Items, edits, undoes}
 use Rattle.edit_script.specs.declared.command.Command.{Command}
 use Rattle.edit_commands.specs.Commands.{IsEdited, command_refusal}
 use Rattle.edit_paths.specs.Entries.{undoing_numbers}
-use Rattle.edit_session.specs.Pairs.{has_too_many_pairs}
-use Rattle.edit_session.specs.State.{state_text}
-use Rattle.edit_session.specs.declared.state.Shown.{Shown}
+use Rattle.sch_cli.specs.Pairs.{has_too_many_pairs}
+use Rattle.sch_cli.specs.State.{state_text}
+use Rattle.sch_cli.specs.shown.Shown.{Shown}
 use Rattle.sch_compiled.specs.declared.plan.Plan.{Plan}
 use Rattle.state_iso_laws.specs.States.{ShowTheSame}
 use Rattle.sch_words.specs.Commands.{follow, validate}
@@ -25,10 +25,10 @@ use Rattle.sch_stops.specs.EditLines.{edit_line, refused_line, undo_line}
 use Rattle.sch_stops.specs.Output.{Output}
 use Rattle.sch_loading.specs.Loading.{Planning}
 use Rattle.sch_loading.specs.Stages.{goes}
-use Rattle.sch_commands.specs.Behaviours.{IsWhole}
-use Rattle.sch_commands.specs.Following.{Earlier, Follows, IsTakenBack, items_of}
-use Rattle.sch_commands.specs.Output.{state}
-use Rattle.sch_commands.specs.Telling.{by_plan, under}
+use Rattle.sch_cli.specs.Behaviours.{IsWhole}
+use Rattle.sch_cli.specs.Following.{Earlier, Follows, IsTakenBack, items_of}
+use Rattle.sch_cli.specs.Output.{state}
+use Rattle.sch_cli.specs.Telling.{by_plan, under}
 
 -- the document behind an undo has the state of that from before the edit: the same text, which shows the same
 abbrev pub UndosShowTheSame : Type 0

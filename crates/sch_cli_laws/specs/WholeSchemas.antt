@@ -2,7 +2,7 @@
 use Rattle.std.specs.Prelude.{◌≡◌, ◌↔◌, ℕ, List, Some}
 use Rattle.std.specs.FinMap.{get}
 use Rattle.sch_io.specs.Files.{Files}
-use Rattle.sch_commands.specs.Behaviours.{IsWhole}
+use Rattle.sch_cli.specs.Behaviours.{IsWhole}
 use Rattle.sch_words.specs.Commands.{expand, validate}
 use Rattle.sch_stops.specs.Output.{Output}
 

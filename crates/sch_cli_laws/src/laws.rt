@@ -6,12 +6,12 @@ ghost use Rattle.sch_cli_laws.specs.WholeSchemas.{WholeSchemasStay};
 
 use edit_cap_laws::edits_stay_within;
 use edit_command_laws::{edits_keep_trees, edits_make_trees, one_edit, scripts_are_well_formed};
-use edit_session::pair_cap_is_for_pairs;
 use edit_undo_laws::{commands_are_undone, undoings_are_formed};
 use edit_way_laws::{edits_stay_in_scope, items_are_well_formed, numbers_grow};
 use history_laws::histories_stand;
 use name_scopes::{one_tree, text_comes_back};
 use name_scopes_laws::documents_have_trees;
+use sch_cli::pair_cap_is_for_pairs;
 use sch_flat_laws::{
     expansion_is_accepted_again, expansions_are_documents, flat_texts_have_no_fault,
     scoped_trees_are_made,

@@ -2,7 +2,7 @@
 use Rattle.std.proofs.Common.{ℕ, ◌+◌, List, []}
 use Rattle.doc_tree.specs.Table.{Table}
 use Rattle.edit_script.specs.Script.{Script}
-use Rattle.edit_session.specs.declared.state.Shown.{Shown}
+use Rattle.sch_undo.specs.shown.Shown.{Shown}
 use Rattle.sch_stops.specs.Output.{Output}
 use Rattle.sch_commands.specs.Following as undo
 use Rattle.sch_commands.specs.Following.{edits_alone, then_shown}

@@ -4,8 +4,8 @@ use Rattle.std.proofs.KnownBytes.{Appends-nil}
 use Rattle.sch_io.proofs.ReadThrough.{nothing_through}
 use Rattle.sch_io.specs.ShelfState.{ShelfState}
 use Rattle.sch_io.specs.SinkLog.{SinkLog}
-use Rattle.edit_session.specs.declared.state.Shown.{Shown}
-use Rattle.edit_session.specs.declared.state.Shown.TheVariants as shown
+use Rattle.sch_undo.specs.shown.Shown.{Shown}
+use Rattle.sch_undo.specs.shown.Shown.TheVariants as shown
 use Rattle.sch_words.specs.declared.command.Command.{Command as Borrowed}
 use Rattle.sch_words.specs.declared.notice.Notice.{Notice}
 use Rattle.sch_words.specs.declared.status.Status.TheVariants as status

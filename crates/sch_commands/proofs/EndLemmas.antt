@@ -8,11 +8,11 @@ use Rattle.sch_io.specs.Wrote.{Appends, Wrote}
 use Rattle.sch_io.specs.declared.error.Failed.{Failed}
 use Rattle.doc_tree.specs.Table.{Table}
 use Rattle.sch_compiled.specs.declared.plan.Plan.{Plan}
-use Rattle.edit_session.specs.State.{state_text}
-use Rattle.edit_session.specs.Wrote.{WroteState}
-use Rattle.edit_session.specs.declared.state.ReportError.{ReportError}
-use Rattle.edit_session.specs.declared.state.ReportError.TheVariants as report
-use Rattle.edit_session.specs.declared.state.Shown.{Shown}
+use Rattle.sch_undo.specs.State.{state_text}
+use Rattle.sch_undo.specs.Wrote.{WroteState}
+use Rattle.sch_undo.specs.state.ReportError.{ReportError}
+use Rattle.sch_undo.specs.state.ReportError.TheVariants as report
+use Rattle.sch_undo.specs.shown.Shown.{Shown}
 use Rattle.sch_words.specs.declared.status.Status.TheVariants as status
 use Rattle.sch_stops.specs.declared.stop.Stop.{Stop}
 use Rattle.sch_stops.specs.declared.stop.Stop.TheVariants.{WriteFault, Memory}

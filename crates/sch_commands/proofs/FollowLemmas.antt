@@ -24,9 +24,9 @@ use Rattle.edit_commands.specs.declared.refusal.ApplyError.TheVariants as apply
 use Rattle.edit_command_laws.specs.OneEdit.{OneEdit}
 use Rattle.edit_commands.specs.Commands.{IsEdited, RefusesCommand, command_refusal}
 use Rattle.sch_compiled.specs.declared.plan.Plan.{Plan}
-use Rattle.edit_session.specs.Pairs.{has_too_many_pairs}
-use Rattle.edit_session.specs.Standing.{Standing}
-use Rattle.edit_session.specs.declared.state.Shown.{Shown}
+use Rattle.sch_undo.specs.Pairs.{has_too_many_pairs}
+use Rattle.sch_undo.specs.Standing.{Standing}
+use Rattle.sch_undo.specs.shown.Shown.{Shown}
 use Rattle.sch_stops.specs.declared.refusal.ScriptRefusal.TheVariants as refusal
 use Rattle.sch_words.specs.declared.status.Status.TheVariants as status
 use Rattle.sch_stops.specs.declared.stop.Stop.{Stop}

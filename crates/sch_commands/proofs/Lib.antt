@@ -1,3 +1,4 @@
+pub use Rattle.sch_undo.proofs.PairLemmas
 pub mod AskLemmas
 pub mod CarryLemmas
 pub mod CostLemmas

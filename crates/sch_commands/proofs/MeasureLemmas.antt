@@ -18,13 +18,13 @@ use Rattle.edit_commands.specs.Commands.{IsEdited, command_refusal}
 use Rattle.sch_compiled.specs.declared.plan.Plan.{Plan}
 use Rattle.sch_compiled.specs.declared.state_fault.StateFault.{StateFault}
 use Rattle.sch_units.specs.Validity.{finds, first_fault}
-use Rattle.edit_session.specs.Counts.{counts_of}
-use Rattle.edit_session.specs.Pairs.{pair_cap_for}
-use Rattle.edit_session.specs.Standing.{Standing}
-use Rattle.edit_session.specs.State.{shown_by, shows, state_text}
-use Rattle.edit_session.specs.declared.counting.Counts.{Counts}
-use Rattle.edit_session.specs.declared.state.Shown.{Shown}
-use Rattle.edit_session.specs.declared.state.Shown.TheVariants.{Clean, Findings, Fault}
+use Rattle.sch_undo.specs.Counts.{counts_of}
+use Rattle.sch_undo.specs.Pairs.{pair_cap_for}
+use Rattle.sch_undo.specs.Standing.{Standing}
+use Rattle.sch_undo.specs.State.{shown_by, shows, state_text}
+use Rattle.sch_undo.specs.counting.Counts.{Counts}
+use Rattle.sch_undo.specs.shown.Shown.{Shown}
+use Rattle.sch_undo.specs.shown.Shown.TheVariants.{Clean, Findings, Fault}
 use Rattle.sch_measure.specs.Shelf.{measure_files}
 use Rattle.sch_measure.specs.declared.shelf.TheConstants.{SCHEMA_NAME, DOCUMENT_NAME, SCRIPT_NAME}
 use Rattle.sch_words.specs.Commands.{default_phase}

@@ -4,11 +4,11 @@ use Rattle.doc_tree.specs.Table.{Contents, Table}
 use Rattle.edit_script.specs.declared.command.Command.{Command}
 use Rattle.edit_commands.specs.Touched.{touched_by}
 use Rattle.sch_compiled.specs.declared.plan.Plan.{Plan}
-use Rattle.edit_costs.specs.Costs.{cost_of}
-use Rattle.edit_costs.specs.Dirty.{dirty_units}
-use Rattle.edit_costs.specs.Units.{units_of}
-use Rattle.kept_state.specs.Running.{IsFresh, to_run}
-use Rattle.edit_session.specs.Standing.{Standing, seen_by}
+use Rattle.sch_undo.specs.Costs.{cost_of}
+use Rattle.sch_undo.specs.Dirty.{dirty_units}
+use Rattle.sch_undo.specs.Units.{units_of}
+use Rattle.sch_undo.specs.Running.{IsFresh, to_run}
+use Rattle.sch_undo.specs.Standing.{Standing, seen_by}
 use Rattle.sch_commands.specs.inner.Sessions.{IsEvaluated, IsUnevaluated, LeavesDirty, document_of}
 
 -- none was evaluated when it was opened, so the first report costs the visits of all units

@@ -22,15 +22,15 @@ use Rattle.edit_commands.specs.declared.refusal.ApplyError.{ApplyError}
 use Rattle.edit_commands.specs.declared.refusal.ApplyError.TheVariants as apply
 use Rattle.edit_command_laws.specs.OneEdit.{OneEdit}
 use Rattle.edit_iso_laws.specs.CommandsMove.{DoneInTurn}
-use Rattle.edit_costs.specs.Costs.{cost_of}
-use Rattle.edit_costs.specs.Dirty.{dirty_units}
-use Rattle.kept_state.specs.Running.{to_run}
+use Rattle.sch_undo.specs.Costs.{cost_of}
+use Rattle.sch_undo.specs.Dirty.{dirty_units}
+use Rattle.sch_undo.specs.Running.{to_run}
 use Rattle.sch_compiled.specs.declared.plan.Plan.{Plan}
-use Rattle.edit_session.specs.Pairs.{pair_cap_for}
-use Rattle.edit_session.specs.Standing.{Standing, seen_by}
-use Rattle.edit_session.specs.State.{shows, state_text}
-use Rattle.edit_session.specs.declared.state.Shown.{Shown}
-use Rattle.undo_entries.specs.declared.entry.Entry.{Entry}
+use Rattle.sch_undo.specs.Pairs.{pair_cap_for}
+use Rattle.sch_undo.specs.Standing.{Standing, seen_by}
+use Rattle.sch_undo.specs.State.{shows, state_text}
+use Rattle.sch_undo.specs.shown.Shown.{Shown}
+use Rattle.sch_undo.specs.entry.Entry.{Entry}
 use Rattle.sch_undo.specs.InTurn.{TouchesInTurn}
 use Rattle.sch_undo.specs.Remembered.{LeavesUndo, RefusesEdit, RefusesUndo, Remembered, Remembers, RunsDirty as LeavesToRun, Undone}
 use Rattle.sch_undo.specs.declared.error.UndoError.{UndoError}

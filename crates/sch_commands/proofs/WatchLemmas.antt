@@ -5,8 +5,8 @@ use Rattle.sch_io.specs.SinkLog.{SinkLog}
 use Rattle.doc_tree.specs.Table.{Contents, Table}
 use Rattle.edit_script.specs.declared.command.Command.{Command}
 use Rattle.edit_commands.specs.Touched.{touched_by}
-use Rattle.edit_session.specs.declared.state.Shown.{Shown}
-use Rattle.edit_session.specs.declared.state.Shown.TheVariants.{Fault}
+use Rattle.sch_undo.specs.shown.Shown.{Shown}
+use Rattle.sch_undo.specs.shown.Shown.TheVariants.{Fault}
 use Rattle.xp_typed_tree.specs.TypedTree.{TypedTree}
 use Rattle.xp_watch.specs.Costs.{Raised, cost_of, has_fault}
 use Rattle.xp_watch.specs.Kept.{IsFresh, is_stale, stale_watches}

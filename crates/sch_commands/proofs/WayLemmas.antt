@@ -26,12 +26,12 @@ use Rattle.edit_command_laws.specs.SomeEdit.{EditsMakeTrees, ScriptsAreWellForme
 use Rattle.edit_command_laws.specs.TreesKept.{EditsKeepTrees}
 use Rattle.edit_iso_laws.specs.CommandsMove.{DoneInTurn, none, then}
 use Rattle.edit_iso_laws.proofs.InTurnLemmas.{kept-in-turn}
-use Rattle.edit_undo_laws.specs.Undoing.{CommandsAreUndone, UndoingsAreFormed}
+use Rattle.sch_undo.specs.Undoing.{CommandsAreUndone, UndoingsAreFormed}
 use Rattle.edit_way_laws.specs.Items.{AreFormed, ItemsAreWellFormed}
 use Rattle.edit_way_laws.specs.Staying.{EditsStayInScope, NumbersGrow}
-use Rattle.edit_session.specs.declared.state.Shown.{Shown}
-use Rattle.history_laws.specs.Histories.{HistoriesStand, LeadsBack, Returns, StandsFor}
-use Rattle.history_laws.proofs.HistoryLemmas.{one-end}
+use Rattle.sch_undo.specs.shown.Shown.{Shown}
+use Rattle.sch_undo.specs.Histories.{HistoriesStand, LeadsBack, Returns, StandsFor}
+use Rattle.sch_undo.proofs.HistoryLemmas.{one-end}
 use Rattle.sch_undo.specs.InTurn.{TouchesInTurn}
 use Rattle.sch_undo.specs.InTurn as turn
 use Rattle.sch_undo.proofs.BackLemmas.{leads-back}

@@ -5,8 +5,8 @@ use Rattle.doc_tree.specs.Table.{Table}
 use Rattle.edit_script.specs.Script.{script_of}
 use Rattle.xp_typed_tree.specs.TypedTree.{TypedTree}
 use Rattle.sch_compiled.specs.declared.plan.Plan.{Plan}
-use Rattle.edit_session.specs.Pairs.{has_too_many_pairs}
-use Rattle.edit_session.specs.State.{state_text}
+use Rattle.sch_undo.specs.Pairs.{has_too_many_pairs}
+use Rattle.sch_undo.specs.State.{state_text}
 use Rattle.sch_stops.specs.declared.refusal.DocumentRefusal.TheVariants.{TooManyPairs}
 use Rattle.sch_words.specs.declared.status.Status.TheVariants.{DocumentRefused, Usage}
 use Rattle.sch_words.specs.Commands.{Command, tell, expand, validate, follow, measure, summarize, watch, command_of, default_phase}

@@ -12,8 +12,8 @@ use Rattle.edit_script.specs.declared.fault.ScriptFault.{ScriptFault}
 use Rattle.edit_commands.specs.Commands.{IsEdited, command_refusal}
 use Rattle.edit_iso_laws.specs.CommandsMove.{DoneInTurn}
 use Rattle.edit_paths.specs.Entries.{undoing, undoing_numbers}
-use Rattle.edit_session.specs.declared.state.Shown.{Shown}
-use Rattle.edit_session.specs.declared.state.Shown.TheVariants.{Clean, Findings, Fault}
+use Rattle.sch_undo.specs.shown.Shown.{Shown}
+use Rattle.sch_undo.specs.shown.Shown.TheVariants.{Clean, Findings, Fault}
 use Rattle.sch_words.specs.declared.status.Status.TheVariants.{ScriptRefused}
 use Rattle.sch_stops.specs.declared.refusal.ScriptRefusal.TheVariants.{Faulted}
 use Rattle.sch_commands.specs.Output.{Output, ended, in_front, stopped}

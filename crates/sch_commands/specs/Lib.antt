@@ -1,3 +1,7 @@
+pub use Rattle.sch_undo.specs.InTurn
+pub use Rattle.sch_undo.specs.Pairs
+pub use Rattle.sch_undo.specs.State
+pub use Rattle.sch_undo.specs.shown
 pub mod Output
 pub mod Telling
 pub mod Following

@@ -9,8 +9,8 @@ use Rattle.edit_script.specs.declared.command.Command.{Command as Edit}
 use Rattle.edit_script.specs.declared.fault.ScriptFault.{ScriptFault}
 use Rattle.edit_commands.specs.Commands.{IsEdited, command_refusal}
 use Rattle.sch_compiled.specs.declared.plan.Plan.{Plan}
-use Rattle.edit_session.specs.Counts.{failed_assertions, fired_rules, successful_reports}
-use Rattle.edit_session.specs.declared.state.Shown.TheVariants as shown
+use Rattle.sch_undo.specs.Counts.{failed_assertions, fired_rules, successful_reports}
+use Rattle.sch_undo.specs.shown.Shown.TheVariants as shown
 use Rattle.sch_words.specs.declared.status.Status.{Status}
 use Rattle.sch_words.specs.declared.status.Status.TheVariants.{Clean, Findings}
 use Rattle.sch_commands.specs.Output.{Output, ended}

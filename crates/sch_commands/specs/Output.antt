@@ -5,9 +5,9 @@ use Rattle.doc_tree.specs.Table.{Table}
 use Rattle.sch_model.specs.declared.flat.FlatSchema.{FlatSchema}
 use Rattle.sch_flat.specs.FlatDocument.{flat_events}
 use Rattle.sch_compiled.specs.declared.plan.Plan.{Plan}
-use Rattle.edit_session.specs.State.{shows, state_text}
-use Rattle.edit_session.specs.declared.state.Shown.{Shown}
-use Rattle.edit_session.specs.declared.state.Shown.TheVariants as shown
+use Rattle.sch_undo.specs.State.{shows, state_text}
+use Rattle.sch_undo.specs.shown.Shown.{Shown}
+use Rattle.sch_undo.specs.shown.Shown.TheVariants as shown
 use Rattle.svrl_read.specs.declared.value.SvrlReport.{SvrlReport}
 use Rattle.svrl_summary.specs.Lines.{summary_lines}
 use Rattle.sch_words.specs.declared.notice.Notice.{Notice}

@@ -6,13 +6,13 @@ use Rattle.doc_tree.specs.limits.TheConstants.{MAX_LIVE_NODES}
 use Rattle.edit_script.specs.declared.command.Command.{Command as Edit}
 use Rattle.edit_commands.specs.Touched.{touched_by}
 use Rattle.sch_compiled.specs.declared.plan.Plan.{Plan}
-use Rattle.edit_costs.specs.Costs as units
-use Rattle.edit_costs.specs.Dirty.{dirty_units}
-use Rattle.edit_costs.specs.Units.{units_of}
-use Rattle.edit_session.specs.Pairs.{pair_cap_for}
-use Rattle.edit_session.specs.State as session
-use Rattle.edit_session.specs.declared.state.Shown.{Shown}
-use Rattle.edit_session.specs.declared.state.Shown.TheVariants.{Clean, Fault}
+use Rattle.sch_undo.specs.Costs as units
+use Rattle.sch_undo.specs.Dirty.{dirty_units}
+use Rattle.sch_undo.specs.Units.{units_of}
+use Rattle.sch_undo.specs.Pairs.{pair_cap_for}
+use Rattle.sch_undo.specs.State as session
+use Rattle.sch_undo.specs.shown.Shown.{Shown}
+use Rattle.sch_undo.specs.shown.Shown.TheVariants.{Clean, Fault}
 use Rattle.xp_typed_tree.specs.TypedTree.{TypedTree}
 use Rattle.xp_watch.specs.Costs as watches
 use Rattle.xp_watch.specs.Watched.{dirty_watches, watches_of}

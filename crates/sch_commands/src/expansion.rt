@@ -4,7 +4,7 @@ ghost use Rattle.std.specs.Prelude.{◌≡◌, ℕ, false, Some, IfOk};
 ghost use Rattle.sch_io.specs.Wrote.{Wrote};
 ghost use Rattle.pyx_core.specs.Written.{text_of};
 ghost use Rattle.sch_flat.specs.FlatDocument.{flat_events};
-ghost use Rattle.edit_session.specs.declared.state.Shown.TheVariants as states;
+ghost use Rattle.sch_undo.specs.shown.Shown.TheVariants as states;
 ghost use Rattle.sch_words.specs.declared.status.Status.TheVariants as statuses;
 ghost use Rattle.sch_commands.specs.Behaviours.{behaviour};
 ghost use Rattle.sch_words.specs.Commands.{expand};
@@ -12,7 +12,6 @@ ghost use Rattle.sch_commands.specs.Carried.{Carried};
 ghost use Rattle.sch_commands.specs.inner.Writing.{WroteText};
 ghost use Rattle.sch_stops.specs.Stops.{ends_with};
 
-use edit_session::Shown;
 use pyx_core::Event;
 use pyx_write::write_event;
 use sch_base::Text;
@@ -21,6 +20,7 @@ use sch_io::{Failed, Shelf, Sink};
 use sch_loading::load_flat;
 use sch_model::FlatSchema;
 use sch_stops::Stop;
+use sch_undo::Shown;
 use std::alloc::Global;
 
 /// Expands the named schema, and writes it.

@@ -13,3 +13,4 @@ mod validation;
 mod watching;
 
 pub use commands::carry_out;
+pub use sch_undo::{Shown, pair_cap_is_for_pairs};

@@ -1,13 +1,13 @@
 //! What the program says of itself, as a run.
 
 ghost use Rattle.std.specs.Prelude.{◌≡◌, IfOk};
-ghost use Rattle.edit_session.specs.declared.state.Shown.TheVariants as states;
+ghost use Rattle.sch_undo.specs.shown.Shown.TheVariants as states;
 ghost use Rattle.sch_words.specs.Notices.{notice_text};
 ghost use Rattle.sch_commands.specs.inner.Writing.{WroteText};
 
-use edit_session::Shown;
 use sch_io::{Failed, Sink};
 use sch_stops::Stop;
+use sch_undo::Shown;
 use sch_words::Notice;
 
 /// Writes a notice, which shows nothing to be found.

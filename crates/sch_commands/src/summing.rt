@@ -2,7 +2,7 @@
 
 ghost use Rattle.std.specs.Prelude.{◌≡◌, ℕ, false, Some, IfOk};
 ghost use Rattle.svrl_summary.specs.Lines.{summary_lines};
-ghost use Rattle.edit_session.specs.declared.state.Shown.TheVariants as states;
+ghost use Rattle.sch_undo.specs.shown.Shown.TheVariants as states;
 ghost use Rattle.sch_words.specs.declared.status.Status.TheVariants as statuses;
 ghost use Rattle.sch_words.specs.Commands.{summarize};
 ghost use Rattle.sch_commands.specs.Behaviours.{behaviour};
@@ -10,11 +10,11 @@ ghost use Rattle.sch_commands.specs.Carried.{Carried};
 ghost use Rattle.sch_commands.specs.inner.Writing.{WroteText};
 ghost use Rattle.sch_stops.specs.Stops.{ends_with};
 
-use edit_session::Shown;
 use sch_base::Text;
 use sch_io::{Failed, Shelf, Sink};
 use sch_loading::load_report;
 use sch_stops::Stop;
+use sch_undo::Shown;
 use std::alloc::Global;
 use svrl_read::SvrlReport;
 use svrl_summary::{summary_of, write_summary};

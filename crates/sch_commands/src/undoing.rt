@@ -9,8 +9,8 @@ ghost use Rattle.edit_script.specs.Faults.{IfFault};
 ghost use Rattle.edit_script.specs.Undos.{breaks, ends, items_left};
 ghost use Rattle.edit_script.specs.WellFormed.{WellFormedCommand};
 ghost use Rattle.edit_script.specs.declared.limits.TheConstants.{MAX_SCRIPT_BYTES};
-ghost use Rattle.edit_session.specs.Pairs.{pair_cap_for};
-ghost use Rattle.edit_session.specs.State.{shows, state_text};
+ghost use Rattle.sch_undo.specs.Pairs.{pair_cap_for};
+ghost use Rattle.sch_undo.specs.State.{shows, state_text};
 ghost use Rattle.sch_words.specs.declared.count.TheConstants.{MAX_UNDO_DEPTH};
 ghost use Rattle.sch_words.specs.declared.status.Status.TheVariants as statuses;
 ghost use Rattle.sch_stops.specs.EditLines.{no_history_line};
@@ -32,13 +32,12 @@ use doc_tree::{EditRefusal, Tree};
 use edit_cap_laws::edits_stay_within;
 use edit_command_laws::{edits_keep_trees, edits_make_trees, one_edit, scripts_are_well_formed};
 use edit_script::{Command, ScriptError, ScriptReader, items_in_turn};
-use edit_session::{Session, Shown};
-use edit_undo_laws::{commands_are_undone, undoings_are_formed};
 use edit_way_laws::{edits_stay_in_scope, items_are_well_formed, numbers_grow};
-use history_laws::histories_stand;
 use sch_io::{Failed, Sink};
 use sch_stops::{Stop, write_edit_line, write_no_history_line, write_undo_line};
-use sch_undo::{History, UndoError};
+use sch_undo::{
+    History, Session, Shown, UndoError, commands_are_undone, histories_stand, undoings_are_formed,
+};
 use std::alloc::Global;
 use std::sync::ledger::Ledger;
 use xp_outcome::Steps;

@@ -3,8 +3,8 @@
 ghost use Rattle.std.specs.Prelude.{◌≡◌, ◌≤◌, ◌+◌, false, [], ◌∷◌, Some, IfOk, OnOk};
 ghost use Rattle.name_scopes.specs.Scoping.{InScope};
 ghost use Rattle.sch_compiled.specs.Soundness.{IsSound};
-ghost use Rattle.edit_session.specs.Pairs.{pair_cap_for};
-ghost use Rattle.edit_session.specs.State.{shows, state_text};
+ghost use Rattle.sch_undo.specs.Pairs.{pair_cap_for};
+ghost use Rattle.sch_undo.specs.State.{shows, state_text};
 ghost use Rattle.sch_words.specs.declared.status.Status.TheVariants as statuses;
 ghost use Rattle.sch_commands.specs.Behaviours.{Opening, Treeing, behaviour};
 ghost use Rattle.sch_commands.specs.Telling.{by_plan};
@@ -17,12 +17,12 @@ ghost use Rattle.sch_commands.specs.inner.Sessions.{IsEvaluated, IsUnevaluated, 
 ghost use Rattle.sch_commands.specs.inner.Writing.{WroteText, of_report};
 ghost use Rattle.sch_stops.specs.Stops.{ends_with};
 
-use edit_session::{OpenRefusal, ReportError, Session, Shown};
 use sch_base::Text;
 use sch_compiled::Plan;
 use sch_io::{Shelf, Sink};
 use sch_loading::{load_document, load_plan};
 use sch_stops::{DocumentRefusal, Stop};
+use sch_undo::{OpenRefusal, ReportError, Session, Shown};
 use sch_words::Validation;
 use std::alloc::Global;
 use std::sync::ledger::Ledger;

@@ -18,11 +18,11 @@ ghost use Rattle.sch_commands.specs.inner.Sessions.{IsUnevaluated, IsWatched, do
 ghost use Rattle.sch_commands.specs.inner.Writing.{WroteText, of_out};
 
 use crate::following::{script_has_cost, write_states};
-use edit_session::Shown;
 use sch_base::Text;
 use sch_io::{Bytes, Shelf, Sink};
 use sch_loading::{load_document, load_watches, read_script};
 use sch_stops::Stop;
+use sch_undo::Shown;
 use sch_words::Watching;
 use std::alloc::{AllocError, Global};
 use std::sync::ledger::Ledger;

@@ -21,7 +21,7 @@ use Rattle.xp_meaning.proofs.Answers.{answer_visit}
 use Rattle.xp_meaning.proofs.NodeSets.{values_are_proper}
 use Rattle.xp_locality_laws.specs.Locality.{AllKept, Changed, Kept}
 use Rattle.xp_locality_laws.proofs.TestLemmas.{stay-each}
-use Rattle.xslt_match.proofs.Filters.{kept-listed}
+use Rattle.xslt_locality_laws.proofs.Filters.{kept-listed}
 use Rattle.sch_compiled.specs.declared.parts.LetInForce.{LetInForce}
 use Rattle.sch_compiled.specs.declared.plan.Plan.{Plan}
 use Rattle.sch_units.specs.Messages.{alone}

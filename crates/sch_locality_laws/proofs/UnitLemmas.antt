@@ -20,7 +20,7 @@ use Rattle.xp_locality_laws.proofs.AxisLemmas.{root-stays}
 use Rattle.xp_locality_laws.proofs.StandLemmas.{Same, no_nodes, same-bind, same-cond, same-done, same-given, same-made, same-visit}
 use Rattle.xp_locality_laws.proofs.NameLemmas.{first-stays, same-of_name}
 use Rattle.xp_locality_laws.proofs.ValueLemmas.{same-text_in}
-use Rattle.xslt_match.specs.Matching.{matching}
+use Rattle.xslt_locality_laws.specs.Matching.{matching}
 use Rattle.xslt_locality_laws.specs.Locality.{PatternsAreLocal}
 use Rattle.sch_compiled.specs.declared.findings.Finding.{Finding}
 use Rattle.sch_compiled.specs.declared.findings.Outcome.TheVariants.{Fired, NoRule}

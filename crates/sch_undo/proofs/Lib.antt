@@ -1,3 +1,5 @@
+pub use Rattle.history_laws.proofs.HistoryLemmas
+pub use Rattle.edit_session.proofs.PairLemmas
 pub mod NameLemmas
 pub mod MarkLemmas
 pub mod TurnLemmas

@@ -9,8 +9,8 @@ use Rattle.doc_tree.specs.cell.Cell.TheVariants.{Name}
 use Rattle.doc_tree.specs.Table.{Table}
 use Rattle.xp_outcome.specs.Recorded.{NamesSet, Recorded}
 use Rattle.cover_laws.specs.Covering.{has_touched, has_touched_name, holds_touched, names_at}
-use Rattle.kept_state.specs.Kept.{Kept}
-use Rattle.kept_state.specs.Steps.{Marks, unless_touched}
+use Rattle.edit_session.specs.Kept.{Kept}
+use Rattle.edit_session.specs.Steps.{Marks, unless_touched}
 
 any-none : {A : Type 0} (f : A → Bool) (xs : List A) → ((x : A) → f x ≡ false) → list_any f xs ≡ false
 any-none f [] fails = refl

@@ -13,7 +13,7 @@ use Rattle.edit_iso_laws.specs.CommandsMove.{DoneInTurn, none, then}
 use Rattle.history_laws.proofs.HistoryLemmas.{done-as}
 use Rattle.xp_outcome.specs.Recorded.{NamesSet}
 use Rattle.cover_laws.specs.Covering.{has_touched_name}
-use Rattle.kept_state.specs.Steps.{Marks}
+use Rattle.edit_session.specs.Steps.{Marks}
 use Rattle.edit_session.specs.Standing.{Standing, seen_by}
 use Rattle.sch_undo.specs.InTurn as turn
 use Rattle.sch_undo.specs.inner.Doing.{Did, KeepsNames}

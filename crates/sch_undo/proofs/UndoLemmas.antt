@@ -21,8 +21,8 @@ use Rattle.edit_commands.specs.Touched.{touched_by}
 use Rattle.edit_iso_laws.specs.CommandsMove.{DoneInTurn}
 use Rattle.edit_paths.specs.Entries.{undoing, undoing_numbers}
 use Rattle.sch_compiled.specs.Soundness.{IsSound}
-use Rattle.sch_locality_laws.specs.Locality.{RulesTyped}
-use Rattle.kept_state.specs.Laws.{DirtyUnitsAreRun}
+use Rattle.edit_session.specs.Locality.{RulesTyped}
+use Rattle.edit_session.specs.KeptLaws.{DirtyUnitsAreRun}
 use Rattle.edit_session.specs.Standing.{Standing, seen_by}
 use Rattle.state_iso_laws.specs.States.{SameTreesShowTheSame, ShowTheSame}
 use Rattle.undo_entries.specs.declared.entry.Entry.{Entry}

@@ -9,9 +9,9 @@ use Rattle.edit_commands.specs.declared.refusal.ApplyError.TheVariants as apply
 use Rattle.edit_paths.specs.Entries.{undoing, undoing_numbers}
 use Rattle.edit_iso_laws.specs.CommandsMove.{DoneInTurn}
 use Rattle.edit_script.specs.declared.command.Command.{Command}
-use Rattle.edit_costs.specs.Dirty.{dirty_units}
-use Rattle.kept_state.specs.Running.{IsFresh, to_run}
-use Rattle.kept_state.specs.Steps.{Marks}
+use Rattle.edit_session.specs.Dirty.{dirty_units}
+use Rattle.edit_session.specs.Running.{IsFresh, to_run}
+use Rattle.edit_session.specs.Steps.{Marks}
 use Rattle.edit_session.specs.Standing.{Standing, seen_by}
 use Rattle.history_laws.specs.Histories.{StandsFor}
 use Rattle.undo_entries.specs.declared.entry.Entry.{Entry}

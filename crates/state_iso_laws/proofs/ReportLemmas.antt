@@ -25,8 +25,8 @@ use Rattle.sch_units.specs.Validity.{first_fault, pair_outcome}
 use Rattle.sch_iso_laws.specs.Moves.{OwnLetsMove, VerdictsMove, moved_fault, moved_finding, moved_found}
 use Rattle.svrl_out.specs.FaultLine.{fault_line, node_fault}
 use Rattle.svrl_out.specs.Report.{active_pattern, assertion_lines, fired_rule, node_lines, ns_lines, outcome_lines, output_attributes, pattern_lines, placed_lines, rule_lines}
-use Rattle.edit_session.specs.State.{report_of, shown_by, text_by}
-use Rattle.edit_session.specs.declared.state.Shown.TheVariants.{Clean, Findings}
+use Rattle.svrl_out.specs.State.{report_of, shown_by, text_by}
+use Rattle.svrl_out.specs.declared.shown.Shown.TheVariants.{Clean, Findings}
 use Rattle.state_iso_laws.specs.States.{LocationsStay, SameTreesShowTheSame, ShowTheSame}
 
 told-same : {X : Type 0} (g h : X → List ℕ) → ((x : X) → h x ≡ g x) → (xs : List X) → flat_map h xs ≡ flat_map g xs

@@ -15,7 +15,7 @@ use Rattle.name_scopes.specs.ScopedTree.{Scoped}
 use Rattle.name_scopes.specs.Scoping.{InScope}
 use Rattle.tree_iso.specs.Renumbering.{Renumbers}
 use Rattle.sch_compiled.specs.declared.plan.Plan.{Plan}
-use Rattle.edit_session.specs.State.{shows, state_text}
+use Rattle.svrl_out.specs.State.{shows, state_text}
 
 -- a renumbered node is found at the same location
 abbrev pub LocationsStay : Type 0

@@ -7,7 +7,9 @@ mod laid;
 mod page;
 mod parts;
 mod report;
+mod shown;
 
 pub use doc_locations::{location, locations_are_told_apart};
 pub use fault_line::write_fault;
 pub use report::{OutError, write_report, write_report_among};
+pub use shown::Shown;

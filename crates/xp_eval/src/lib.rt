@@ -14,6 +14,6 @@ mod variables;
 
 pub use calling::{eval, step_at};
 pub use evaluator::Evaluator;
-pub use xp_calls::Caller;
+pub use xp_calls::{Caller, is_by_name};
 pub use xp_meaning::{Context, Lets};
 pub use xp_outcome::{Recorder, Steps};

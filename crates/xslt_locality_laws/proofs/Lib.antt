@@ -1,1 +1,2 @@
+pub use Rattle.xslt_match.proofs.Filters
 pub mod MatchingLemmas

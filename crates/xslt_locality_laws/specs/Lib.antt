@@ -1,1 +1,2 @@
+pub use Rattle.xslt_match.specs.Matching
 pub mod Locality

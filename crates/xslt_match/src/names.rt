@@ -20,7 +20,7 @@ use crate::one_chain::is_anywhere;
 use doc_axes::{is_principal, principal_kind};
 use doc_tree::{Axis, Cell, Kind, NodeId, Tree};
 use std::alloc::AllocError;
-use xp_calls::is_by_name;
+use xp_eval::is_by_name;
 use xp_outcome::Recorder;
 use xp_typed_tree::TypedPatternStep;
 

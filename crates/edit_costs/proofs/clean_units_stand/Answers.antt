@@ -9,7 +9,7 @@ use Rattle.doc_tree.specs.Laws.{WellFormed}
 use Rattle.doc_edit_laws.specs.Along.{Edits}
 use Rattle.sch_compiled.specs.declared.parts.LetInForce.{LetInForce}
 use Rattle.sch_compiled.specs.declared.plan.Plan.{Plan}
-use Rattle.sch_units.specs.Units.{lets_of, unit_let, unit_pair}
+use Rattle.sch_locality_laws.specs.Units.{lets_of, unit_let, unit_pair}
 use Rattle.sch_locality_laws.specs.Locality.{RulesTyped}
 use Rattle.sch_locality_laws.specs.Edits.{UnitsStand}
 use Rattle.edit_costs.specs.Dirty.{is_changed, is_dirty, is_touched}

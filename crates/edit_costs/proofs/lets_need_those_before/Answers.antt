@@ -3,7 +3,7 @@ use Rattle.std.proofs.Common.{ap}
 use Rattle.xp_typed_tree.specs.Slots.{slots_in}
 use Rattle.xp_outcome.specs.Evaluation.{behind, visit}
 use Rattle.xp_meaning.specs.Evaluation.{meaning}
-use Rattle.sch_units.specs.Messages.{alone}
+use Rattle.sch_locality_laws.specs.Messages.{alone}
 use Rattle.edit_costs.proofs.BeforeLemmas.{agree-below, own-below, reads-before}
 use Rattle.edit_costs.proofs.lets_need_those_before.Goals as goal
 

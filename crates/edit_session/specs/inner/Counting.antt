@@ -7,8 +7,8 @@ use Rattle.sch_compiled.specs.declared.state_fault.StateFault.{StateFault}
 use Rattle.sch_compiled.specs.Findings.{OutcomeTable, outcome_at}
 use Rattle.sch_compiled.specs.Plan.{rules_of}
 use Rattle.sch_units.specs.Validity.{pattern_numbers}
-use Rattle.state_run.specs.declared.scanning.Evaluated.{Evaluated}
-use Rattle.state_run.specs.declared.scanning.Evaluated.TheVariants.{Whole, Faulted}
+use Rattle.kept_units.specs.scanning.Evaluated.{Evaluated}
+use Rattle.kept_units.specs.scanning.Evaluated.TheVariants.{Whole, Faulted}
 use Rattle.edit_session.specs.declared.counting.Counts.{Counts}
 use Rattle.edit_session.specs.declared.counting.Tally.{Tally}
 use Rattle.edit_session.specs.Counts.{fired_by, found_by}

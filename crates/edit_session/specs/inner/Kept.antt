@@ -4,8 +4,8 @@ use Rattle.std.specs.Prelude.{◌≡◌, ℕ, ◌<◌, ◌≤◌, true, length}
 use Rattle.doc_tree.specs.Kinds.{is_document}
 use Rattle.doc_tree.specs.Walks.{order}
 use Rattle.sch_compiled.specs.Soundness.{IsSound}
-use Rattle.sch_locality_laws.specs.Locality.{RulesTyped}
-use Rattle.kept_state.specs.Kept.{Keeps}
+use Rattle.kept_units.specs.Locality.{RulesTyped}
+use Rattle.kept_units.specs.Kept.{Keeps}
 use Rattle.kept_units.specs.Keeping.{IsHeld, held_by, seen_in}
 use Rattle.edit_session.specs.declared.session.Session.TheInside.{Inside}
 use Rattle.edit_session.specs.Pairs.{pair_cap_for}

@@ -4,8 +4,8 @@ use Rattle.svrl_out.specs.declared.report.OutError.{OutError}
 use Rattle.svrl_out.specs.declared.report.OutError.TheVariants as out
 use Rattle.edit_session.specs.declared.state.ReportError.{ReportError}
 use Rattle.edit_session.specs.declared.state.ReportError.TheVariants.{Failed, Memory}
-use Rattle.edit_session.specs.declared.state.Shown.{Shown}
-use Rattle.edit_session.specs.declared.state.Shown.TheVariants.{Clean, Findings}
+use Rattle.edit_session.specs.shown.Shown.{Shown}
+use Rattle.edit_session.specs.shown.Shown.TheVariants.{Clean, Findings}
 
 -- what a report shows, by whether something was found
 abbrev pub shown_of : Bool → Shown

@@ -1,6 +1,6 @@
 -- The status of a run, by how its command ended.
 use Rattle.std.specs.Prelude.{◌≡◌, Result}
-use Rattle.edit_session.specs.declared.state.Shown.{Shown}
+use Rattle.sch_commands.specs.shown.Shown.{Shown}
 use Rattle.sch_words.specs.declared.status.Status.{Status}
 use Rattle.sch_words.specs.declared.status.Status.TheVariants as status
 use Rattle.sch_stops.specs.Stops.{ends_with, is_status}

@@ -1,7 +1,7 @@
 -- What parts of a run count.
 use Rattle.std.specs.Prelude.{◌≡◌, ℕ, ◌+◌, ◌≤◌, Result, Ok, Err}
-use Rattle.edit_session.specs.declared.state.Shown.{Shown}
-use Rattle.edit_session.specs.declared.state.Shown.TheVariants.{Fault}
+use Rattle.sch_undo.specs.shown.Shown.{Shown}
+use Rattle.sch_undo.specs.shown.Shown.TheVariants.{Fault}
 use Rattle.sch_commands.specs.inner.Followers.{Place}
 use Rattle.sch_stops.specs.declared.stop.Stop.{Stop}
 use Rattle.sch_commands.specs.Steps.{CountsAtMost}

@@ -16,8 +16,8 @@ use Rattle.sch_stops.specs.Output.{Output}
 use Rattle.sch_commands.specs.Output.{in_front}
 use Rattle.sch_commands.specs.Written.{Fronted}
 use Rattle.sch_stops.specs.Stops.{ByCause, counted_if, ends_with}
-use Rattle.edit_session.specs.Standing.{Standing}
-use Rattle.edit_session.specs.declared.state.Shown.{Shown}
+use Rattle.sch_undo.specs.Standing.{Standing}
+use Rattle.sch_undo.specs.shown.Shown.{Shown}
 use Rattle.sch_commands.specs.declared.following.Scripted.{Scripted as Borrowed}
 use Rattle.sch_commands.specs.declared.watching.Watched.{Watched as BorrowedWatched}
 use Rattle.xp_watch.specs.Watching.{Watching}

@@ -8,10 +8,10 @@ use Rattle.edit_script.specs.Script.{nothing, script_left, stops}
 use Rattle.edit_script.specs.declared.fault.ScriptError.{ScriptError}
 use Rattle.edit_script.specs.declared.fault.ScriptFault.{ScriptFault}
 use Rattle.sch_compiled.specs.declared.plan.Plan.{Plan}
-use Rattle.edit_session.specs.Counts.{counts_of}
-use Rattle.edit_session.specs.Pairs.{pair_cap_for}
-use Rattle.edit_session.specs.declared.state.Shown.{Shown}
-use Rattle.edit_session.specs.declared.state.Shown.TheVariants.{Clean, Findings, Fault}
+use Rattle.sch_undo.specs.Counts.{counts_of}
+use Rattle.sch_undo.specs.Pairs.{pair_cap_for}
+use Rattle.sch_undo.specs.shown.Shown.{Shown}
+use Rattle.sch_undo.specs.shown.Shown.TheVariants.{Clean, Findings, Fault}
 use Rattle.sch_stops.specs.declared.stop.Stop.{Stop}
 use Rattle.sch_stops.specs.Stops.{of_script}
 use Rattle.sch_commands.specs.Measuring.{LeadsTo, counted_text}

@@ -6,7 +6,7 @@ use Rattle.edit_script.specs.Script.{Script, nothing, onto, stops}
 use Rattle.edit_script.specs.declared.command.Command.{Command}
 use Rattle.edit_script.specs.declared.fault.ScriptFault.{ScriptFault}
 use Rattle.edit_commands.specs.Commands.{IsEdited, command_refusal}
-use Rattle.edit_session.specs.declared.state.Shown.{Shown}
+use Rattle.sch_undo.specs.shown.Shown.{Shown}
 use Rattle.sch_words.specs.declared.status.Status.TheVariants.{ScriptRefused}
 use Rattle.sch_stops.specs.EditLines.{edit_line, refused_line}
 use Rattle.sch_stops.specs.Output.{Output, stopped}

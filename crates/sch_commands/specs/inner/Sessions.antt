@@ -1,11 +1,11 @@
 -- Documents that are followed: what is told of each, and what its next state is to evaluate.
 use Rattle.std.specs.Prelude.{◌≡◌, ℕ}
 use Rattle.doc_tree.specs.Table.{Contents}
-use Rattle.edit_costs.specs.Costs as units
-use Rattle.kept_state.specs.Running.{IsFresh, to_run}
+use Rattle.sch_undo.specs.Costs as units
+use Rattle.sch_undo.specs.Running.{IsFresh, to_run}
 use Rattle.edit_script.specs.Script.{Script}
 use Rattle.edit_script.specs.declared.command.Command.{Command as Edit}
-use Rattle.edit_session.specs.Standing.{Standing, seen_by}
+use Rattle.sch_undo.specs.Standing.{Standing, seen_by}
 use Rattle.xp_watch.specs.Costs as watches
 use Rattle.xp_watch.specs.Kept as kept
 use Rattle.xp_watch.specs.Watching.{Watching}

@@ -6,8 +6,8 @@ use Rattle.doc_tree.specs.Table.{Table}
 use Rattle.doc_tree.specs.declared.refusal.EditRefusal.TheVariants.{IdsSpent}
 use Rattle.edit_script.specs.Undos.{Items, edits, item_count, items_left, undoes}
 use Rattle.edit_script.specs.WellFormed.{WellFormedCommand}
-use Rattle.edit_session.specs.Pairs.{pair_cap_for}
-use Rattle.edit_session.specs.declared.state.Shown.{Shown}
+use Rattle.sch_undo.specs.Pairs.{pair_cap_for}
+use Rattle.sch_undo.specs.shown.Shown.{Shown}
 use Rattle.sch_undo.specs.Remembered.{Remembered}
 use Rattle.sch_undo.specs.declared.error.UndoError.{UndoError}
 use Rattle.sch_undo.specs.declared.error.UndoError.TheVariants as undo

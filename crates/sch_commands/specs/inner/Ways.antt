@@ -12,8 +12,8 @@ use Rattle.edit_script.specs.Undos as item
 use Rattle.edit_script.specs.declared.command.Command.{Command}
 use Rattle.edit_script.specs.declared.fault.ScriptFault.{ScriptFault}
 use Rattle.edit_commands.specs.Commands.{IsEdited, command_refusal}
-use Rattle.undo_entries.specs.declared.entry.Entry.{Entry}
-use Rattle.history_laws.specs.Histories.{StandsFor}
+use Rattle.sch_undo.specs.entry.Entry.{Entry}
+use Rattle.sch_undo.specs.Histories.{StandsFor}
 use Rattle.sch_undo.specs.InTurn.{TouchesInTurn}
 use Rattle.sch_commands.specs.Following.{Earlier, IsTakenBack, earlier_of}
 use Rattle.sch_commands.specs.Telling.{Telling, under}

@@ -4,8 +4,8 @@ use Rattle.sch_io.specs.ReadThrough.{ReadsThrough, all_files}
 use Rattle.sch_io.specs.ShelfState.{ShelfState}
 use Rattle.sch_io.specs.SinkLog.{SinkLog}
 use Rattle.sch_io.specs.Wrote.{Appends}
-use Rattle.edit_session.specs.declared.state.ReportError.{ReportError}
-use Rattle.edit_session.specs.declared.state.ReportError.TheVariants as report
+use Rattle.sch_undo.specs.state.ReportError.{ReportError}
+use Rattle.sch_undo.specs.state.ReportError.TheVariants as report
 use Rattle.svrl_out.specs.declared.report.OutError.{OutError}
 use Rattle.svrl_out.specs.declared.report.OutError.TheVariants as out
 use Rattle.sch_words.specs.declared.status.Status.TheVariants as status

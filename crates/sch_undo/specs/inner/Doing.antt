@@ -8,7 +8,7 @@ use Rattle.edit_script.specs.declared.command.Command.TheVariants.{Insert, Delet
 use Rattle.edit_commands.specs.Commands.{RefusesCommand}
 use Rattle.edit_commands.specs.declared.refusal.ApplyError.TheVariants.{Memory}
 use Rattle.edit_iso_laws.specs.CommandsMove.{DoneInTurn}
-use Rattle.kept_state.specs.Steps.{Marks}
+use Rattle.edit_session.specs.Steps.{Marks}
 use Rattle.edit_session.specs.Standing.{Standing, seen_by}
 use Rattle.sch_undo.specs.InTurn.{TouchesInTurn}
 

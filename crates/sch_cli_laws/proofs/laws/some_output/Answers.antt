@@ -1,5 +1,5 @@
 -- Each stage of a run goes on, or halts it.
-use Rattle.sch_commands.proofs.WayLemmas.{WayLaws}
+use Rattle.sch_cli.proofs.WayLemmas.{WayLaws}
 use Rattle.sch_cli_laws.proofs.SomeOutput.{some-output}
 use Rattle.sch_cli_laws.proofs.laws.some_output.Goals as goal
 

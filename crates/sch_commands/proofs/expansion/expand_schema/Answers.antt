@@ -2,7 +2,7 @@
 use Rattle.std.proofs.Common.{◌∙◌, ◌≡◌, [], ◌∷◌, false, Err, ap, refl, arith}
 use Rattle.std.proofs.lemmas.Result.{err_from_is_err_and}
 use Rattle.sch_model.specs.declared.flat.FlatSchema.{FlatSchema}
-use Rattle.edit_session.specs.declared.state.Shown.TheVariants as shown
+use Rattle.sch_undo.specs.shown.Shown.TheVariants as shown
 use Rattle.sch_loading.specs.Reads.{schema_file}
 use Rattle.sch_loading.specs.Loading.{Expanding}
 use Rattle.sch_commands.specs.Output.{expanded}

@@ -5,9 +5,9 @@ use Rattle.doc_tree.specs.Kinds.{is_document}
 use Rattle.doc_tree.specs.Table.{Contents}
 use Rattle.edit_script.specs.Script.{script_left, script_of}
 use Rattle.sch_compiled.specs.declared.plan.Plan.{Plan}
-use Rattle.edit_session.specs.Pairs.{pair_cap_for}
-use Rattle.edit_session.specs.State.{shows}
-use Rattle.edit_session.specs.declared.state.Shown.{Shown}
+use Rattle.sch_undo.specs.Pairs.{pair_cap_for}
+use Rattle.sch_undo.specs.State.{shows}
+use Rattle.sch_undo.specs.shown.Shown.{Shown}
 use Rattle.sch_stops.specs.declared.stop.Stop.{Stop}
 use Rattle.sch_commands.specs.Behaviours.{Measures, MeasuresText, StatesCost}
 use Rattle.sch_commands.specs.Telling.{by_plan}

@@ -3,7 +3,7 @@ use Rattle.std.proofs.Common.{◌∙◌, ◌≡◌, [], ◌∷◌, false, Err, a
 use Rattle.std.proofs.lemmas.Result.{err_from_is_err_and}
 use Rattle.svrl_read.specs.declared.value.SvrlReport.{SvrlReport}
 use Rattle.svrl_summary.specs.Lines.{summary_lines}
-use Rattle.edit_session.specs.declared.state.Shown.TheVariants as shown
+use Rattle.sch_undo.specs.shown.Shown.TheVariants as shown
 use Rattle.sch_stops.specs.declared.stop.Stop.TheVariants.{Memory}
 use Rattle.sch_loading.specs.Reads.{file}
 use Rattle.sch_loading.specs.Loading.{Reporting}

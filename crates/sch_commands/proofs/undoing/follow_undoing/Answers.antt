@@ -5,7 +5,7 @@ use Rattle.doc_tree.specs.Kinds.{is_document}
 use Rattle.doc_tree.specs.Table.{Contents}
 use Rattle.name_scopes.specs.Scoping.{InScope}
 use Rattle.edit_script.specs.declared.fault.ScriptError.TheVariants as script
-use Rattle.edit_session.specs.State.{state_text}
+use Rattle.sch_undo.specs.State.{state_text}
 use Rattle.sch_commands.specs.Behaviours.{BeginsStates, States}
 use Rattle.sch_commands.specs.Following.{items_of}
 use Rattle.sch_commands.specs.Telling.{by_plan}

@@ -3,7 +3,7 @@ use Rattle.std.proofs.Common.{◌∙◌, [], ◌∷◌, Err, Ok, ap, refl, subst
 use Rattle.std.proofs.lemmas.Result.{err_from_is_err_and}
 use Rattle.doc_tree.specs.Table.{Contents}
 use Rattle.name_scopes.specs.Scoping.{InScope}
-use Rattle.edit_session.specs.Pairs.{has_too_many_pairs, pair_cap_for}
+use Rattle.sch_undo.specs.Pairs.{has_too_many_pairs, pair_cap_for}
 use Rattle.sch_stops.specs.declared.refusal.DocumentRefusal.TheVariants.{TooManyPairs}
 use Rattle.sch_stops.specs.declared.stop.Stop.TheVariants.{DocumentRefused, Memory}
 use Rattle.sch_loading.specs.Reads.{file}

@@ -1,7 +1,7 @@
 -- The parts end as the whole.
 use Rattle.std.proofs.Common.{◌∙◌, ◌≡◌, [], ◌∷◌, true, true≢false, Err, ap, refl}
 use Rattle.std.proofs.lemmas.Result.{err_from_is_err_and}
-use Rattle.edit_session.specs.State.{shows, state_text}
+use Rattle.sch_undo.specs.State.{shows, state_text}
 use Rattle.sch_commands.specs.Behaviours.{Opening}
 use Rattle.sch_loading.specs.Reads.{file, schema_file}
 use Rattle.sch_commands.specs.Output.{state}

@@ -6,10 +6,10 @@ use Rattle.doc_tree.specs.Walks.{order}
 use Rattle.doc_edit_laws.specs.Along.{Edit}
 use Rattle.edit_commands.specs.Touched.{holds_cell, touched_by}
 use Rattle.name_scopes.specs.Scoping.{InScope}
-use Rattle.edit_costs.specs.Dirty.{dirty_units}
-use Rattle.kept_state.specs.Kept.{Keeps}
-use Rattle.kept_state.specs.Running.{IsFresh, to_run}
-use Rattle.kept_state.specs.Steps.{Marks}
+use Rattle.kept_units.specs.Dirty.{dirty_units}
+use Rattle.kept_units.specs.Kept.{Keeps}
+use Rattle.kept_units.specs.Running.{IsFresh, to_run}
+use Rattle.kept_units.specs.Steps.{Marks}
 use Rattle.kept_units.specs.Keeping.{IsHeld, seen_in}
 use Rattle.edit_session.specs.Pairs.{pair_cap_for}
 use Rattle.edit_session.specs.Standing.{Standing, seen_by}

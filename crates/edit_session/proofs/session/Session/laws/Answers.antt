@@ -1,8 +1,8 @@
 -- What is kept is the state.
 use Rattle.std.proofs.Common.{ℕ, ◌<◌, ◌≤◌, length, subst}
 use Rattle.doc_tree.specs.Walks.{order}
-use Rattle.sch_locality_laws.specs.Locality.{RulesTyped}
-use Rattle.kept_state.specs.Kept.{Keeps}
+use Rattle.kept_units.specs.Locality.{RulesTyped}
+use Rattle.kept_units.specs.Kept.{Keeps}
 use Rattle.edit_session.specs.Standing.{Standing, seen_by}
 use Rattle.edit_session.proofs.session.Session.laws.Goals as goal
 

@@ -1,7 +1,7 @@
 -- By what is kept.
 use Rattle.std.proofs.Common.{◌≤◌, ◌+◌, OnOk, ap, subst}
-use Rattle.edit_costs.specs.Costs.{Raised, cost_of}
-use Rattle.kept_state.specs.Running.{GoesOn, IsFresh, to_run}
+use Rattle.kept_units.specs.Costs.{Raised, cost_of}
+use Rattle.kept_units.specs.Running.{GoesOn, IsFresh, to_run}
 use Rattle.kept_units.specs.Keeping.{seen_in}
 use Rattle.edit_session.specs.Standing.{Standing, seen_by}
 use Rattle.edit_session.proofs.session.Session.refresh.Goals as goal

@@ -3,7 +3,7 @@ use Rattle.std.proofs.Common.{ap, subst, sym}
 use Rattle.doc_tree.specs.Laws.{Ordered}
 use Rattle.doc_tree.specs.Table.{Contents}
 use Rattle.sch_compiled.specs.declared.plan.Plan.{Plan}
-use Rattle.kept_state.specs.Running.{IsFresh, to_run}
+use Rattle.kept_units.specs.Running.{IsFresh, to_run}
 use Rattle.edit_session.specs.Standing.{Standing, seen_by}
 use Rattle.edit_session.specs.Wrote.{WroteState}
 use Rattle.edit_session.proofs.FaultLemmas.{counts-whole, run-clear}

@@ -1,8 +1,8 @@
 -- A report that shows no fault met none.
 use Rattle.std.proofs.Common.{ap, subst}
 use Rattle.doc_tree.specs.Laws.{Ordered}
-use Rattle.edit_costs.specs.Costs.{Raised}
-use Rattle.edit_costs.specs.Units.{units_of}
+use Rattle.kept_units.specs.Costs.{Raised}
+use Rattle.kept_units.specs.Units.{units_of}
 use Rattle.edit_session.specs.Standing.{Standing}
 use Rattle.edit_session.specs.Wrote.{WroteState}
 use Rattle.edit_session.proofs.FaultLemmas.{counts-whole, units-clear}

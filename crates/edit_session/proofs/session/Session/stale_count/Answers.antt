@@ -1,8 +1,8 @@
 -- By what is kept.
 use Rattle.std.proofs.Common.{◌≡◌, length, subst}
 use Rattle.std.specs.Prelude.{filter}
-use Rattle.edit_costs.specs.Units.{units_of}
-use Rattle.kept_state.specs.Running.{is_stale}
+use Rattle.kept_units.specs.Units.{units_of}
+use Rattle.kept_units.specs.Running.{is_stale}
 use Rattle.edit_session.specs.Standing.{Standing, seen_by}
 use Rattle.edit_session.proofs.session.Session.stale_count.Goals as goal
 

@@ -1,7 +1,7 @@
 -- By what is kept.
 use Rattle.std.proofs.Common.{subst, sym}
-use Rattle.kept_state.specs.Running.{IsFresh}
-use Rattle.state_run.specs.Outcomes.{Holds, LetsHold}
+use Rattle.kept_units.specs.Running.{IsFresh}
+use Rattle.kept_units.specs.Outcomes.{Holds, LetsHold}
 use Rattle.edit_session.specs.Standing.{Standing, seen_by}
 use Rattle.edit_session.specs.Wrote.{WroteState}
 use Rattle.edit_session.proofs.KeptLemmas.{holds-fresh, lets-fresh}

@@ -1,8 +1,8 @@
 -- The command is refused, or makes another document, which is measured.
 use Rattle.std.proofs.Common.{ap, refl}
 use Rattle.edit_script.specs.Script.{script_left}
-use Rattle.edit_session.specs.Standing.{Standing}
-use Rattle.edit_session.specs.declared.state.Shown.TheVariants.{Clean}
+use Rattle.sch_undo.specs.Standing.{Standing}
+use Rattle.sch_undo.specs.shown.Shown.TheVariants.{Clean}
 use Rattle.sch_commands.specs.inner.Followers.{in_front_of}
 use Rattle.sch_commands.specs.Telling.{by_plan}
 use Rattle.sch_commands.specs.inner.Measurers.{place_at}

@@ -1,7 +1,7 @@
 -- The commands so far were done.
 use Rattle.std.proofs.Common.{◌≡◌, ◌≤◌, ℕ, length}
 use Rattle.edit_script.specs.Script.{script_left}
-use Rattle.edit_session.specs.declared.state.Shown.{Shown}
+use Rattle.sch_undo.specs.shown.Shown.{Shown}
 use Rattle.sch_commands.specs.inner.Measurers.{IsUnderWay, MovesTo, is_fault, place_at}
 use Rattle.sch_commands.specs.inner.Sessions.{HasCost, document_of}
 use Rattle.sch_commands.proofs.measuring.Measurer.measure_rest.Given as goal

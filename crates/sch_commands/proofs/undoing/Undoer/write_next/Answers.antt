@@ -1,7 +1,7 @@
 -- The line is not written whole, or the state behind it.
 use Rattle.std.proofs.Common.{◌∙◌, Err, Result, ap, refl, subst}
 use Rattle.std.proofs.lemmas.Result.{err_from_is_err_and}
-use Rattle.edit_session.specs.State.{state_text}
+use Rattle.sch_undo.specs.State.{state_text}
 use Rattle.sch_stops.specs.declared.stop.Stop.{Stop}
 use Rattle.sch_stops.specs.declared.stop.Stop.TheVariants.{WriteFault}
 use Rattle.sch_commands.specs.inner.Counts.{RoseFor}

@@ -5,9 +5,9 @@ use Rattle.doc_tree.specs.Table.{Contents}
 use Rattle.doc_edit_laws.specs.Along.{Edit}
 use Rattle.edit_commands.specs.Touched.{touched_by}
 use Rattle.edit_commands.specs.Commands.{RefusesCommand}
-use Rattle.edit_costs.specs.Dirty.{dirty_units}
-use Rattle.kept_state.specs.Running.{IsFresh, to_run}
-use Rattle.kept_state.specs.Steps.{Marks}
+use Rattle.edit_session.specs.Dirty.{dirty_units}
+use Rattle.edit_session.specs.Running.{IsFresh, to_run}
+use Rattle.edit_session.specs.Steps.{Marks}
 use Rattle.edit_session.specs.Standing.{Standing, seen_by}
 use Rattle.name_scopes.specs.Scoping.{InScope}
 use Rattle.undo_entries.specs.declared.entry.Entry.{Entry}

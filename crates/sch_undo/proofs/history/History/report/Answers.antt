@@ -2,8 +2,8 @@
 use Rattle.std.proofs.Common.{◌≤◌, ◌+◌, subst, sym}
 use Rattle.doc_tree.specs.Table.{Contents}
 use Rattle.name_scopes.specs.Scoping.{InScope}
-use Rattle.edit_costs.specs.Costs.{Raised, cost_of}
-use Rattle.kept_state.specs.Running.{GoesOn, IsFresh, to_run}
+use Rattle.edit_session.specs.Costs.{Raised, cost_of}
+use Rattle.edit_session.specs.Running.{GoesOn, IsFresh, to_run}
 use Rattle.edit_session.specs.Standing.{seen_by}
 use Rattle.edit_session.specs.Wrote.{RoseBy, UnlessMemory, WroteState}
 use Rattle.history_laws.specs.Histories.{StandsFor}

@@ -6,8 +6,8 @@ use Rattle.sch_compiled.specs.declared.state_fault.StateFault.{StateFault}
 use Rattle.sch_units.specs.Validity.{finds, first_fault, pair_outcome}
 use Rattle.svrl_out.specs.FaultLine.{fault_line}
 use Rattle.svrl_out.specs.Report.{report}
-use Rattle.edit_session.specs.declared.state.Shown.{Shown}
-use Rattle.edit_session.specs.declared.state.Shown.TheVariants.{Clean, Findings, Fault}
+use Rattle.svrl_out.specs.declared.shown.Shown.{Shown}
+use Rattle.svrl_out.specs.declared.shown.Shown.TheVariants.{Clean, Findings, Fault}
 
 -- the report of a tree by a plan, from the outcome of each node under each active pattern
 abbrev pub report_of : Plan → Table → List ℕ
