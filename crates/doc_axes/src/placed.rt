@@ -34,7 +34,7 @@ pub(crate) struct Seen {
 /// Of the nodes on the axis from a live node that pass the test, the one at the place, counted from 1 in the axis's own order. None where the tree
 /// keeps no list of the axis's nodes.
 ///
-/// Costs a look at each node on the axis, and no memory.
+/// Costs a look at each node on the axis, but for those behind the place that the tree has counted, and no memory.
 pub fn passing_at(
     tree: &Tree,
     axis: Axis,

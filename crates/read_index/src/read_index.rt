@@ -148,7 +148,7 @@ impl ReadIndex {
         add_names(alloc, &mut self.far, unit, names, true)
     }
 
-    /// Takes a unit that has the cell, from the index of cells or from that of names apart, from this index alone.
+    /// Takes a unit that has the cell from the index in which it is found, that of cells or that of names apart, and from no other.
     fn take_cell(&mut self, cell: &Cell) -> Option<u64>
         ensures took { IfSome result (λ unit. (has_read self.old unit (of_cell cell.now) ≡ true) × SameElsewhere unit self.old self.new) }
         ensures none { IfNone result ((u : ℕ) → has_read self.old u (of_cell cell.now) ≡ false) }
@@ -160,7 +160,7 @@ impl ReadIndex {
         }
     }
 
-    /// Takes a unit that has what is filed under a cell, in the index of far axes or in that of the others, from this index alone.
+    /// Takes a unit that has what is filed under a cell from the index of far axes or from that of the others, and from no other.
     fn take_filed(&mut self, far: bool, cell: &Cell) -> Option<u64>
         ensures took { IfSome result (λ unit. (has (filed_part self.old far) unit cell.now ≡ true) × SameElsewhere unit self.old self.new) }
         ensures none { IfNone result ((u : ℕ) → has (filed_part self.old far) u cell.now ≡ false) }
