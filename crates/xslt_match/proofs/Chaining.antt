@@ -1,6 +1,6 @@
 -- Chains step by step, and those of a path whose last node test refuses the node.
-use Rattle.std.proofs.Common.{◌≡◌, ℕ, ◌+◌, ◌<◌, ◌≤◌, Bool, true, false, ◌||◌, List, [], ◌∷◌, ◌++◌, length, drop, get_or, filter, map, refl, sym, ◌∙◌, ap, ap₂, subst, true≢false, Result}
-use Rattle.std.specs.Prelude.{◌==◌, not, slice_get, option_map, Some}
+use Rattle.std.proofs.Common.{◌≡◌, ℕ, ◌+◌, ◌<◌, ◌≤◌, arith, Bool, true, false, ◌||◌, List, [], ◌∷◌, ◌++◌, length, drop, get_or, filter, map, refl, sym, ◌∙◌, ap, ap₂, subst, true≢false, Result}
+use Rattle.std.specs.Prelude.{◌==◌, not, slice_get, option_map, IfSome, Some}
 use Rattle.std.proofs.lemmas.Option.{slice_get-map, slice_get_read}
 use Rattle.std.specs.List.{list_any}
 use Rattle.doc_tree.specs.Lists.{mem}
@@ -22,6 +22,7 @@ use Rattle.xp_values.specs.declared.values.EvalFault.{EvalFault}
 use Rattle.xp_meaning.proofs.Exits.{ran_ticked}
 use Rattle.xp_meaning.specs.Evaluation.{Lets}
 use Rattle.xslt_match.specs.inner.Ends.{ends_elsewhere}
+use Rattle.xslt_match.specs.Kept.{last_step}
 use Rattle.xslt_match.specs.Matching.{leads, reaches, led_to, standing, starts, survivors, chains, path_matches, some_path, matching}
 use Rattle.xslt_match.specs.Names.{pattern_names}
 use Rattle.xslt_match.proofs.Filters.{eqb-turned, or-false, or-left}
@@ -38,6 +39,12 @@ not_true true h = absurd (true≢false (sym h))
 not_true false h = refl
 
 module _ (T : Table) (n : ℕ) where
+  -- a path whose last step's node test refuses the node ends elsewhere
+  pub refused_ends : (ss : List TypedPatternStepTree) → 0 < length ss → IfSome (last_step ss) (λ s. passes T s.axis s.test n ≡ false) → ends_elsewhere T ss n ≡ true
+  refused_ends [] some h = absurd (omega (arith, some))
+  refused_ends (s ∷ []) some h = ap not h
+  refused_ends (s ∷ r ∷ ss) some h = refused_ends (r ∷ ss) (omega arith) h
+
   -- no chain of a path ends at a node that its last node test refuses
   reaches_none : (ss : List TypedPatternStepTree) (ms : List ℕ) → ends_elsewhere T ss n ≡ true → reaches T ss ms n ≡ false
   reaches_none [] ms h = absurd (true≢false (sym h))

@@ -12,3 +12,4 @@ pub mod NameReads
 pub mod Places
 pub mod OnePath
 pub mod Recording
+pub mod KnownNames

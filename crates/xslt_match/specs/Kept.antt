@@ -5,7 +5,6 @@ use Rattle.doc_tree.specs.Lists.{mem}
 use Rattle.doc_tree.specs.kind.Kind.{Kind}
 use Rattle.doc_tree.specs.Kinds.{is_kind}
 use Rattle.doc_tree.specs.Table.{Contents, Name, Table, kind_of}
-use Rattle.doc_axes.specs.Judging.{IsJudged}
 use Rattle.xp_typed_tree.specs.TypedTree.{TypedPatternStepTree, TypedPathTree}
 use Rattle.xp_outcome.specs.Evaluation.{done, visit}
 use Rattle.xp_outcome.specs.Recorded.{nothing_read}
@@ -17,6 +16,7 @@ use Rattle.xslt_match.specs.declared.kept.KeptStep.{KeptStep}
 use Rattle.xslt_match.specs.declared.kept.KeptSteps.{KeptSteps}
 use Rattle.xslt_match.specs.declared.kept.KnownPath.{KnownPath}
 use Rattle.xslt_match.specs.inner.Named.{all_named}
+use Rattle.xslt_match.specs.KnownTests.{IsKnownTest}
 use Rattle.xslt_match.specs.Matching.{is_left, matching, step_of}
 
 -- the step of a pattern, by the number of its path pattern and its number there
@@ -44,7 +44,7 @@ last_step (s ∷ r ∷ ss) = last_step (r ∷ ss)
 -- what is known of a path pattern is so: what the node test at which it ends says of names, and whether each of its steps looks at the
 -- names of elements, and at one place
 pub record IsKnown (names : List Name) (p : TypedPathTree) (known : KnownPath) : Type 0 where
-  pub judged : IfSome (last_step p.steps) (λ s. IsJudged names s.test known.judged)
+  pub test : IfSome (last_step p.steps) (λ s. IsKnownTest names s.test known.test)
   pub named : known.named ≡ all_named p.steps
 
 -- and so is what is known of each of some path patterns, by their numbers

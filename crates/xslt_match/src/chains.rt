@@ -17,7 +17,7 @@ use crate::leading::{led_to, starts, way_to};
 use crate::matching::Matcher;
 use crate::one_chain::{all_from_parents, has_chain, is_start};
 use crate::testing::{PlacedStep, is_among};
-use doc_axes::{passes, passes_by};
+use doc_axes::passes;
 use doc_tree::NodeId;
 use std::sync::ledger::Ledger;
 use xp_eval::Caller;
@@ -98,7 +98,7 @@ impl Matcher<'_> {
         let tree = self.evaluator.caller.tree;
         let step = &last.step;
         match kept.paths.get_mut(at.number) {
-            Some(known) => passes_by(tree, self.node, step.axis, &step.test, &mut known.judged),
+            Some(known) => known.test.passes(tree, self.node, step.axis, &step.test),
             None => passes(tree, self.node, step.axis, &step.test),
         }
     }

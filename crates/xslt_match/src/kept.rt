@@ -3,19 +3,20 @@
 ghost use Rattle.std.specs.Prelude.{◌≡◌, ℕ, ◌+◌, ◌<◌, List, None, Some, true, false, OnOk, OnErr, IfSome};
 ghost use Rattle.std.specs.Option.{option_copied};
 ghost use Rattle.doc_tree.specs.Table.{Contents};
+ghost use Rattle.doc_axes.specs.NodeTests.{passes};
 ghost use Rattle.xp_typed_tree.specs.TypedTree.{TypedPathTree};
 ghost use Rattle.xp_typed_tree.specs.TypedView.{path_seen};
 ghost use Rattle.xp_outcome.specs.Evaluation.{done, visit};
 ghost use Rattle.xp_meaning.specs.Evaluation.{Lets};
 ghost use Rattle.xslt_match.specs.inner.Keeping.{IsPathIn};
 ghost use Rattle.xslt_match.specs.inner.Named.{all_named};
-ghost use Rattle.xslt_match.specs.Kept.{IsKeptFor, IsOutcomeAt};
+ghost use Rattle.xslt_match.specs.Kept.{IsKeptFor, IsOutcomeAt, last_step};
 ghost use Rattle.xslt_match.specs.Matching.{matching};
 
 use crate::chains::PlacedPath;
+use crate::known_test::KnownTest;
 use crate::names::all_named;
 use crate::nodes::NodeIndex;
-use doc_axes::Judged;
 use doc_tree::{Kind, NodeId, Tree};
 use indexmap::IndexMap;
 use std::alloc::{AllocError, Global};
@@ -51,8 +52,8 @@ pub(crate) struct KeptStep {
 /// What is known of a path of a pattern.
 #[derive(Clone, Copy)]
 pub(crate) struct KnownPath {
-    /// What the node test at which it ends says of names.
-    pub(crate) judged: Judged,
+    /// What is known of the node test at which it ends.
+    pub(crate) test: KnownTest,
     /// Whether each of its steps looks at the names of elements, and at one place.
     pub(crate) named: bool,
 }
@@ -88,7 +89,7 @@ impl KeptSteps {
         while self.paths.len() < paths.len() {
             let path = &paths[self.paths.len()];
             self.paths.push(KnownPath {
-                judged: Judged::nothing(),
+                test: KnownTest::nothing(),
                 named: all_named(&path.steps),
             })?;
         }
@@ -103,6 +104,19 @@ impl KeptSteps {
         match self.paths.get(at.number) {
             Some(known) => known.named,
             None => all_named(&at.path.steps),
+        }
+    }
+
+    /// Whether it is known that a path of the pattern looks at the names of elements alone, each step at one place, and ends at a test that refuses the
+    /// node's name.
+    pub(crate) fn refuses_name(&self, at: &PlacedPath<'_>, tree: &Tree, n: NodeId) -> bool
+        ensures { (L : Lets) (pattern : List TypedPathTree) → IsKeptFor tree.now L pattern self.now → IsPathIn pattern at.now → result ≡ true →
+            (all_named (path_seen at.now.path.now).steps ≡ true)
+            × IfSome (last_step (path_seen at.now.path.now).steps) (λ s. passes tree.now.nodes s.axis s.test n ≡ false) }
+    {
+        match self.paths.get(at.number) {
+            Some(known) => known.named && known.test.refuses_at(tree, n),
+            None => false,
         }
     }
 

@@ -3,6 +3,7 @@
 
 mod chains;
 mod kept;
+mod known_test;
 mod leading;
 mod matching;
 mod names;

@@ -18,10 +18,10 @@ loop-paths-preserved c = λ C L before.
     record {
       selected = kept.selected;
       paths = known_pushed C.names c.args.pattern.now c.loop-paths.self.paths.items c.push.new.self.items (path_seen path)
-          (record { judged = c.nothing.result; named = c.all_named.result }) c.in_ok-push.ensures.items
+          (record { test = c.nothing.result; named = c.all_named.result }) c.in_ok-push.ensures.items
           (path_there c.args.pattern.now c.paths-paths.result.now end path c.paths-paths.ensures.paths below is)
           (record {
-            judged = if_all (last_step (path_seen path).steps) (λ s. c.nothing.ensures C.names s.test);
+            test = if_all (last_step (path_seen path).steps) (λ s. c.nothing.ensures C.names s.test);
             named = c.all_named.ensures ∙ ap (λ ss. all_named (map pattern_step_seen ss)) c.deref.ensures.value;
           }) kept.paths;
       kind = kept.kind;

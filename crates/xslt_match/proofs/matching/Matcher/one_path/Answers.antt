@@ -11,6 +11,9 @@ use Rattle.xslt_match.proofs.NameReads.{read_err, read_ok}
 use Rattle.xslt_match.proofs.Recording.{holds_ran}
 use Rattle.xslt_match.proofs.matching.Matcher.one_path.Goals as goal
 
+pub returns-then-refuses_by_name-clause-ran : goal.returns-then-refuses_by_name-clause-ran
+returns-then-refuses_by_name-clause-ran g c = c.refuses_by_name.ensures c.if-refuses_by_name.true _ _ c.requires.named
+
 pub returns-then-looks_elsewhere-clause-ran : goal.returns-then-looks_elsewhere-clause-ran
 returns-then-looks_elsewhere-clause-ran g c = ran_alike (c.looks_elsewhere.ensures.elsewhere c.if-looks_elsewhere.true) (ran_done _ _ _)
 

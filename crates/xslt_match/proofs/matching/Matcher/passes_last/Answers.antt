@@ -2,17 +2,17 @@
 use Rattle.std.proofs.Common.{refl, subst, sym}
 use Rattle.std.specs.Prelude.{IfSome}
 use Rattle.std.proofs.lemmas.Option.{slice_get_read}
-use Rattle.doc_axes.specs.Judging.{IsJudged}
 use Rattle.xp_typed_tree.specs.TypedView.{path_seen}
 use Rattle.xslt_match.specs.Kept.{IsKnown}
+use Rattle.xslt_match.specs.KnownTests.{IsKnownTest}
 use Rattle.xslt_match.proofs.Keeping.{known_replaced}
 use Rattle.xslt_match.proofs.matching.Matcher.passes_last.Goals as goal
 
-pub passes_by-requires-clause-judged : goal.passes_by-requires-clause-judged
-passes_by-requires-clause-judged c =
-    subst (λ o. IfSome o (λ s. IsJudged c.args.self.now.evaluator.caller.tree.now.names s.test c.in-Some.known.now.judged)) c.requires.last
+pub passes-requires-clause-known : goal.passes-requires-clause-known
+passes-requires-clause-known c =
+    subst (λ o. IfSome o (λ s. IsKnownTest c.args.self.now.evaluator.caller.tree.now.names s.test c.in-Some.known.now.test)) c.requires.last
     (c.requires.kept.paths c.args.at.now.number (path_seen c.args.at.now.path.now) c.in-Some.known.now c.requires.placed.there
-    (slice_get_read c.args.kept.now.paths.items _ c.args.at.now.number c.in-Some.known.now refl c.in-Some.ensures.item.3.0 c.in-Some.ensures.value)).judged
+    (slice_get_read c.args.kept.now.paths.items _ c.args.at.now.number c.in-Some.known.now refl c.in-Some.ensures.item.3.0 c.in-Some.ensures.value)).test
 
 pub returns-in-Some-clause-kept : goal.returns-in-Some-clause-kept
 returns-in-Some-clause-kept c =
@@ -24,9 +24,9 @@ returns-in-Some-clause-kept c =
     record {
       selected = c.requires.kept.selected;
       paths = known_replaced m.evaluator.caller.tree.now.names m.pattern.now c.args.kept.now.paths.items _ c.args.at.now.number p
-          (record { judged = c.passes_by.new.judged; named = c.in-Some.known.now.named }) c.requires.placed.there refl
+          (record { test = c.passes.new.self; named = c.in-Some.known.now.named }) c.requires.placed.there refl
           (record {
-            judged = subst (λ o. IfSome o (λ s. IsJudged m.evaluator.caller.tree.now.names s.test c.passes_by.new.judged)) (sym c.requires.last) c.passes_by.ensures.judged;
+            test = subst (λ o. IfSome o (λ s. IsKnownTest m.evaluator.caller.tree.now.names s.test c.passes.new.self)) (sym c.requires.last) c.passes.ensures.known;
             named = before.named;
           }) c.requires.kept.paths;
       kind = c.requires.kept.kind;
