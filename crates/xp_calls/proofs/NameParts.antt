@@ -1,11 +1,10 @@
 -- A part of the name of a node, which was read.
-use Rattle.std.proofs.Common.{◌≡◌, ℕ, Option, Result, Ok, ◌∙◌, ap, refl, subst}
+use Rattle.std.proofs.Common.{◌≡◌, ℕ, Option, Result, Ok, refl, subst}
 use Rattle.doc_tree.specs.Table.{Name, Table}
 use Rattle.xp_outcome.specs.Recorded.{Recorded, note_all}
-use Rattle.xp_outcome.specs.Running.{Ran, no_memory}
-use Rattle.xp_outcome.proofs.Runs.{ran_all_reading, ran_late, ran_moved}
+use Rattle.xp_outcome.specs.Running.{Ran}
+use Rattle.xp_outcome.proofs.Runs.{ran_all_reading, ran_moved}
 use Rattle.xp_values.specs.Outcomes.{Gives}
-use Rattle.xp_values.specs.declared.values.EvalFault.{EvalFault}
 use Rattle.xp_values.specs.declared.values.EvalError.{EvalError}
 use Rattle.xp_values.specs.declared.values.Value.{Value}
 use Rattle.xp_meaning.proofs.Exits.{ran_given}

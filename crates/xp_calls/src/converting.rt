@@ -18,6 +18,7 @@ ghost use Rattle.xp_meaning.specs.Reads.{taking};
 ghost use Rattle.xp_outcome.specs.Evaluation.{Evaluation, done};
 
 use crate::caller::Caller;
+use crate::comparisons::compare_values;
 use crate::reading::take_texts;
 use doc_tree::{NodeId, Tree};
 use sch_base::Text;
@@ -166,7 +167,7 @@ impl Caller<'_> {
         ensures { Ran (compare_in self.now.tree.now.nodes operator left.now right.now) (shown result) reads.old reads.new steps.old steps.new }
     {
         match take_compared(self.tree, left, right, reads, steps) {
-            Ok(()) => xp_values::compare(self.alloc, self.tree, operator, left, right),
+            Ok(()) => compare_values(self.alloc, self.tree, operator, left, right),
             Err(_) => Err(EvalError::Memory),
         }
     }

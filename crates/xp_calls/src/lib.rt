@@ -6,6 +6,7 @@
 mod applying;
 mod arguments;
 mod caller;
+mod comparisons;
 mod converting;
 mod joining;
 mod language;

@@ -16,7 +16,7 @@ use std::sync::ledger::Ledger;
 use xp_outcome::{Recorder, Steps};
 
 /// Whether the node is of a kind that has kids: the root or an element.
-fn holds_kids(tree: &Tree, n: NodeId) -> bool
+pub(crate) fn holds_kids(tree: &Tree, n: NodeId) -> bool
     ensures { result ≡ holds_kids (kind_of tree.now.nodes n) }
 {
     matches!(tree.kind_of(n), Some(Kind::Root | Kind::Element))

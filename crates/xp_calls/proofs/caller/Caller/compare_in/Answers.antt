@@ -10,4 +10,4 @@ returns-in-Err g c = (taken_err _ _ _ _ refl _ c.in-Err.ensures)
 
 pub returns-in-Ok : goal.returns-in-Ok
 unfolding compare_in
-returns-in-Ok g c = taken_ok _ _ _ _ refl c.in-Ok.ensures (ran_given _ _ _ _ c.compare.ensures)
+returns-in-Ok g c = taken_ok _ _ _ _ refl c.in-Ok.ensures (ran_given _ _ _ _ c.compare_values.ensures)
