@@ -85,6 +85,14 @@ module _ (T : Table) (L : Lets) (xs : List TypedStep) (i current : ℕ) (ns : Li
   pub path-end : length xs ≤ i → path T (steps_meant T L (typed_steps_seen (drop i xs))) current ns ≡ done ns
   path-end past = ap (λ ys. path T (steps_meant T L (typed_steps_seen ys)) current ns) (no_item xs i past)
 
+-- a path of one step
+pub path-alone : (T : Table) (L : Lets) (xs : List TypedStep) (current : ℕ) (ns : List ℕ) (x : TypedStep) → xs ≡ x ∷ [] →
+    path T (steps_meant T L (typed_steps_seen xs)) current ns ≡ step_from T (step_meant T L x) current ns
+path-alone T L xs current ns x all =
+    ap (λ ys. path T (steps_meant T L (typed_steps_seen ys)) current ns) all
+    ∙ ap (λ r. path T (steps_meant T L r) current ns) (of-step x (typed_steps_seen []))
+    ∙ bind-right (step_from T (step_meant T L x) current ns)
+
 -- a step without predicates
 pub plain_meant : (T : Table) (L : Lets) (s : TypedStep) (current : ℕ) (ns : List ℕ) → (out-TypedStep s).predicates.items ≡ [] →
     step_from T (step_meant T L s) current ns ≡ plain_step_from T s ns

@@ -24,13 +24,14 @@ use Rattle.xp_typed_tree.specs.declared.expr.TypedStart.{TypedStart}
 use Rattle.xp_typed_tree.specs.declared.expr.TypedStart.TheVariants as starts
 use Rattle.xp_typed_tree.specs.declared.expr.TypedStep.{TypedStep, out-TypedStep}
 use Rattle.xp_typed_tree.specs.TypedView.{typed_tree_of, typed_seen, typed_steps_seen, compared_list_seen}
-use Rattle.xp_typed_tree.proofs.TypedViewLemmas.{of-compared, of-step}
+use Rattle.xp_typed_tree.proofs.TypedViewLemmas.{of-compared}
 use Rattle.xp_meaning.specs.declared.context.Context.{Context}
 use Rattle.xp_meaning.specs.Conversions.{compare_in}
 use Rattle.xp_meaning.specs.Paths.{candidates, step_from, path}
 use Rattle.xp_meaning.specs.Evaluation.{Lets, meaning, meanings, steps_meant, compared, comparands_meant}
 use Rattle.xp_eval.specs.Steps.{step_meant}
 use Rattle.xp_eval.specs.inner.OwnNode.{own_step, own_compared}
+use Rattle.xp_eval.proofs.Loops.{path-alone}
 use Rattle.xp_eval.proofs.OneNode.{from_one}
 use Rattle.xp_eval.proofs.Views.{view-Path, view-Here, literal_bound}
 
@@ -66,9 +67,7 @@ module _ (T : Table) (L : Lets) where
     pub own_path : (current : ℕ) (s : TypedStep) (ss : List TypedStep) → ss ≡ s ∷ [] → step_meant T L s ≡ own_step →
         path T (steps_meant T L (typed_steps_seen ss)) current (n ∷ []) ≡ visits 2 (done (n ∷ []))
     own_path current s ss all own =
-        ap (λ ss. path T (steps_meant T L (typed_steps_seen ss)) current (n ∷ [])) all
-        ∙ ap (λ r. path T (steps_meant T L r) current (n ∷ [])) (of-step s (typed_steps_seen []))
-        ∙ bind-right (step_from T (step_meant T L s) current (n ∷ []))
+        path-alone T L ss current (n ∷ []) s all
         ∙ ap (λ t. step_from T t current (n ∷ [])) own
         ∙ own_selected current
 

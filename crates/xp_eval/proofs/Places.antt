@@ -21,8 +21,7 @@ use Rattle.xp_typed_tree.specs.TypedView.{typed_seen, typed_tree_of}
 use Rattle.xp_values.specs.declared.values.Value.TheVariants.{Number}
 use Rattle.xp_values.specs.declared.numbers.Num.TheVariants.{Whole}
 use Rattle.xp_meaning.specs.declared.context.Context.{Context}
-use Rattle.xp_meaning.specs.Evaluation.{Lets, meaning, meanings, values}
-use Rattle.xp_meaning.specs.Functions.{applied}
+use Rattle.xp_meaning.specs.Evaluation.{Lets, meaning, meanings}
 use Rattle.doc_tree.specs.Table.{Table}
 use Rattle.doc_axes.specs.Axes.{axis_nodes}
 use Rattle.doc_axes.specs.Places.{IsPlaced, node_at}
@@ -32,8 +31,7 @@ use Rattle.xp_eval.specs.declared.positions.Asked.{Asked}
 use Rattle.xp_eval.specs.inner.Candidates.{candidates_of, found}
 use Rattle.xp_eval.specs.inner.Places.{IsAskedAt, at_place, place_for}
 use Rattle.xp_eval.specs.Steps.{step_meant}
-use Rattle.xp_eval.specs.inner.Wants.{wanted_by}
-use Rattle.xp_eval.proofs.Views.{view-Call, view-Number}
+use Rattle.xp_eval.proofs.Views.{view-bare-Call, view-Number}
 
 -- visits, and then an answer, or want of memory
 pub counted-ends : {m : Evaluation EvalFault (List ℕ)} {ns found : List ℕ} {before after : ℕ} (k : ℕ) (held : Recorded) → m ≡ visits k (done ns) → found ≡ ns → after ≡ before + k →
@@ -143,11 +141,7 @@ number-asks e v place is whole = λ T L c. view-Number T L e c v is ∙ ap (λ (
 -- and `last()`
 pub last-asks : (e : TypedExpr) (f : Function) (v : Vec TypedExpr Global) (es : List TypedExpr) → e ≡ exprs.Call f v → es ≡ v.items → f ≡ Last → es ≡ [] →
     (T : Table) (L : Lets) (c : Context) → meaning T L (typed_tree_of e) c ≡ visit (done (counted c.size))
-last-asks e f v es is all last none = λ T L c.
-    view-Call T L e c f v es is all
-    ∙ ap (λ (g : Function). visit (bind (values T (wanted_by (Some g)) (meanings T L (typed_seen es)) c) (λ vs. applied T g c vs))) last
-    ∙ ap (λ (xs : List TypedExpr). visit (bind (values T (wanted_by (Some Last)) (meanings T L (typed_seen xs)) c) (λ vs. applied T Last c vs))) none
-    ∙ ap visit (bind-done [] (λ vs. applied T Last c vs))
+last-asks e f v es is all last none = λ T L c. view-bare-Call T L e c f Last v es is all last none
 
 -- the candidate at the place for which a step's first predicate asks
 pub asked-at : (T : Table) (s : TypedStep) (n : ℕ) (first : TypedExpr) (rest : List TypedExpr) (asked : Asked) (place : ℕ) (placed : Placed) →

@@ -126,6 +126,15 @@ module _ (T : Table) (L : Lets) (e : TypedExpr) (c : Context) where
       ap (λ t. meaning T L t c) (ap typed_tree_of is ∙ of-Call f v)
       ∙ ap (λ xs. visit (bind (values T (wanted_by (Some f)) (meanings T L (typed_seen xs)) c) (λ vs. applied T f c vs))) (sym all)
 
+  -- a call without arguments is one visit
+  pub view-bare-Call : (f g : Function) (v : Vec TypedExpr Global) (es : List TypedExpr) → e ≡ exprs.Call f v → es ≡ v.items → f ≡ g → es ≡ [] →
+      meaning T L (typed_tree_of e) c ≡ visit (applied T g c [])
+  view-bare-Call f g v es is all same none =
+      view-Call f v es is all
+      ∙ ap (λ (h : Function). visit (bind (values T (wanted_by (Some h)) (meanings T L (typed_seen es)) c) (λ vs. applied T h c vs))) same
+      ∙ ap (λ (xs : List TypedExpr). visit (bind (values T (wanted_by (Some g)) (meanings T L (typed_seen xs)) c) (λ vs. applied T g c vs))) none
+      ∙ ap visit (bind-done [] (λ vs. applied T g c vs))
+
 module _ (T : Table) (L : Lets) (s : TypedStart) (c : Context) where
   pub view-Root : s ≡ starts.Root → start_nodes T L (place_of s) c ≡ done (0 ∷ [])
   view-Root is = ap (λ p. start_nodes T L p c) (ap place_of is ∙ of-Root)
@@ -137,6 +146,15 @@ module _ (T : Table) (L : Lets) (s : TypedStart) (c : Context) where
       start_nodes T L (place_of s) c ≡ bind (meaning T L (typed_tree_of base) c) (λ v. done (nodes_of v))
   view-From b base is same =
       ap (λ p. start_nodes T L p c) (ap place_of is ∙ of-From b) ∙ ap (λ x. bind (meaning T L (typed_tree_of x) c) (λ v. done (nodes_of v))) (sym same)
+
+  -- the rule's node, after a visit
+  pub view-current : (b : Box TypedExpr Global) (base : TypedExpr) → s ≡ starts.From b → base ≡ b.value →
+      meaning T L (typed_tree_of base) c ≡ visit (done (NodeSet (c.current ∷ []))) → start_nodes T L (place_of s) c ≡ visit (done (c.current ∷ []))
+  view-current b base is same current =
+      view-From b base is same
+      ∙ ap (λ m. bind m (λ v. done (nodes_of v))) current
+      ∙ bind-visit (done (NodeSet (c.current ∷ []))) (λ v. done (nodes_of v))
+      ∙ ap visit (bind-done (NodeSet (c.current ∷ [])) (λ v. done (nodes_of v)))
 
 -- a slot that is set gives what it holds
 pub slot_given : (r : Result Value EvalFault) → slot_value (Some r) ≡ given r

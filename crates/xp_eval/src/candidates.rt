@@ -1,6 +1,7 @@
 //! The candidates of steps: the nodes on an axis that pass a test (XPath 1.0, sections 2.2 and 2.3).
 
 ghost use Rattle.std.specs.Prelude.{◌≡◌, [], ◌++◌, if◌then◌else◌, true, length, Ok, IfOk, OnOk};
+ghost use Rattle.doc_tree.specs.declared.axes.Axis.TheVariants as axes;
 ghost use Rattle.doc_axes.specs.Axes.{axis_nodes, backwards, is_reverse};
 ghost use Rattle.xp_typed_tree.specs.declared.expr.TypedStep.{out-TypedStep};
 ghost use Rattle.xp_outcome.specs.Running.{Ran};
@@ -11,7 +12,7 @@ ghost use Rattle.xp_eval.specs.inner.Candidates.{found, candidates_of, plain_ste
 
 use crate::answers::allocated;
 use crate::evaluator::Evaluator;
-use doc_axes::{into_document_order, push_passing};
+use doc_axes::{axes_by_cells, into_document_order, push_passing};
 use doc_tree::{Axis, NodeId, NodeList, Tree};
 use std::alloc::{AllocError, Global};
 use std::sync::ledger::Ledger;
@@ -39,7 +40,8 @@ impl Evaluator<'_> {
         in_document_order(self.caller.alloc, self.caller.tree, selected)
     }
 
-    /// The nodes on the axis from a node that pass the test, in the axis's own order.
+    /// The nodes on the axis from a node that pass the test, in the axis's own order. Attributes are not looked for where
+    /// there are none.
     pub(crate) fn candidates<L: Ledger>(
         &self,
         step: &TypedStep,
@@ -49,6 +51,10 @@ impl Evaluator<'_> {
     ) -> Result<NodeList, EvalError>
         ensures { Ran (candidates_of self.now.caller.tree.now.nodes step.now n) (shown result) reads.old reads.new steps.old steps.new }
     {
+        if has_no_attributes(self.caller.tree, step.axis, n) {
+            self.look_over(step, n, 0, reads, steps)?;
+            return Ok(NodeList::new(self.caller.alloc));
+        }
         let mut list = NodeList::new(self.caller.alloc);
         self.push_candidates(step, n, &mut list, reads, steps)?;
         Ok(list)
@@ -110,6 +116,22 @@ fn push_found(
     } else {
         Ok(0)
     }
+}
+
+/// Whether the axis is that of attributes, and the node has none.
+fn has_no_attributes(tree: &Tree, axis: Axis, n: NodeId) -> bool
+    ensures { result ≡ true → axis_nodes tree.now.nodes axis n ≡ [] }
+{
+    axes_by_cells(tree);
+    tree.laws();
+    is_attribute_axis(axis) && tree.attrs(n).is_empty()
+}
+
+/// Whether the axis holds a node's attributes.
+fn is_attribute_axis(axis: Axis) -> bool
+    ensures { result ≡ true → axis ≡ axes.Attribute }
+{
+    matches!(axis, Axis::Attribute)
 }
 
 /// Whether a step has no predicates.

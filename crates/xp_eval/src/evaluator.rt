@@ -25,9 +25,10 @@ use crate::answers::{
 };
 use crate::candidates::{in_document_order, is_plain, to_document_order};
 use crate::choosing::{joined, lone, lone_slot, size_of, union_of, wanted_by};
+use crate::current::is_current;
 use crate::own_node::own_comparison;
 use crate::positions::{behind_first, keep_at, place_asked, placed_candidate};
-use crate::reached::Reached;
+use crate::reached::{Reached, lone_step};
 use doc_axes::Placed;
 use doc_tree::{NodeId, NodeList};
 use sch_base::ItemList;
@@ -327,7 +328,8 @@ impl Evaluator<'_> {
         Ok(values)
     }
 
-    /// The nodes at which a path begins. No list is made of the root or of the context node.
+    /// The nodes at which a path begins. No list is made of the root, of the context node, or of the node of `current()`,
+    /// whose call is a visit.
     #[cycle(evaluation)]
     fn start_nodes<L: Ledger>(
         &self,
@@ -341,11 +343,18 @@ impl Evaluator<'_> {
         match start {
             TypedStart::Root => Ok(Reached::One(self.caller.tree.root())),
             TypedStart::Here => Ok(Reached::One(at.node)),
-            TypedStart::From(base) => reached_set(self.operand_nodes(base, at, reads, steps)),
+            TypedStart::From(base) => {
+                if is_current(base) {
+                    steps.tick();
+                    return Ok(Reached::One(at.current));
+                }
+                reached_set(self.operand_nodes(base, at, reads, steps))
+            }
         }
     }
 
-    /// The nodes that a path's steps select from those at which it begins, one step after another.
+    /// The nodes that a path's steps select from those at which it begins, one step after another. What the only step selects
+    /// from one node is handed on as it is.
     #[cycle(evaluation)]
     fn path_nodes<L: Ledger>(
         &self,
@@ -357,6 +366,9 @@ impl Evaluator<'_> {
     ) -> Result<NodeList, EvalError>
         ensures { Ran (path self.now.caller.tree.now.nodes (steps_meant self.now.caller.tree.now.nodes self.now.lets.now (typed_steps_seen path_steps.now)) current (nodes_reached begin)) (shown result) reads.old reads.new steps.old steps.new }
     {
+        if let Some(only) = lone_step(path_steps, &begin) {
+            return self.step_from_one(only.step, current, only.n, reads, steps);
+        }
         let mut nodes = begin;
         for step in path_steps {
             let selected = self.step_set(step, current, nodes.as_slice(), reads, steps)?;

@@ -5,6 +5,7 @@ mod answers;
 mod calling;
 mod candidates;
 mod choosing;
+mod current;
 mod evaluator;
 mod let_calls;
 mod own_node;

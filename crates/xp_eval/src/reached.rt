@@ -1,13 +1,15 @@
 //! The nodes that a location path has come to (XPath 1.0, section 2).
 
-ghost use Rattle.std.specs.Prelude.{◌≡◌, Ok};
+ghost use Rattle.std.specs.Prelude.{◌≡◌, [], ◌∷◌, Ok, IfSome};
 ghost use Rattle.xp_values.specs.Outcomes.{Gives};
 ghost use Rattle.xp_eval.specs.inner.Reaching.{nodes_reached};
 
 use crate::answers::allocated;
+use crate::choosing::lone;
 use doc_tree::{NodeId, NodeList};
 use std::alloc::Global;
 use std::slice;
+use xp_typed_tree::TypedStep;
 use xp_values::EvalError;
 
 /// The nodes that a path has come to: the one at which it begins, of which no list is made, or those that an expression or
@@ -37,5 +39,26 @@ impl Reached {
             Reached::One(n) => allocated(NodeList::of_one(alloc, n)),
             Reached::Set(nodes) => Ok(nodes),
         }
+    }
+}
+
+/// A step, and the one node from which it is taken.
+#[derive(Clone, Copy)]
+pub(crate) struct LoneStep<'e> {
+    pub(crate) step: &'e TypedStep,
+    pub(crate) n: NodeId,
+}
+
+/// The step that is alone in a path which begins at one node.
+pub(crate) fn lone_step<'e>(path_steps: &'e [TypedStep], begin: &Reached) -> Option<LoneStep<'e>>
+    ensures step { IfSome result (λ only. path_steps.now ≡ only.step.now ∷ []) }
+    ensures node { IfSome result (λ only. nodes_reached begin.now ≡ only.n ∷ []) }
+{
+    match begin {
+        Reached::One(n) => {
+            let step = lone(path_steps)?;
+            Some(LoneStep { step, n: *n })
+        }
+        Reached::Set(_) => None,
     }
 }

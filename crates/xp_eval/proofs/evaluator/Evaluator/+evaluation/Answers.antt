@@ -18,12 +18,12 @@ use Rattle.xp_meaning.specs.Evaluation.{meaning, meanings}
 use Rattle.xp_eval.specs.Steps.{step_meant}
 use Rattle.xp_eval.specs.inner.Reaching.{nodes_reached}
 use Rattle.xp_eval.specs.inner.Wants.{wanted_by}
-use Rattle.xp_eval.proofs.Loops.{some_true-next, some_true-end, all_true-next, all_true-end, filtered-next, filtered-end, compared-next, compared-end, combined-next, combined-end, path-next, path-end, plain_at, plain_meant, filtered_none}
+use Rattle.xp_eval.proofs.Loops.{some_true-next, some_true-end, all_true-next, all_true-end, filtered-next, filtered-end, compared-next, compared-end, combined-next, combined-end, path-next, path-end, path-alone, plain_at, plain_meant, filtered_none}
 use Rattle.xp_eval.proofs.OneNode.{from_one, turned_in_order}
 use Rattle.xp_eval.proofs.Places.{step-parted}
 use Rattle.xp_eval.proofs.Handing.{ran_as, answered, ran_ok, ran_err, ran_reached}
 use Rattle.xp_eval.proofs.Runs.{onto_goes, onto_stops, chosen_yes, chosen_no, gather_goes, gather_stops, gather_ends, gather_begins, gather_begins_alone, ran_given_fault, ran_given_ok, placed_is}
-use Rattle.xp_eval.proofs.Views.{view-Or, view-And, view-Compare, view-Arith, view-Negate, view-Union, view-Path, view-Filter, view-Variable, view-Literal, literal_bound, view-Number, view-Call, view-Root, view-Here, view-From}
+use Rattle.xp_eval.proofs.Views.{view-Or, view-And, view-Compare, view-Arith, view-Negate, view-Union, view-Path, view-Filter, view-Variable, view-Literal, literal_bound, view-Number, view-Call, view-Root, view-Here, view-From, view-current}
 use Rattle.xp_eval.proofs.evaluator.Evaluator.+evaluation.Goals as goal
 
 pub evaluate-returns-in-Or : goal.evaluate-returns-in-Or
@@ -247,10 +247,24 @@ pub start_nodes-returns-in-Here : goal.start_nodes-returns-in-Here
 start_nodes-returns-in-Here g t c =
     ran_alike (view-Here c.args.self.now.caller.tree.now.nodes c.args.self.now.lets.now c.args.start.now c.args.at.now c.in-Here.is) (ran_done _ _ _)
 
-pub start_nodes-returns-in-From : goal.start_nodes-returns-in-From
-start_nodes-returns-in-From g t c =
-    ran_alike (view-From c.args.self.now.caller.tree.now.nodes c.args.self.now.lets.now c.args.start.now c.args.at.now _ c.deref.result.now c.in-From.is c.deref.ensures)
+pub start_nodes-returns-then-is_current : goal.start_nodes-returns-then-is_current
+start_nodes-returns-then-is_current g t c =
+    let T = c.args.self.now.caller.tree.now.nodes in
+    let L = c.args.self.now.lets.now in
+    ran_alike (view-current T L c.args.start.now c.args.at.now _ c.deref.result.now c.in-From.is c.deref.ensures (c.is_current.ensures c.if-is_current.true T L c.args.at.now))
+    (ran_ticked c.tick.ensures (ran_done _ _ _))
+
+pub start_nodes-returns-else-is_current : goal.start_nodes-returns-else-is_current
+start_nodes-returns-else-is_current g t c =
+    ran_alike (view-From c.args.self.now.caller.tree.now.nodes c.args.self.now.lets.now c.args.start.now c.args.at.now _ c.deref-in-From.result.now c.in-From.is c.deref-in-From.ensures)
     (ran_reached c.operand_nodes.result c.reached_set.ensures c.operand_nodes.ensures)
+
+pub path_nodes-returns-in-Some : goal.path_nodes-returns-in-Some
+path_nodes-returns-in-Some g t c =
+    let T = c.args.self.now.caller.tree.now.nodes in
+    let L = c.args.self.now.lets.now in
+    ran_alike (path-alone T L c.args.path_steps.now c.args.current (nodes_reached c.args.begin) c.in-Some.only.step.now c.in-Some.ensures.step
+    ∙ ap (λ ns. step_from T (step_meant T L c.in-Some.only.step.now) c.args.current ns) c.in-Some.ensures.node) c.step_from_one.ensures
 
 pub path_nodes-returns-in_err-selected : goal.path_nodes-returns-in_err-selected
 path_nodes-returns-in_err-selected g t c =
