@@ -13,3 +13,4 @@ pub mod Places
 pub mod OnePath
 pub mod Recording
 pub mod KnownNames
+pub mod Classes

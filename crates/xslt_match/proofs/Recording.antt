@@ -62,7 +62,7 @@ recorded xs {held} ran = ran.computes.reads ∙ ap (note_all held) (append-nil x
 -- Steps that look at the names of elements
 
 -- on an axis on which names test elements
-elements_alone : (axis : Axis) → is_principal axis (Some kinds.Element) ≡ true → (kind : Option Kind) → is_principal axis kind ≡ is_element kind
+pub elements_alone : (axis : Axis) → is_principal axis (Some kinds.Element) ≡ true → (kind : Option Kind) → is_principal axis kind ≡ is_element kind
 elements_alone Attribute h kind = absurd (cc)
 elements_alone Ancestor h kind = refl
 elements_alone AncestorOrSelf h kind = refl

@@ -1,12 +1,9 @@
 -- What is kept of the steps of a pattern with positional predicates, and what is known of its path patterns.
-use Rattle.std.specs.Prelude.{◌≡◌, ℕ, Bool, false, Result, Ok, Err, Option, None, Some, IfSome, List, [], ◌∷◌, option_and_then, slice_get}
+use Rattle.std.specs.Prelude.{◌≡◌, ℕ, Bool, Result, Ok, Err, Option, None, Some, IfSome, List, [], ◌∷◌, option_and_then, slice_get}
 use Rattle.std.specs.List.{AllByRecursion as Each}
 use Rattle.doc_tree.specs.Lists.{mem}
-use Rattle.doc_tree.specs.kind.Kind.{Kind}
-use Rattle.doc_tree.specs.Kinds.{is_kind}
-use Rattle.doc_tree.specs.Table.{Contents, Name, Table, kind_of}
+use Rattle.doc_tree.specs.Table.{Contents, Name, Table}
 use Rattle.xp_typed_tree.specs.TypedTree.{TypedPatternStepTree, TypedPathTree}
-use Rattle.xp_outcome.specs.Evaluation.{done, visit}
 use Rattle.xp_outcome.specs.Recorded.{nothing_read}
 use Rattle.xp_outcome.specs.Running.{Stop, faulted, Ran}
 use Rattle.xp_values.specs.declared.values.EvalFault.{EvalFault}
@@ -17,7 +14,7 @@ use Rattle.xslt_match.specs.declared.kept.KeptSteps.{KeptSteps}
 use Rattle.xslt_match.specs.declared.kept.KnownPath.{KnownPath}
 use Rattle.xslt_match.specs.inner.Named.{all_named}
 use Rattle.xslt_match.specs.KnownTests.{IsKnownTest}
-use Rattle.xslt_match.specs.Matching.{is_left, matching, step_of}
+use Rattle.xslt_match.specs.Matching.{is_left, step_of}
 
 -- the step of a pattern, by the number of its path pattern and its number there
 abbrev pub numbered_step : List TypedPathTree → ℕ → ℕ → Option TypedPatternStepTree
@@ -51,13 +48,7 @@ pub record IsKnown (names : List Name) (p : TypedPathTree) (known : KnownPath) :
 abbrev pub AreKnown : List Name → List TypedPathTree → List KnownPath → Type 0
 AreKnown names ps paths = (i : ℕ) (p : TypedPathTree) (known : KnownPath) → slice_get ps i ≡ Some p → slice_get paths i ≡ Some known → IsKnown names p known
 
--- at nodes of other kinds a pattern reads nothing, and matches none
-abbrev pub RefusesOthers : Contents → Lets → List TypedPathTree → Kind → Type 0
-RefusesOthers C L ps kind = (n : ℕ) → is_kind kind (kind_of C.nodes n) ≡ false → matching C.nodes L ps n ≡ visit (done false)
-
--- what is kept of the pattern's steps is so, and so is what is known of its path patterns, and of the kind of the nodes at which
--- it looks
+-- what is kept of the pattern's steps is so, and so is what is known of its path patterns
 pub record IsKeptFor (C : Contents) (L : Lets) (ps : List TypedPathTree) (kept : KeptSteps) : Type 0 where
   pub selected : Each (λ e. IsOutcomeAt C.nodes L ps e.0 e.1) kept.steps.entries
   pub paths : AreKnown C.names ps kept.paths.items
-  pub kind : IfSome kept.kind (RefusesOthers C L ps)

@@ -4,4 +4,5 @@ pub mod Positional
 pub mod Matching
 pub mod KnownTests
 pub mod Kept
+pub mod Refusing
 pub mod inner

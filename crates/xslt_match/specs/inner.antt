@@ -3,3 +3,4 @@ pub mod Ends
 pub mod Keeping
 pub mod OneChain
 pub mod Named
+pub mod Refused

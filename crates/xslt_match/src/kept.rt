@@ -1,23 +1,20 @@
 //! What steps with positional predicates selected at nodes, and what is known of paths, kept for the matching of other nodes.
 
-ghost use Rattle.std.specs.Prelude.{◌≡◌, ℕ, ◌+◌, ◌<◌, List, None, Some, true, false, OnOk, OnErr, IfSome};
+ghost use Rattle.std.specs.Prelude.{◌≡◌, ◌<◌, List, None, Some, IfSome};
 ghost use Rattle.std.specs.Option.{option_copied};
 ghost use Rattle.doc_tree.specs.Table.{Contents};
-ghost use Rattle.doc_axes.specs.NodeTests.{passes};
 ghost use Rattle.xp_typed_tree.specs.TypedTree.{TypedPathTree};
 ghost use Rattle.xp_typed_tree.specs.TypedView.{path_seen};
-ghost use Rattle.xp_outcome.specs.Evaluation.{done, visit};
 ghost use Rattle.xp_meaning.specs.Evaluation.{Lets};
 ghost use Rattle.xslt_match.specs.inner.Keeping.{IsPathIn};
 ghost use Rattle.xslt_match.specs.inner.Named.{all_named};
-ghost use Rattle.xslt_match.specs.Kept.{IsKeptFor, IsOutcomeAt, last_step};
+ghost use Rattle.xslt_match.specs.Kept.{IsKeptFor, IsOutcomeAt};
 ghost use Rattle.xslt_match.specs.Matching.{matching};
 
 use crate::chains::PlacedPath;
 use crate::known_test::KnownTest;
 use crate::names::all_named;
 use crate::nodes::NodeIndex;
-use doc_tree::{Kind, NodeId, Tree};
 use indexmap::IndexMap;
 use std::alloc::{AllocError, Global};
 use xp_outcome::Recorder;
@@ -58,15 +55,14 @@ pub(crate) struct KnownPath {
     pub(crate) named: bool,
 }
 
-/// What is kept of the steps of one pattern with positional predicates, what each selected at which node; of its paths, by their numbers, what is
-/// known of each; and where the pattern is of one step that looks at names, the kind of the nodes at which it does.
+/// What is kept of the steps of one pattern with positional predicates, what each selected at which node; and of its paths, by their numbers,
+/// what is known of each.
 ///
 /// It is kept for one tree and one table of lets, as `IsKeptFor` says.
 #[derive(Drop)]
 pub struct KeptSteps {
     steps: IndexMap<StepKey, KeptStep>,
     pub(crate) paths: Vec<KnownPath>,
-    pub(crate) kind: Option<Kind>,
 }
 
 impl KeptSteps {
@@ -77,7 +73,6 @@ impl KeptSteps {
         KeptSteps {
             steps: IndexMap::new(alloc),
             paths: Vec::new(alloc),
-            kind: None,
         }
     }
 
@@ -104,30 +99,6 @@ impl KeptSteps {
         match self.paths.get(at.number) {
             Some(known) => known.named,
             None => all_named(&at.path.steps),
-        }
-    }
-
-    /// Whether it is known that a path of the pattern looks at the names of elements alone, each step at one place, and ends at a test that refuses the
-    /// node's name.
-    pub(crate) fn refuses_name(&self, at: &PlacedPath<'_>, tree: &Tree, n: NodeId) -> bool
-        ensures { (L : Lets) (pattern : List TypedPathTree) → IsKeptFor tree.now L pattern self.now → IsPathIn pattern at.now → result ≡ true →
-            (all_named (path_seen at.now.path.now).steps ≡ true)
-            × IfSome (last_step (path_seen at.now.path.now).steps) (λ s. passes tree.now.nodes s.axis s.test n ≡ false) }
-    {
-        match self.paths.get(at.number) {
-            Some(known) => known.named && known.test.refuses_at(tree, n),
-            None => false,
-        }
-    }
-
-    /// Whether it is known that the pattern looks at nodes of another kind alone.
-    pub(crate) fn refuses(&self, tree: &Tree, n: NodeId) -> bool
-        ensures { (L : Lets) (pattern : List TypedPathTree) → IsKeptFor tree.now L pattern self.now → result ≡ true →
-            matching tree.now.nodes L pattern n ≡ visit (done false) }
-    {
-        match self.kind {
-            Some(kind) => !tree.is_kind(n, kind),
-            None => false,
         }
     }
 

@@ -1,7 +1,7 @@
 //! What is known of the names that a node test accepts, kept while all nodes of a tree are tested (XPath 1.0, section 2.3).
 
-ghost use Rattle.std.specs.Prelude.{◌≡◌, ◌<◌, ◌&&◌, Bool, List, IfSome, false, true};
-ghost use Rattle.doc_tree.specs.Table.{Name, is_live, kind_of, name_of, numbered};
+ghost use Rattle.std.specs.Prelude.{◌≡◌, ◌<◌, ◌&&◌, List, IfSome, true};
+ghost use Rattle.doc_tree.specs.Table.{Name, is_live, kind_of, name_of};
 ghost use Rattle.doc_tree.specs.declared.axes.Axis.{Axis as AnyAxis};
 ghost use Rattle.doc_tree.specs.declared.axes.NodeTest.{NodeTest as AnyTest};
 ghost use Rattle.doc_axes.specs.Judging.{accepts};
@@ -50,16 +50,6 @@ impl KnownTest {
         match self.accepts_at(tree, n) {
             Some(accepted) => is_principal(axis, tree.kind(n)) && accepted,
             None => self.passes_anew(tree, n, axis, test),
-        }
-    }
-
-    /// Whether it is known that the test refuses the node's name.
-    pub(crate) fn refuses_at(&self, tree: &Tree, n: NodeId) -> bool
-        ensures { (node_test : AnyTest) (axis : AnyAxis) → IsKnownTest tree.now.names node_test self.now → result ≡ true → passes tree.now.nodes axis node_test n ≡ false }
-    {
-        match self.accepts_at(tree, n) {
-            Some(accepted) => !accepted,
-            None => false,
         }
     }
 

@@ -10,11 +10,13 @@ mod names;
 mod nodes;
 mod one_chain;
 mod positional;
+mod refusing;
 mod testing;
 
 pub use kept::KeptSteps;
 pub use matching::{matches, matches_with};
 pub use names::NamesUp;
+pub use refusing::{NodeClass, refused_levels};
 pub use xp_eval::{Caller, Evaluator};
 pub use xp_meaning::Lets;
 pub use xp_outcome::{Recorder, Steps};

@@ -1,9 +1,8 @@
 //! The matching of nodes against match patterns (XSLT 1.0, section 5.2).
 
-ghost use Rattle.std.specs.Prelude.{◌≡◌, ℕ, ◌∷◌, [], true, false, Ok, OnOk};
+ghost use Rattle.std.specs.Prelude.{◌≡◌, ◌∷◌, [], true, false, Ok, OnOk};
 ghost use Rattle.doc_tree.specs.Table.{is_live};
-ghost use Rattle.xp_outcome.specs.Evaluation.{all_reading, done};
-ghost use Rattle.xp_outcome.specs.Recorded.{Recorded};
+ghost use Rattle.xp_outcome.specs.Evaluation.{all_reading};
 ghost use Rattle.xp_outcome.specs.Running.{Ran};
 ghost use Rattle.xp_meaning.specs.Results.{shown};
 ghost use Rattle.xp_typed_tree.specs.TypedView.{path_seen};
@@ -15,11 +14,10 @@ ghost use Rattle.xslt_match.specs.Names.{HoldsNames, pattern_names, step_names};
 use crate::chains::PlacedPath;
 use crate::kept::KeptSteps;
 use crate::names::{NamesUp, read_names_up};
-use doc_axes::principal_kind;
 use doc_tree::{NodeId, Tree};
 use std::alloc::Global;
 use std::sync::ledger::Ledger;
-use xp_eval::{Caller, Evaluator, is_by_name};
+use xp_eval::{Caller, Evaluator};
 use xp_meaning::Lets;
 use xp_outcome::{Recorder, Steps};
 use xp_typed_tree::TypedPattern;
@@ -82,9 +80,6 @@ pub fn matches_with<L: Ledger>(
 {
     steps.tick();
     let node = at.node;
-    if kept.refuses(evaluator.caller.tree, node) {
-        return Ok(false);
-    }
     kept.reach(pattern)?;
     let matcher = Matcher {
         evaluator: *evaluator,
@@ -148,49 +143,10 @@ impl Matcher<'_> {
         ensures kept { IsKeptFor self.now.evaluator.caller.tree.now self.now.evaluator.lets.now self.now.pattern.now kept.new }
         ensures named { OnOk result (HoldsNames self.now.evaluator.caller.tree.now.nodes self.now.node levels.new reads.new) }
     {
-        if self.refuses_by_name(at, kept, *levels) {
-            return Ok(false);
-        }
-        if self.looks_elsewhere(at, kept) {
-            return Ok(false);
-        }
         let tree = self.evaluator.caller.tree;
         let named = kept.all_named(at);
         read_names_up(tree, &at.path.steps, named, self.node, levels, reads)?;
         self.path_matches(at, kept, reads, steps)
-    }
-
-    /// Whether it is known that a path's last test refuses the node's name, where the names that its steps look at are recorded already, as those of so many
-    /// nodes from the one upwards are: then it reads nothing more and doesn't match. Most elements are refused so, by one comparison of numbers.
-    fn refuses_by_name(&self, at: &PlacedPath<'_>, kept: &KeptSteps, levels: usize) -> bool
-        requires placed { IsPathIn self.now.pattern.now at.now }
-        requires kept { IsKeptFor self.now.evaluator.caller.tree.now self.now.evaluator.lets.now self.now.pattern.now kept.now }
-        ensures { result ≡ true → (held : Recorded) (count : ℕ) → HoldsNames self.now.evaluator.caller.tree.now.nodes self.now.node levels held →
-            Ran (all_reading (step_names self.now.evaluator.caller.tree.now.nodes self.now.node (path_seen at.now.path.now).steps)
-            (path_matches self.now.evaluator.caller.tree.now.nodes self.now.evaluator.lets.now self.now.node (path_seen at.now.path.now)))
-            (Ok false) held held count count }
-    {
-        let count = at.path.steps.len();
-        0 < count && count <= levels && kept.refuses_name(at, self.evaluator.caller.tree, self.node)
-    }
-
-    /// Whether the pattern's only path is one step that looks at names, and these of nodes of another kind: then it reads nothing and matches none. The
-    /// kind is kept, so that the next node of another kind is refused by one look.
-    fn looks_elsewhere(&self, at: &PlacedPath<'_>, kept: &mut KeptSteps) -> bool
-        requires only { self.now.pattern.now ≡ path_seen at.now.path.now ∷ [] }
-        requires kept { IsKeptFor self.now.evaluator.caller.tree.now self.now.evaluator.lets.now self.now.pattern.now kept.old }
-        ensures elsewhere { result ≡ true → all_reading (step_names self.now.evaluator.caller.tree.now.nodes self.now.node (path_seen at.now.path.now).steps)
-            (path_matches self.now.evaluator.caller.tree.now.nodes self.now.evaluator.lets.now self.now.node (path_seen at.now.path.now)) ≡ done false }
-        ensures kept { IsKeptFor self.now.evaluator.caller.tree.now self.now.evaluator.lets.now self.now.pattern.now kept.new }
-    {
-        match at.path.steps.as_slice() {
-            [step] if is_by_name(&step.step.test) => {
-                let kind = principal_kind(step.step.axis);
-                kept.kind = Some(kind);
-                !self.evaluator.caller.tree.is_kind(self.node, kind)
-            }
-            _ => false,
-        }
     }
 
     /// Whether a live node matches some path of the pattern; all are tested.

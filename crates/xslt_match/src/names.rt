@@ -80,6 +80,13 @@ impl NamesUp {
     {
         NamesUp { node, levels: 0 }
     }
+
+    /// Of how many nodes upwards they are recorded.
+    pub fn levels(&self) -> usize
+        ensures { result ≡ self.now.levels }
+    {
+        self.levels
+    }
 }
 
 /// `read_step_names` of steps of which it is known whether each looks at the names of elements, and at one place. It records nothing where these do, and

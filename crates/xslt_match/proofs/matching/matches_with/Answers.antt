@@ -1,5 +1,5 @@
 use Rattle.std.proofs.Common.{◌≡◌, ◌∙◌, [], ◌∷◌, ap, arith, subst, sym}
-use Rattle.xp_outcome.proofs.Runs.{ran_alike, ran_done, ran_late}
+use Rattle.xp_outcome.proofs.Runs.{ran_alike, ran_late}
 use Rattle.xp_meaning.proofs.Exits.{exit_memory, ran_ticked}
 use Rattle.xp_typed_tree.specs.TypedView.{paths_seen}
 use Rattle.xp_typed_tree.specs.WellTyped.{PathsTyped}
@@ -7,10 +7,6 @@ use Rattle.xslt_match.proofs.Chaining.{names_matched, path_there}
 use Rattle.xslt_match.proofs.Recording.{holds_ran}
 use Rattle.xslt_match.proofs.OnePath.{one_item, path_alone}
 use Rattle.xslt_match.proofs.matching.matches_with.Goals as goal
-
-pub returns-then-refuses-clause-ran : goal.returns-then-refuses-clause-ran
-returns-then-refuses-clause-ran g c =
-    ran_alike (c.refuses.ensures c.args.evaluator.now.lets.now c.args.pattern.now c.requires.kept c.if-refuses.true) (ran_ticked c.tick.ensures (ran_done _ _ _))
 
 pub returns-in_err-reach-clause-ran : goal.returns-in_err-reach-clause-ran
 returns-in_err-reach-clause-ran g c = exit_memory _ c.from_residual.ensures.1 (ran_ticked c.tick.ensures (ran_late _ _ _))

@@ -1,5 +1,5 @@
 -- The names of the last steps are recorded first.
-use Rattle.std.proofs.Common.{◌≡◌, ℕ, ◌+◌, ◌-◌, ◌<◌, ◌≤◌, ◌∷◌, [], ◌||◌, Bool, List, Option, Result, drop, get_or, length, map, sym, ap, ap₂, ◌∙◌, arith}
+use Rattle.std.proofs.Common.{◌≡◌, ℕ, ◌-◌, [], ◌||◌, Bool, List, Option, Result, drop, length, map, sym, ap, ap₂, ◌∙◌, arith}
 use Rattle.std.specs.Prelude.{option_and_then}
 use Rattle.doc_tree.specs.Table.{Table, parent_of}
 use Rattle.xp_typed_tree.specs.declared.pattern.TypedPatternStep.{TypedPatternStep}
@@ -7,20 +7,14 @@ use Rattle.xp_typed_tree.specs.TypedView.{pattern_step_seen}
 use Rattle.xp_outcome.specs.Evaluation.{Read, all_reading, done}
 use Rattle.xp_outcome.specs.Recorded.{Recorded}
 use Rattle.xp_outcome.specs.Running.{Ran, Stop, no_memory}
-use Rattle.xp_outcome.proofs.Runs.{next_item, no_item, ran_alike, ran_done}
+use Rattle.xp_outcome.proofs.Runs.{no_item, ran_alike, ran_done}
 use Rattle.xp_values.specs.declared.values.EvalFault.{EvalFault}
 use Rattle.xp_meaning.proofs.Exits.{exit_alloc}
 use Rattle.xslt_ways.specs.Ways.{is_anywhere}
 use Rattle.xslt_match.specs.Names.{ancestor_over, place_names, places_from, some_anywhere, standing_places, step_names}
 use Rattle.xslt_match.proofs.NameReads.{read_err, read_ok, reads-append, steps-end, steps-first, steps-next}
+use Rattle.xslt_match.proofs.OnePath.{item_before}
 use Rattle.xslt_match.proofs.names.read_step_names.Goals as goal
-
--- the step before those that are left, and they
-step_before : (steps : List TypedPatternStep) (left : ℕ) (step : TypedPatternStep) → left ≤ length steps → 0 < left → step ≡ get_or steps (left - 1) step →
-    drop (left - 1) steps ≡ step ∷ drop left steps
-step_before steps left step within some is =
-    let back : left - 1 + 1 ≡ left = omega (arith, some) in
-    next_item steps (left - 1) step (omega (arith, within, some)) is ∙ ap (λ (i : ℕ). step ∷ drop i steps) back
 
 module _ (T : Table) (n : ℕ) (step : TypedPatternStep) (rest : List TypedPatternStep) where
   -- the names that the step looks at
@@ -54,7 +48,7 @@ loop-left-preserved c =
     let at = c.loop-left.invariant in
     let earlier = drop (c.loop-left.left - 1) c.args.path_steps.now in
     let rest = drop c.loop-left.left c.args.path_steps.now in
-    let next = step_before c.args.path_steps.now c.loop-left.left step at.within c.loop-left-test.true c.index-path_steps-left.is in
+    let next = item_before c.args.path_steps.now c.loop-left.left step at.within c.loop-left-test.true c.index-path_steps-left.is in
     record {
       within = omega (arith, at.within);
       node = c.before-at.ensures.node ∙ ap (option_and_then (parent_of T)) at.node ∙ sym (ap (λ ss. ancestor_over T (map pattern_step_seen ss) c.args.n) next);
@@ -72,7 +66,7 @@ returns-in_err-read_names c = λ count.
     let at = c.loop-left.invariant in
     let earlier = drop (c.loop-left.left - 1) c.args.path_steps.now in
     let rest = drop c.loop-left.left c.args.path_steps.now in
-    let next = step_before c.args.path_steps.now c.loop-left.left step at.within c.loop-left-test.true c.index-path_steps-left.is in
+    let next = item_before c.args.path_steps.now c.loop-left.left step at.within c.loop-left-test.true c.index-path_steps-left.is in
     let first = steps-first T c.args.n c.args.path_steps.now (c.loop-left.left - 1) in
     exit_alloc _ c.from_residual.result c.from_residual.ensures.1
     (ran_alike

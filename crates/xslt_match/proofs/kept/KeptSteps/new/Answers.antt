@@ -9,5 +9,4 @@ pub returns : goal.returns
 returns c = λ C L ps. record {
   selected = subst (Each (λ e. IsOutcomeAt C.nodes L ps e.0 e.1)) (sym c.new.ensures.empty) tt;
   paths = none_known C.names ps c.new-2.result.items c.new-2.ensures.items;
-  kind = tt;
 }

@@ -24,7 +24,6 @@ loop-paths-preserved c = λ C L before.
             test = if_all (last_step (path_seen path).steps) (λ s. c.nothing.ensures C.names s.test);
             named = c.all_named.ensures ∙ ap (λ ss. all_named (map pattern_step_seen ss)) c.deref.ensures.value;
           }) kept.paths;
-      kind = kept.kind;
     }
 
 pub returns-in_err-push : goal.returns-in_err-push
@@ -33,5 +32,4 @@ returns-in_err-push c = λ C L before.
     record {
       selected = kept.selected;
       paths = known_still C.names c.args.pattern.now c.loop-paths.self.paths.items c.push.new.self.items c.in_err-push.ensures.items kept.paths;
-      kind = kept.kind;
     }

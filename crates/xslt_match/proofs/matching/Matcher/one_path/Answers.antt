@@ -2,7 +2,7 @@ use Rattle.std.proofs.Common.{◌∙◌, ap, map, sym}
 use Rattle.xp_typed_tree.specs.TypedView.{path_seen, pattern_step_seen}
 use Rattle.xp_outcome.specs.Evaluation.{all_reading}
 use Rattle.xp_outcome.specs.Running.{no_memory}
-use Rattle.xp_outcome.proofs.Runs.{ran_alike, ran_done}
+use Rattle.xp_outcome.proofs.Runs.{ran_alike}
 use Rattle.xp_meaning.proofs.Exits.{exit_memory}
 use Rattle.xslt_match.specs.Matching.{path_matches}
 use Rattle.xslt_match.specs.Names.{step_names}
@@ -10,12 +10,6 @@ use Rattle.xslt_match.specs.inner.Named.{all_named}
 use Rattle.xslt_match.proofs.NameReads.{read_err, read_ok}
 use Rattle.xslt_match.proofs.Recording.{holds_ran}
 use Rattle.xslt_match.proofs.matching.Matcher.one_path.Goals as goal
-
-pub returns-then-refuses_by_name-clause-ran : goal.returns-then-refuses_by_name-clause-ran
-returns-then-refuses_by_name-clause-ran g c = c.refuses_by_name.ensures c.if-refuses_by_name.true _ _ c.requires.named
-
-pub returns-then-looks_elsewhere-clause-ran : goal.returns-then-looks_elsewhere-clause-ran
-returns-then-looks_elsewhere-clause-ran g c = ran_alike (c.looks_elsewhere.ensures.elsewhere c.if-looks_elsewhere.true) (ran_done _ _ _)
 
 pub returns-in_err-read_names_up-clause-ran : goal.returns-in_err-read_names_up-clause-ran
 returns-in_err-read_names_up-clause-ran g c =
@@ -27,7 +21,7 @@ returns-in_err-read_names_up-clause-ran g c =
 
 pub read_names_up-requires-clause-named : goal.read_names_up-requires-clause-named
 read_names_up-requires-clause-named g c =
-    c.all_named-named.ensures c.args.self.now.evaluator.caller.tree.now c.args.self.now.evaluator.lets.now c.args.self.now.pattern.now c.looks_elsewhere.ensures.kept c.requires.placed
+    c.all_named-named.ensures c.args.self.now.evaluator.caller.tree.now c.args.self.now.evaluator.lets.now c.args.self.now.pattern.now c.requires.kept c.requires.placed
     ∙ ap (λ ss. all_named (map pattern_step_seen ss)) (sym c.deref.ensures.value)
 
 pub returns-clause-ran : goal.returns-clause-ran

@@ -29,5 +29,4 @@ returns-in-Some-clause-kept c =
             test = subst (λ o. IfSome o (λ s. IsKnownTest m.evaluator.caller.tree.now.names s.test c.passes.new.self)) (sym c.requires.last) c.passes.ensures.known;
             named = before.named;
           }) c.requires.kept.paths;
-      kind = c.requires.kept.kind;
     }
