@@ -5,3 +5,4 @@ pub mod Texts
 pub mod RuleLets
 pub mod Pairs
 pub mod MatchesKept
+pub mod ClassesKept

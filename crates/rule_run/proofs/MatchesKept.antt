@@ -7,6 +7,7 @@ use Rattle.xp_meaning.specs.Evaluation.{Lets}
 use Rattle.xslt_match.specs.declared.kept.KeptSteps.{KeptSteps}
 use Rattle.xslt_match.specs.Kept.{IsKeptFor}
 use Rattle.sch_compiled.specs.declared.parts.PlanRule.{PlanRule}
+use Rattle.rule_run.specs.KeptMatches.{AreStepsKept}
 
 -- an item of a list with one more at its end
 get_pushed : {X : Type 0} (xs : List X) (x : X) (i : ℕ) (y : X) → slice_get (xs ++ x ∷ []) i ≡ Some y → (slice_get xs i ≡ Some y) ⊎ (x ≡ y)
@@ -24,12 +25,8 @@ get_replaced (z ∷ xs) (suc i) x zero y is = inr is
 get_replaced (z ∷ xs) (suc i) x (suc j) y is = elim (get_replaced xs i x j y is) [ inl h ↦ inl (ap suc h.0, h.1) | inr h ↦ inr h ]
 
 module _ (C : Contents) (L : Lets) (rules : List PlanRule) where
-  -- what is kept of each is kept for its context
-  abbrev pub EachKept : List KeptSteps → Type 0
-  EachKept kept = (r : ℕ) (rule : PlanRule) (steps : KeptSteps) → slice_get rules r ≡ Some rule → slice_get kept r ≡ Some steps → IsKeptFor C L rule.context steps
-
   pub kept_pushed : (kept now : List KeptSteps) (steps : KeptSteps) → now ≡ kept ++ steps ∷ [] → ((D : Contents) (M : Lets) (ps : List TypedPathTree) → IsKeptFor D M ps steps) →
-      EachKept kept → EachKept now
+      AreStepsKept C L rules kept → AreStepsKept C L rules now
   kept_pushed kept now steps is fresh each r rule found there at =
       elim (get_pushed kept steps r found (ap (λ ks. slice_get ks r) (sym is) ∙ at)) [
         | inl before ↦ each r rule found there before
@@ -37,7 +34,7 @@ module _ (C : Contents) (L : Lets) (rules : List PlanRule) where
       ]
 
   pub kept_replaced : (kept now : List KeptSteps) (r : ℕ) (rule : PlanRule) (steps : KeptSteps) → slice_get rules r ≡ Some rule → now ≡ set kept r steps → IsKeptFor C L rule.context steps →
-      EachKept kept → EachKept now
+      AreStepsKept C L rules kept → AreStepsKept C L rules now
   kept_replaced kept now r rule steps stands is here each s other found there at =
       elim (get_replaced kept r steps s found (ap (λ ks. slice_get ks s) (sym is) ∙ at)) [
         | inl h ↦ (
@@ -48,13 +45,13 @@ module _ (C : Contents) (L : Lets) (rules : List PlanRule) where
         | inr before ↦ each s other found there before
       ]
 
--- what is said of a rule that is there
+-- what is said of a rule where it is there
 pub if_rule : (P : PlanRule → Type 0) (o : Option PlanRule) (rule : PlanRule) → o ≡ Some rule → IfSome o P → P rule
 if_rule P o rule is h = subst (λ q. IfSome q P) is h
 
 pub rule_if : (P : PlanRule → Type 0) (o : Option PlanRule) (rule : PlanRule) → o ≡ Some rule → P rule → IfSome o P
 rule_if P o rule is h = subst (λ q. IfSome q P) (sym is) h
 
-pub each_if : (P : PlanRule → Type 0) (o : Option PlanRule) → ((rule : PlanRule) → P rule) → IfSome o P
+pub each_if : (P : PlanRule → Type 0) (o : Option PlanRule) → ((rule : PlanRule) → o ≡ Some rule → P rule) → IfSome o P
 each_if P None each = tt
-each_if P (Some rule) each = each rule
+each_if P (Some rule) each = each rule refl

@@ -1,14 +1,15 @@
 -- The lets of a rule, and its rules, one after another.
-use Rattle.std.proofs.Common.{◌≡◌, ℕ, zero, suc, ◌+◌, ◌<◌, ◌≤◌, List, [], ◌∷◌, Result, Ok, Err, sym, ap, subst, drop, length, get_or, if◌then◌else◌, arith}
-use Rattle.std.specs.Prelude.{Option, Some, slice_get}
+use Rattle.std.proofs.Common.{◌≡◌, ℕ, zero, suc, ◌+◌, ◌-◌, ◌<◌, ◌≤◌, false, List, [], ◌∷◌, Result, Ok, Err, refl, sym, ap, subst, drop, length, get_or, if◌then◌else◌, add-zero, zero-add, arith}
+use Rattle.std.specs.Prelude.{◌==◌, true, Option, Some, slice_get}
 use Rattle.std.specs.Result.{IsErrAnd}
+use Rattle.std.proofs.lemmas.List.{length-drop}
 use Rattle.doc_tree.specs.Table.{Table}
 use Rattle.xp_typed_tree.specs.TypedTree.{TypedTree}
 use Rattle.xp_outcome.specs.Evaluation.{bind, done}
 use Rattle.xp_outcome.specs.Recorded.{Recorded}
 use Rattle.xp_outcome.specs.Running.{Ran}
 use Rattle.xp_outcome.specs.Slots.{with_slot}
-use Rattle.xp_outcome.proofs.Runs.{next_item, no_item}
+use Rattle.xp_outcome.proofs.Runs.{next_item, no_item, ran_bind, ran_done, ran_moved}
 use Rattle.xp_values.specs.declared.values.EvalError.{EvalError}
 use Rattle.xp_meaning.specs.Evaluation.{Lets, meaning}
 use Rattle.xp_meaning.specs.Results.{stop_of}
@@ -17,6 +18,8 @@ use Rattle.sch_compiled.specs.declared.parts.PlanAssert.{PlanAssert}
 use Rattle.sch_compiled.specs.declared.parts.PlanRule.{PlanRule}
 use Rattle.sch_compiled.specs.declared.findings.Outcome.TheVariants.{NoRule, Fired}
 use Rattle.xslt_match.specs.Matching.{matching}
+use Rattle.xslt_match.specs.Names.{HoldsNames}
+use Rattle.xslt_match.specs.Refusing.{Refuses}
 use Rattle.sch_units.specs.Messages.{alone}
 use Rattle.sch_units.specs.Firing.{all_asserted, fired_by, first_rule}
 use Rattle.rule_run.specs.inner.Setting.{SetsLets}
@@ -56,6 +59,36 @@ module _ (T : Table) (count : ℕ) (L : Lets) (n : ℕ) (rules : List PlanRule) 
 
   pub rules-end : length rules ≤ i → first_rule T count L n i (drop i rules) ≡ done NoRule
   rules-end past = ap (first_rule T count L n i) (no_item rules i past)
+
+-- no item is there where their number is 0
+pub none_there : {X : Type 0} (xs : List X) → (length xs == 0) ≡ true → length xs ≤ 0
+none_there [] h = omega arith
+none_there (x ∷ xs) h = absurd (grind arith)
+
+-- an item behind the first of a list
+dropped_there : {X : Type 0} (i : ℕ) (xs : List X) (k : ℕ) (x : X) → slice_get (drop i xs) k ≡ Some x → slice_get xs (i + k) ≡ Some x
+dropped_there zero xs k x is = subst (λ j. slice_get xs j ≡ Some x) (sym (zero-add k)) is
+dropped_there (suc i) [] k x is = absurd (cc)
+dropped_there (suc i) (y ∷ xs) k x is =
+    let next : suc (i + k) ≡ suc i + k = omega arith in subst (λ j. slice_get (y ∷ xs) j ≡ Some x) next (dropped_there i xs k x is)
+
+-- where all rules that are left refuse the node, none fires: that is one visit for each
+module _ (T : Table) (count : ℕ) (L : Lets) (n levels : ℕ) (held : Recorded) (names : HoldsNames T n levels held) where
+  all_refused : (rules : List PlanRule) (i taken : ℕ) → ((k : ℕ) (rule : PlanRule) → slice_get rules k ≡ Some rule → Refuses T L rule.context levels n) →
+      Ran (first_rule T count L n i rules) (Ok NoRule) held held taken (taken + length rules)
+  all_refused [] i taken each = ran_moved refl refl refl (add-zero taken) (ran_done NoRule held taken)
+  all_refused (rule ∷ rules) i taken each =
+      let one_more : taken + suc (length rules) ≡ (taken + 1) + length rules = omega arith in
+      ran_moved refl refl refl one_more
+      (ran_bind (λ matches.
+      if matches then bind (fired_by T L n count rule.subject rule.lets rule.assertions) (λ findings. done (Fired i findings))
+      else first_rule T count L n (i + 1) rules) {v = false} (each zero rule refl held taken names) (all_refused rules (i + 1) (taken + 1) (λ k. each (suc k))))
+
+  pub rules-refused : (rules : List PlanRule) (i taken : ℕ) → ((k : ℕ) (rule : PlanRule) → i ≤ k → slice_get rules k ≡ Some rule → Refuses T L rule.context levels n) →
+      Ran (first_rule T count L n i (drop i rules)) (Ok NoRule) held held taken (taken + (length rules - i))
+  rules-refused rules i taken each =
+      subst (λ k. Ran (first_rule T count L n i (drop i rules)) (Ok NoRule) held held taken (taken + k)) (length-drop i rules)
+      (all_refused (drop i rules) i taken (λ k rule there. each (i + k) rule (omega arith) (dropped_there i rules k rule there)))
 
 -- slots behind those of some lets
 pub next_slot : (count i : ℕ) → (count + i) + 1 ≡ count + (i + 1)

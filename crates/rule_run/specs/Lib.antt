@@ -1,3 +1,4 @@
 pub mod Kept
+pub mod Classes
 pub mod KeptMatches
 pub mod inner

@@ -3,6 +3,7 @@
 #![tactic(auto)]
 
 mod asserting;
+mod classes;
 mod kept;
 mod kept_matches;
 mod letting;

@@ -1,19 +1,24 @@
 //! The rules of a pattern at a node (ISO/IEC 19757-3, clause 6).
 
-ghost use Rattle.std.specs.Prelude.{◌≡◌, ◌<◌, ◌≤◌, ◌+◌, ◌^◌, true, length, IfSome, OnOk, slice_get};
-ghost use Rattle.doc_tree.specs.Table.{is_live};
+ghost use Rattle.std.specs.Prelude.{◌≡◌, ℕ, ◌<◌, ◌≤◌, ◌+◌, ◌^◌, true, length, IfSome, OnOk, Some, slice_get};
+ghost use Rattle.doc_tree.specs.Table.{Contents, is_live};
 ghost use Rattle.xp_outcome.specs.Evaluation.{bind, done};
 ghost use Rattle.xp_outcome.specs.Running.{Ran};
 ghost use Rattle.xp_outcome.specs.Slots.{slots_below};
 ghost use Rattle.xp_meaning.specs.Results.{shown};
 ghost use Rattle.sch_compiled.specs.declared.findings.Outcome.TheVariants as outcomes;
+ghost use Rattle.sch_compiled.specs.declared.parts.PlanRule.{PlanRule as AnyRule};
 ghost use Rattle.xslt_match.specs.Matching.{matching};
+ghost use Rattle.xp_meaning.specs.Evaluation.{Lets as AnyLets};
 ghost use Rattle.xslt_match.specs.Names.{HoldsNames};
+ghost use Rattle.xslt_match.specs.Refusing.{IsOfClass, Refuses};
 ghost use Rattle.sch_units.specs.Firing.{fired_by, first_rule};
+ghost use Rattle.rule_run.specs.Classes.{AreRefused};
 ghost use Rattle.rule_run.specs.KeptMatches.{AreKept};
 ghost use Rattle.rule_run.specs.inner.Counted.{IsRuleCounted, AreRulesCounted};
 ghost use Rattle.rule_run.specs.inner.Setting.{SetsLets};
 
+use crate::classes::ClassRules;
 use crate::kept_matches::KeptMatches;
 use crate::validator::Validator;
 use sch_compiled::{Outcome, PlanLet, PlanRule};
@@ -29,10 +34,37 @@ use xslt_match::{NamesUp, matches_with};
 pub(crate) struct PlacedRule<'r> {
     pub(crate) rules: &'r [PlanRule],
     pub(crate) number: usize,
+    /// Which of the rules refuse all nodes of the class of the node at which they are tried, where that is known.
+    pub(crate) class: &'r Option<ClassRules>,
+}
+
+impl PlacedRule<'_> {
+    /// Whether it is known that the rule refuses the node, of so many nodes from which upwards the names are recorded.
+    fn is_refused(&self, levels: usize) -> bool
+        ensures { result ≡ true → (C : Contents) (L : AnyLets) (n : ℕ) → IfSome self.now.class.now (λ known. IsOfClass C known.class n × AreRefused C self.now.rules.now known) →
+            IfSome (slice_get self.now.rules.now self.now.number) (λ rule. Refuses C.nodes L rule.context levels n) }
+    {
+        match self.class {
+            Some(known) => known.refuses(self.number, levels),
+            None => false,
+        }
+    }
+
+    /// Whether it is known that the rule and all rules after it refuse the node, of so many nodes from which upwards the names are recorded.
+    fn ends_here(&self, levels: usize) -> bool
+        ensures { result ≡ true → (C : Contents) (L : AnyLets) (q : ℕ) (rule : AnyRule) (n : ℕ) → IfSome self.now.class.now (λ known. IsOfClass C known.class n × AreRefused C self.now.rules.now known) →
+            self.now.number ≤ q → slice_get self.now.rules.now q ≡ Some rule → Refuses C.nodes L rule.context levels n }
+    {
+        match self.class {
+            Some(known) => known.refuses_rest(self.number, levels),
+            None => false,
+        }
+    }
 }
 
 impl Validator<'_> {
-    /// The outcome of the first rule that matches the node; the rules after it aren't tried.
+    /// The outcome of the first rule that matches the node; the rules after it aren't tried, nor are those of which it is known that they refuse all nodes of its
+    /// class.
     pub(crate) fn first_rule<L: Ledger>(
         &self,
         rules: &[PlanRule],
@@ -50,9 +82,21 @@ impl Validator<'_> {
         ensures below { slots_below self.now.count lets.new ≡ slots_below self.now.count lets.old }
         ensures kept { AreKept self.now.caller.tree.now lets.old rules.now kept.new }
     {
+        if rules.is_empty() {
+            return Ok(Outcome::NoRule);
+        }
+        let known = kept.class_rules(self.caller.tree, rules, self.node)?;
         let mut names = NamesUp::none(self.node);
         for (r, rule) in rules.iter().enumerate() {
-            let at = PlacedRule { rules, number: r };
+            let at = PlacedRule {
+                rules,
+                number: r,
+                class: &known,
+            };
+            if at.ends_here(names.levels()) {
+                steps.tick_times(rules.len() - r);
+                return Ok(Outcome::NoRule);
+            }
             let matched = self.rule_matches(&at, kept, &mut names, lets, reads, steps)?;
             if matched {
                 return self.fired(r as u32, rule, lets, reads, steps);
@@ -76,6 +120,7 @@ impl Validator<'_> {
         requires there { at.now.number < length at.now.rules.now }
         requires few { length at.now.rules.now < 2 ^ 32 }
         requires kept { AreKept self.now.caller.tree.now lets.now at.now.rules.now kept.old }
+        requires class { IfSome at.now.class.now (λ known. IsOfClass self.now.caller.tree.now known.class self.now.node × AreRefused self.now.caller.tree.now at.now.rules.now known) }
         requires named { HoldsNames self.now.caller.tree.now.nodes names.old.node names.old.levels reads.old }
         ensures ran { IfSome (slice_get at.now.rules.now at.now.number) (λ rule. Ran (matching self.now.caller.tree.now.nodes lets.now rule.context self.now.node)
             (shown result) reads.old reads.new steps.old steps.new) }
@@ -83,6 +128,10 @@ impl Validator<'_> {
         ensures node { names.new.node ≡ self.now.node }
         ensures named { OnOk result (HoldsNames self.now.caller.tree.now.nodes names.new.node names.new.levels reads.new) }
     {
+        if at.is_refused(names.levels()) {
+            steps.tick();
+            return Ok(false);
+        }
         let r = at.number;
         kept.reach(self.caller.alloc, r)?;
         let evaluator = Evaluator {
