@@ -1,7 +1,6 @@
 //! The candidates of steps: the nodes on an axis that pass a test (XPath 1.0, sections 2.2 and 2.3).
 
 ghost use Rattle.std.specs.Prelude.{◌≡◌, [], ◌++◌, if◌then◌else◌, true, length, Ok, IfOk, OnOk};
-ghost use Rattle.doc_tree.specs.declared.axes.Axis.TheVariants as axes;
 ghost use Rattle.doc_axes.specs.Axes.{axis_nodes, backwards, is_reverse};
 ghost use Rattle.xp_typed_tree.specs.declared.expr.TypedStep.{out-TypedStep};
 ghost use Rattle.xp_outcome.specs.Running.{Ran};
@@ -40,8 +39,8 @@ impl Evaluator<'_> {
         in_document_order(self.caller.alloc, self.caller.tree, selected)
     }
 
-    /// The nodes on the axis from a node that pass the test, in the axis's own order. Attributes are not looked for where
-    /// there are none.
+    /// The nodes on the axis from a node that pass the test, in the axis's own order. Nothing is looked for where
+    /// the node has no attributes or no kids.
     pub(crate) fn candidates<L: Ledger>(
         &self,
         step: &TypedStep,
@@ -51,7 +50,7 @@ impl Evaluator<'_> {
     ) -> Result<NodeList, EvalError>
         ensures { Ran (candidates_of self.now.caller.tree.now.nodes step.now n) (shown result) reads.old reads.new steps.old steps.new }
     {
-        if has_no_attributes(self.caller.tree, step.axis, n) {
+        if is_bare(self.caller.tree, step.axis, n) {
             self.look_over(step, n, 0, reads, steps)?;
             return Ok(NodeList::new(self.caller.alloc));
         }
@@ -99,7 +98,7 @@ impl Evaluator<'_> {
 }
 
 /// Puts the nodes on the axis from a node that pass the test at the end of the list, and tells how many nodes the axis
-/// has: none from a number at which no node lives.
+/// has: none from a number at which no node lives. Nothing is looked for where the node has no attributes or no kids.
 fn push_found(
     alloc: Global,
     tree: &Tree,
@@ -110,6 +109,9 @@ fn push_found(
     ensures pushed { OnOk result (list.new ≡ list.old ++ found tree.now.nodes step.now n) }
     ensures counted { IfOk result (λ count. count ≡ length (axis_nodes tree.now.nodes (out-TypedStep step.now).axis n)) }
 {
+    if is_bare(tree, step.axis, n) {
+        return Ok(0);
+    }
     tree.laws();
     if tree.contains(n) {
         push_passing(alloc, tree, step.axis, &step.test, n, list)
@@ -118,20 +120,17 @@ fn push_found(
     }
 }
 
-/// Whether the axis is that of attributes, and the node has none.
-fn has_no_attributes(tree: &Tree, axis: Axis, n: NodeId) -> bool
+/// Whether the axis is that of attributes or of kids, and the node has none. Takes a constant time.
+fn is_bare(tree: &Tree, axis: Axis, n: NodeId) -> bool
     ensures { result ≡ true → axis_nodes tree.now.nodes axis n ≡ [] }
 {
     axes_by_cells(tree);
     tree.laws();
-    is_attribute_axis(axis) && tree.attrs(n).is_empty()
-}
-
-/// Whether the axis holds a node's attributes.
-fn is_attribute_axis(axis: Axis) -> bool
-    ensures { result ≡ true → axis ≡ axes.Attribute }
-{
-    matches!(axis, Axis::Attribute)
+    match axis {
+        Axis::Attribute => tree.attrs(n).is_empty(),
+        Axis::Child => tree.kids(n).is_empty(),
+        _ => false,
+    }
 }
 
 /// Whether a step has no predicates.
