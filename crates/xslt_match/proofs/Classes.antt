@@ -1,5 +1,5 @@
 -- Nodes of one class are refused alike.
-use Rattle.std.proofs.Common.{◌≡◌, ℕ, ◌<◌, ◌≤◌, ◌+◌, arith, Bool, true, false, ◌&&◌, ◌||◌, List, [], ◌∷◌, length, refl, sym, ◌∙◌, ap, ap₂, subst, Some, true≢false}
+use Rattle.std.proofs.Common.{◌≡◌, ℕ, ◌<◌, ◌≤◌, ◌+◌, max, arith, Bool, true, false, ◌&&◌, ◌||◌, List, [], ◌∷◌, length, refl, sym, ◌∙◌, ap, ap₂, subst, Some, true≢false}
 use Rattle.std.specs.Prelude.{IfSome, Ok, not, if◌then◌else◌, map}
 use Rattle.std.proofs.lemmas.Bool.{and_parts}
 use Rattle.doc_tree.specs.kind.Kind.TheVariants as kinds
@@ -13,7 +13,7 @@ use Rattle.doc_axes.specs.NodeTests.{is_comment, is_instruction, is_principal, n
 use Rattle.xp_typed_tree.specs.TypedTree.{TypedPatternStepTree, TypedPathTree}
 use Rattle.xp_outcome.specs.Cells.{names_on}
 use Rattle.xp_outcome.specs.Evaluation.{bind, cell, done}
-use Rattle.xp_outcome.specs.Recorded.{note_all}
+use Rattle.xp_outcome.specs.Recorded.{Recorded, note_all}
 use Rattle.xp_outcome.specs.Running.{Ran}
 use Rattle.xp_outcome.proofs.Outcomes.{bind-done}
 use Rattle.xp_outcome.proofs.Runs.{note_all-append, ran_alike, ran_all_reading, ran_done}
@@ -24,16 +24,16 @@ use Rattle.xslt_match.specs.declared.refusing.NodeClass.{NodeClass}
 use Rattle.xslt_match.specs.inner.Named.{all_named, is_named}
 use Rattle.xslt_match.specs.inner.Refused.{PathRefuses, PathsRefuse, looks_at_kind, names_target}
 use Rattle.xslt_match.specs.Kept.{last_step}
-use Rattle.xslt_match.specs.Matching.{path_matches, some_path}
-use Rattle.xslt_match.specs.Names.{pattern_names, step_names}
-use Rattle.xslt_match.specs.Refusing.{IsOfClass, Refuses}
+use Rattle.xslt_match.specs.Matching.{matching, path_matches, some_path}
+use Rattle.xslt_match.specs.Names.{HoldsNames, pattern_names, step_names}
+use Rattle.xslt_match.specs.Refusing.{IsOfClass, Refuses, names_up}
 use Rattle.xslt_ways.specs.Ways.{is_anywhere}
 use Rattle.xslt_match.proofs.Chaining.{chains_elsewhere, refused_ends}
 use Rattle.xslt_match.proofs.Keeping.{not_true}
 use Rattle.xslt_match.proofs.KnownNames.{by_its_name}
 use Rattle.xslt_match.proofs.OnePath.{names_alone, not_principal}
 use Rattle.xslt_match.proofs.NameReads.{no-name}
-use Rattle.xslt_match.proofs.Recording.{covered, elements_alone, holds_fewer}
+use Rattle.xslt_match.proofs.Recording.{elements_alone, holds_fewer, steps_up, up_both, up_covered}
 
 -- What two nodes of a class have in common
 
@@ -93,7 +93,7 @@ kind_refuses C n p s alone looks refused L class m here there =
     let kinds_looked : looks_at_kind s.axis s.test (kind_of C.nodes m) ≡ true = ap (looks_at_kind s.axis s.test) (kind_alike C class n m here there) ∙ looks in
     record {
       none = none_ends C.nodes L m p s (ap last_step alone) (kind_refused C class n m here there s.axis s.test looks refused);
-      covered = λ held holds. ap (note_all held) (ap (step_names C.nodes m) alone ∙ no_names (is_by_name s.test) refl kinds_looked);
+      read = λ held. ap (note_all held) (ap (step_names C.nodes m) alone ∙ no_names (is_by_name s.test) refl kinds_looked);
     }
   where
     no_names : (b : Bool) → is_by_name s.test ≡ b → looks_at_kind s.axis s.test (kind_of C.nodes m) ≡ true → step_names C.nodes m (s ∷ []) ≡ []
@@ -110,35 +110,43 @@ name_refuses C n p s ends all refused L class m here there =
     let of_elements = and_parts (not (is_anywhere s.join)) (is_principal s.axis (Some kinds.Element)) named.1 in
     record {
       none = none_ends C.nodes L m p s ends (name_refused C class n m here there s.axis s.test named.0 of_elements.1 refused);
-      covered = λ held holds. covered C.nodes m p.steps held all holds;
+      read = λ held. ap (note_all held) (steps_up C.nodes m p.steps all);
     }
 
 -- no path at all
 pub none_refuses : (C : Contents) (n : ℕ) → PathsRefuse C [] n 0
-none_refuses C n L class m here there = record { none = refl; covered = λ held holds. refl }
+none_refuses C n L class m here there = record { none = refl; read = λ held. refl }
 
 -- one before others
-pub more_refuse : (C : Contents) (n : ℕ) (p : TypedPathTree) (ps : List TypedPathTree) (here_levels later_levels levels : ℕ) → here_levels ≤ levels → later_levels ≤ levels →
-    PathRefuses C p n here_levels → PathsRefuse C ps n later_levels → PathsRefuse C (p ∷ ps) n levels
-more_refuse C n p ps first later levels few fewer path paths L class m here there =
+pub more_refuse : (C : Contents) (n : ℕ) (p : TypedPathTree) (ps : List TypedPathTree) (first later levels : ℕ) → levels ≡ max later first →
+    PathRefuses C p n first → PathsRefuse C ps n later → PathsRefuse C (p ∷ ps) n levels
+more_refuse C n p ps first later levels greater path paths L class m here there =
     let T = C.nodes in
     let a = path L class m here there in
     let b = paths L class m here there in
     record {
       none = ap (λ k. bind k (λ x. bind (some_path T L m ps) (λ y. done (x || y)))) a.none ∙ bind-done false (λ x. bind (some_path T L m ps) (λ y. done (x || y)))
           ∙ ap (λ k. bind k (λ y. done (false || y))) b.none ∙ bind-done false (λ y. done (false || y));
-      covered = λ held holds.
+      read = λ held.
           note_all-append held (step_names T m p.steps) (pattern_names T m ps)
-          ∙ ap (λ h. note_all h (pattern_names T m ps)) (a.covered held (holds_fewer T m levels first held few holds))
-          ∙ b.covered held (holds_fewer T m levels later held fewer holds);
+          ∙ ap (λ h. note_all h (pattern_names T m ps)) (a.read held)
+          ∙ b.read (note_all held (names_up T m first))
+          ∙ up_both T m first later levels held (omega (arith, greater));
     }
 
 -- then the pattern refuses them
 pub refuses_alike : (C : Contents) (n : ℕ) (ps : List TypedPathTree) (levels : ℕ) → PathsRefuse C ps n levels →
     (L : Lets) (class : NodeClass) (m : ℕ) → IsOfClass C class n → IsOfClass C class m → Refuses C.nodes L ps levels m
-refuses_alike C n ps levels paths L class m here there = λ held count holds.
+refuses_alike C n ps levels paths L class m here there = λ held count.
     let T = C.nodes in
     let refused = paths L class m here there in
+    let now = note_all held (names_up T m levels) in
     ran_ticked refl
     (ran_all_reading (pattern_names T m ps)
-    (subst (λ r. Ran (some_path T L m ps) (Ok false) r held (count + 1) (count + 1)) (sym (refused.covered held holds)) (ran_alike refused.none (ran_done false held (count + 1)))))
+    (subst (λ r. Ran (some_path T L m ps) (Ok false) r now (count + 1) (count + 1)) (sym (refused.read held)) (ran_alike refused.none (ran_done false now (count + 1)))))
+
+-- where the names are held, that changes nothing
+pub refuses_held : (T : Table) (L : Lets) (ps : List TypedPathTree) (levels held_levels n : ℕ) (held : Recorded) (count : ℕ) → levels ≤ held_levels → HoldsNames T n held_levels held →
+    Refuses T L ps levels n → Ran (matching T L ps n) (Ok false) held held count (count + 1)
+refuses_held T L ps levels held_levels n held count less holds refuses =
+    subst (λ r. Ran (matching T L ps n) (Ok false) held r count (count + 1)) (up_covered T n levels held (holds_fewer T n held_levels levels held less holds)) (refuses held count)

@@ -1,6 +1,6 @@
 -- Names that are recorded already.
-use Rattle.std.proofs.Common.{◌≡◌, ℕ, zero, suc, ◌<◌, ◌≤◌, Bool, true, false, cond, not, ◌&&◌, ◌||◌, List, [], ◌∷◌, ◌++◌, length, map, refl, sym, ◌∙◌, ap, subst, append-nil, arith, Option, None, Some, Result, Ok, Err, ◌⊎◌, inl, inr}
-use Rattle.std.specs.Prelude.{IfSome, OnOk}
+use Rattle.std.proofs.Common.{◌≡◌, ℕ, zero, suc, ◌+◌, max, zero-add, suc-add, ◌<◌, ◌≤◌, Bool, true, false, cond, not, ◌&&◌, ◌||◌, List, [], ◌∷◌, ◌++◌, length, map, refl, sym, ◌∙◌, ap, subst, append-nil, arith, Option, None, Some, Result, Ok, Err, ◌⊎◌, inl, inr}
+use Rattle.std.specs.Prelude.{IfSome, OnOk, option_and_then}
 use Rattle.std.specs.List.{list_any}
 use Rattle.std.proofs.lemmas.Bool.{and_parts, or_left}
 use Rattle.std.proofs.lemmas.Option.{IfSome_then}
@@ -15,7 +15,7 @@ use Rattle.doc_tree.specs.kind.Kind.TheVariants as kinds
 use Rattle.doc_tree.specs.Kinds.{is_element}
 use Rattle.doc_tree.specs.declared.axes.Axis.{Axis}
 use Rattle.doc_tree.specs.declared.axes.Axis.TheVariants.{Ancestor, AncestorOrSelf, Attribute, Child, Descendant, DescendantOrSelf, Following, FollowingSibling, Parent, Preceding, PrecedingSibling, SelfNode}
-use Rattle.doc_tree.specs.Table.{Table, kind_of}
+use Rattle.doc_tree.specs.Table.{Table, kind_of, parent_of}
 use Rattle.doc_axes.specs.NodeTests.{is_principal}
 use Rattle.xp_typed_tree.specs.TypedTree.{TypedPatternStepTree}
 use Rattle.xp_outcome.specs.Evaluation.{Read, Evaluation, all_reading, behind, cell, done}
@@ -30,6 +30,7 @@ use Rattle.xp_meaning.specs.Reads.{is_by_name}
 use Rattle.xp_meaning.specs.Results.{shown, shown_alloc}
 use Rattle.xslt_match.specs.inner.Named.{all_named, is_named}
 use Rattle.xslt_match.specs.Names.{HoldsNames, ancestor_at, ancestor_over, place_names, places_from, some_anywhere, step_names}
+use Rattle.xslt_match.specs.Refusing.{names_up, own_name}
 use Rattle.xslt_ways.specs.Ways.{is_anywhere}
 use Rattle.xslt_match.proofs.JoinedReads.{cell_is, cells_noted}
 
@@ -89,13 +90,8 @@ none_anywhere (s ∷ ss) all =
     by false h later = later
 
 module _ (T : Table) (n : ℕ) where
-  -- the name of a node that may be missing, where it is an element
-  abbrev own_name : Option ℕ → List Read
-  own_name None = []
-  own_name (Some m) = cond (is_element (kind_of T m)) (cell (Name m) ∷ []) []
-
   -- it is what such a step looks at
-  place_is : (s : TypedPatternStepTree) → is_named s ≡ true → (higher : Bool) → higher ≡ false → (o : Option ℕ) → place_names T s.axis s.test (places_from T higher o) ≡ own_name o
+  place_is : (s : TypedPatternStepTree) → is_named s ≡ true → (higher : Bool) → higher ≡ false → (o : Option ℕ) → place_names T s.axis s.test (places_from T higher o) ≡ own_name T o
   place_is s named higher low o =
       let more = and_parts (is_by_name s.test) (not (is_anywhere s.join) && is_principal s.axis (Some kinds.Element)) named in
       let here = and_parts (not (is_anywhere s.join)) (is_principal s.axis (Some kinds.Element)) more.1 in
@@ -116,19 +112,19 @@ module _ (T : Table) (n : ℕ) where
       alone m true = refl
       alone m false = refl
 
-      by_name : (o : Option ℕ) → is_by_name s.test ≡ true → looked_at (is_by_name s.test) (own o) ≡ own_name o
+      by_name : (o : Option ℕ) → is_by_name s.test ≡ true → looked_at (is_by_name s.test) (own o) ≡ own_name T o
       by_name None h = ap (λ b. looked_at b []) h
       by_name (Some m) h = ap (λ b. looked_at b (own (Some m))) h ∙ alone m (is_element (kind_of T m))
 
   -- the names of a path's later steps, and the one of its first
   steps_are : (s : TypedPatternStepTree) (ss : List TypedPatternStepTree) → all_named (s ∷ ss) ≡ true →
-      step_names T n (s ∷ ss) ≡ step_names T n ss ++ own_name (ancestor_at T (length ss) n)
+      step_names T n (s ∷ ss) ≡ step_names T n ss ++ own_name T (ancestor_at T (length ss) n)
   steps_are s ss all =
       let parts = and_parts (is_named s) (all_named ss) all in
       ap (λ xs. step_names T n ss ++ xs) (place_is s parts.0 (some_anywhere ss) (none_anywhere ss parts.1) (ancestor_over T ss n))
 
   -- where they are all held, they are recorded already
-  own_covered : (held : Recorded) (o : Option ℕ) → IfSome o (λ m. is_element (kind_of T m) ≡ true → has_read held (cell (Name m)) ≡ true) → note_all held (own_name o) ≡ held
+  own_covered : (held : Recorded) (o : Option ℕ) → IfSome o (λ m. is_element (kind_of T m) ≡ true → has_read held (cell (Name m)) ≡ true) → note_all held (own_name T o) ≡ held
   own_covered held None h = refl
   own_covered held (Some m) h = by (is_element (kind_of T m)) refl
     where
@@ -136,41 +132,87 @@ module _ (T : Table) (n : ℕ) where
       by true e = read_again (Name m) held (h e)
       by false e = refl
 
+  pub up_covered : (levels : ℕ) (held : Recorded) → HoldsNames T n levels held → note_all held (names_up T n levels) ≡ held
+  up_covered zero held h = refl
+  up_covered (suc k) held h =
+      note_all-append held (names_up T n k) (own_name T (ancestor_at T k n))
+      ∙ ap (λ r. note_all r (own_name T (ancestor_at T k n))) (up_covered k held (λ j below. h j (omega (arith, below))))
+      ∙ own_covered held (ancestor_at T k n) (h k (omega arith))
+
+  -- a path's steps look at the names of as many nodes upwards
+  pub steps_up : (ss : List TypedPatternStepTree) → all_named ss ≡ true → step_names T n ss ≡ names_up T n (length ss)
+  steps_up [] all = refl
+  steps_up (s ∷ ss) all = steps_are s ss all ∙ ap (λ xs. xs ++ own_name T (ancestor_at T (length ss) n)) (steps_up ss (and_parts (is_named s) (all_named ss) all).1)
+
   pub covered : (ss : List TypedPatternStepTree) (held : Recorded) → all_named ss ≡ true → HoldsNames T n (length ss) held → note_all held (step_names T n ss) ≡ held
-  covered [] held all h = refl
-  covered (s ∷ ss) held all h =
-      let parts = and_parts (is_named s) (all_named ss) all in
-      ap (note_all held) (steps_are s ss all)
-      ∙ note_all-append held (step_names T n ss) (own_name (ancestor_at T (length ss) n))
-      ∙ ap (λ r. note_all r (own_name (ancestor_at T (length ss) n))) (covered ss held parts.1 (λ k below. h k (omega (arith, below))))
-      ∙ own_covered held (ancestor_at T (length ss) n) (h (length ss) (omega arith))
+  covered ss held all h = ap (note_all held) (steps_up ss all) ∙ up_covered (length ss) held h
 
   -- once they are recorded, they are held
-  own_held : (held : Recorded) (o : Option ℕ) → IfSome o (λ m. is_element (kind_of T m) ≡ true → has_read (note_all held (own_name o)) (cell (Name m)) ≡ true)
+  own_held : (held : Recorded) (o : Option ℕ) → IfSome o (λ m. is_element (kind_of T m) ≡ true → has_read (note_all held (own_name T o)) (cell (Name m)) ≡ true)
   own_held held None = tt
   own_held held (Some m) = λ e. ap (λ b. has_read (note_all held (cond b (cell (Name m) ∷ []) [])) (cell (Name m))) e ∙ read_now (Name m) held
 
-  pub held_now : (ss : List TypedPatternStepTree) (held : Recorded) → all_named ss ≡ true → HoldsNames T n (length ss) (note_all held (step_names T n ss))
-  held_now [] held all k below = absurd (omega (arith, below))
-  held_now (s ∷ ss) held all k below =
-      let parts = and_parts (is_named s) (all_named ss) all in
-      let own = own_name (ancestor_at T (length ss) n) in
-      let first = note_all held (step_names T n ss) in
-      let is : note_all held (step_names T n (s ∷ ss)) ≡ note_all first own = ap (note_all held) (steps_are s ss all) ∙ note_all-append held (step_names T n ss) own in
-      let later : (j : ℕ) → j < length ss → IfSome (ancestor_at T j n) (λ m. is_element (kind_of T m) ≡ true → has_read (note_all first own) (cell (Name m)) ≡ true) =
-      λ j low. IfSome_then (ancestor_at T j n) (held_now ss held parts.1 j low) (λ m g e. all_still (Name m) own first (g e)) in
-      subst (λ r. IfSome (ancestor_at T k n) (λ m. is_element (kind_of T m) ≡ true → has_read r (cell (Name m)) ≡ true)) (sym is)
-      (elim (last_or_below k (length ss) below) [
+  last_or_below : (j len : ℕ) → j < suc len → (j < len) ⊎ (j ≡ len)
+  last_or_below zero zero low = inr refl
+  last_or_below zero (suc len) low = inl (omega arith)
+  last_or_below (suc j) zero low = absurd (omega (arith, low))
+  last_or_below (suc j) (suc len) low = elim (last_or_below j len (omega (arith, low))) [ inl h ↦ inl (omega (arith, h)) | inr h ↦ inr (ap suc h) ]
+
+  pub up_held : (levels : ℕ) (held : Recorded) → HoldsNames T n levels (note_all held (names_up T n levels))
+  up_held zero held k below = absurd (omega (arith, below))
+  up_held (suc len) held k below =
+      let own = own_name T (ancestor_at T len n) in
+      let first = note_all held (names_up T n len) in
+      let later : (j : ℕ) → j < len → IfSome (ancestor_at T j n) (λ m. is_element (kind_of T m) ≡ true → has_read (note_all first own) (cell (Name m)) ≡ true) =
+      λ j low. IfSome_then (ancestor_at T j n) (up_held len held j low) (λ m g e. all_still (Name m) own first (g e)) in
+      subst (λ r. IfSome (ancestor_at T k n) (λ m. is_element (kind_of T m) ≡ true → has_read r (cell (Name m)) ≡ true)) (sym (note_all-append held (names_up T n len) own))
+      (elim (last_or_below k len below) [
         | inl low ↦ later k low
         | inr same ↦ subst (λ j. IfSome (ancestor_at T j n) (λ m. is_element (kind_of T m) ≡ true → has_read (note_all first own) (cell (Name m)) ≡ true)) (sym same)
-            (own_held first (ancestor_at T (length ss) n))
+            (own_held first (ancestor_at T len n))
       ])
+
+  pub held_now : (ss : List TypedPatternStepTree) (held : Recorded) → all_named ss ≡ true → HoldsNames T n (length ss) (note_all held (step_names T n ss))
+  held_now ss held all = subst (λ xs. HoldsNames T n (length ss) (note_all held xs)) (sym (steps_up ss all)) (up_held (length ss) held)
+
+  -- to record them and then those of fewer nodes, or of more, is to record those of the more
+  up_again : (fewer levels : ℕ) (held : Recorded) → fewer ≤ levels → note_all (note_all held (names_up T n fewer)) (names_up T n levels) ≡ note_all held (names_up T n levels)
+  up_again zero zero held less = refl
+  up_again (suc a) zero held less = absurd (omega (arith, less))
+  up_again a (suc b) held less = elim (last_or_below a (suc b) (omega (arith, less))) [
+    | inl low ↦ note_all-append (note_all held (names_up T n a)) (names_up T n b) (own_name T (ancestor_at T b n))
+        ∙ ap (λ r. note_all r (own_name T (ancestor_at T b n))) (up_again a b held (omega (arith, low)))
+        ∙ sym (note_all-append held (names_up T n b) (own_name T (ancestor_at T b n)))
+    | inr same ↦ subst (λ k. note_all (note_all held (names_up T n k)) (names_up T n (suc b)) ≡ note_all held (names_up T n (suc b))) (sym same)
+        (up_covered (suc b) (note_all held (names_up T n (suc b))) (up_held (suc b) held))
+  ]
+
+  pub up_both : (a b levels : ℕ) (held : Recorded) → levels ≡ max a b → note_all (note_all held (names_up T n a)) (names_up T n b) ≡ note_all held (names_up T n levels)
+  up_both a b levels held greater = elim (which a b) [
+    | inl less ↦ let is : b ≡ levels = omega (arith, greater, less) in up_again a b held less ∙ ap (λ (k : ℕ). note_all held (names_up T n k)) is
+    | inr less ↦ up_covered b (note_all held (names_up T n a)) (λ k below. up_held a held k (omega (arith, below, less)))
+        ∙ same less
+  ]
     where
-      last_or_below : (j len : ℕ) → j < suc len → (j < len) ⊎ (j ≡ len)
-      last_or_below zero zero low = inr refl
-      last_or_below zero (suc len) low = inl (omega arith)
-      last_or_below (suc j) zero low = absurd (omega (arith, low))
-      last_or_below (suc j) (suc len) low = elim (last_or_below j len (omega (arith, low))) [ inl h ↦ inl (omega (arith, h)) | inr h ↦ inr (ap suc h) ]
+      same : b ≤ a → note_all held (names_up T n a) ≡ note_all held (names_up T n levels)
+      same less = let is : a ≡ levels = omega (arith, greater, less) in ap (λ (k : ℕ). note_all held (names_up T n k)) is
+
+      which : (x y : ℕ) → (x ≤ y) ⊎ (y ≤ x)
+      which zero y = inl (omega arith)
+      which (suc x) zero = inr (omega arith)
+      which (suc x) (suc y) = elim (which x y) [ inl h ↦ inl (omega (arith, h)) | inr h ↦ inr (omega (arith, h)) ]
+
+  -- where they are held of some nodes, that of the next is all that is recorded for one node more
+  pub up_more : (k levels : ℕ) (held : Recorded) → levels ≡ suc k → HoldsNames T n k held → note_all held (own_name T (ancestor_at T k n)) ≡ note_all held (names_up T n levels)
+  up_more k levels held next h =
+      ap (λ r. note_all r (own_name T (ancestor_at T k n))) (sym (up_covered k held h))
+      ∙ sym (note_all-append held (names_up T n k) (own_name T (ancestor_at T k n)))
+      ∙ ap (λ (j : ℕ). note_all held (names_up T n j)) (sym next)
+
+  -- no node stands above where none does
+  pub none_above : (k more : ℕ) → ancestor_at T k n ≡ None → ancestor_at T (more + k) n ≡ None
+  none_above k zero end = ap (λ j. ancestor_at T j n) (zero-add k) ∙ end
+  none_above k (suc more) end = ap (λ j. ancestor_at T j n) (suc-add more k) ∙ ap (option_and_then (parent_of T)) (none_above k more end)
 
   -- what is held stays so
   pub holds_more : (levels : ℕ) (xs : List Read) (held : Recorded) → HoldsNames T n levels held → HoldsNames T n levels (note_all held xs)

@@ -1,18 +1,19 @@
 //! The names that the tests of a pattern's steps look at (XSLT 1.0, section 5.2).
 
-ghost use Rattle.std.specs.Prelude.{◌≡◌, ◌∷◌, [], ◌||◌, ℕ, true, false, map, if◌then◌else◌, option_and_then, Some, OnOk};
+ghost use Rattle.std.specs.Prelude.{◌≡◌, ◌∷◌, [], ◌||◌, ℕ, true, false, map, if◌then◌else◌, option_and_then, Some, OnErr, OnOk, ◌+◌, ◌≤◌};
 ghost use Rattle.doc_tree.specs.Table.{Table, kind_of, parent_of};
 ghost use Rattle.doc_tree.specs.Walks.{above};
 ghost use Rattle.doc_axes.specs.NodeTests.{is_principal};
 ghost use Rattle.xp_outcome.specs.Cells.{names_on};
 ghost use Rattle.xp_outcome.specs.Evaluation.{all_reading, cell, done};
-ghost use Rattle.xp_outcome.specs.Recorded.{Recorded};
+ghost use Rattle.xp_outcome.specs.Recorded.{Recorded, note_all};
 ghost use Rattle.xp_outcome.specs.Running.{Ran};
 ghost use Rattle.xp_meaning.specs.Reads.{is_by_name};
 ghost use Rattle.xp_meaning.specs.Results.{shown_alloc};
 ghost use Rattle.xp_typed_tree.specs.TypedView.{pattern_step_seen};
 ghost use Rattle.xslt_match.specs.inner.Named.{all_named, is_named};
-ghost use Rattle.xslt_match.specs.Names.{HoldsNames, pattern_names, place_names, places_from, step_names};
+ghost use Rattle.xslt_match.specs.Names.{HoldsNames, ancestor_at, pattern_names, place_names, places_from, step_names};
+ghost use Rattle.xslt_match.specs.Refusing.{names_up, own_name};
 ghost use Rattle.xslt_ways.specs.Ways.{is_anywhere};
 
 use crate::matching::Matcher;
@@ -79,6 +80,28 @@ impl NamesUp {
         ensures none { (T : Table) (held : Recorded) → HoldsNames T result.node result.levels held }
     {
         NamesUp { node, levels: 0 }
+    }
+
+    /// Records the names of so many nodes from the node upwards, where they are elements: at most that of one more than are recorded already. Where memory is
+    /// wanting, it records none.
+    pub fn read_to(
+        &mut self,
+        tree: &Tree,
+        levels: usize,
+        reads: &mut Recorder,
+    ) -> Result<(), AllocError>
+        requires next { levels ≤ self.old.levels + 1 }
+        requires held { HoldsNames tree.now.nodes self.old.node self.old.levels reads.old }
+        ensures read { OnOk result (reads.new ≡ note_all reads.old (names_up tree.now.nodes self.old.node levels)) }
+        ensures unchanged { OnErr result (reads.new ≡ reads.old) }
+        ensures named { OnOk result (HoldsNames tree.now.nodes self.new.node self.new.levels reads.new) }
+        ensures same { self.new.node ≡ self.old.node }
+    {
+        if self.levels < levels {
+            read_above(tree, self.node, self.levels, reads)?;
+            self.levels = levels;
+        }
+        Ok(())
     }
 
     /// Of how many nodes upwards they are recorded.
@@ -234,6 +257,45 @@ fn read_upwards(tree: &Tree, axis: Axis, m: NodeId, reads: &mut Recorder) -> Res
     match tree.parent(m) {
         Some(parent) => read_upwards(tree, axis, parent, reads),
         None => Ok(()),
+    }
+}
+
+/// Records the name of the node that stands so many levels above, where there is one and it is an element.
+fn read_above(tree: &Tree, n: NodeId, levels: usize, reads: &mut Recorder) -> Result<(), AllocError>
+    ensures read { OnOk result (reads.new ≡ note_all reads.old (own_name tree.now.nodes (ancestor_at tree.now.nodes levels n))) }
+    ensures unchanged { OnErr result (reads.new ≡ reads.old) }
+{
+    match ancestor_at(tree, n, levels) {
+        Some(m) => read_own(tree, m, reads),
+        None => Ok(()),
+    }
+}
+
+/// The node that stands so many levels above one.
+fn ancestor_at(tree: &Tree, n: NodeId, levels: usize) -> Option<NodeId>
+    ensures { result ≡ ancestor_at tree.now.nodes levels n }
+{
+    let mut m = n;
+    let mut k = 0;
+    while k < levels {
+        match tree.parent(m) {
+            Some(parent) => m = parent,
+            None => return None,
+        }
+        k += 1;
+    }
+    Some(m)
+}
+
+/// Records the name of a node, where it is an element.
+fn read_own(tree: &Tree, m: NodeId, reads: &mut Recorder) -> Result<(), AllocError>
+    ensures read { OnOk result (reads.new ≡ note_all reads.old (own_name tree.now.nodes (Some m))) }
+    ensures unchanged { OnErr result (reads.new ≡ reads.old) }
+{
+    if tree.is_element(m) {
+        reads.add(Cell::Name(m))
+    } else {
+        Ok(())
     }
 }
 

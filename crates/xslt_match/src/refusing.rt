@@ -51,8 +51,8 @@ fn number_of(tree: &Tree, n: NodeId) -> Option<usize>
     Some(tree.name(n)?.index())
 }
 
-/// Where a pattern refuses a live node by its kind and name alone, and so all nodes of its class: of how many nodes, from each of these
-/// upwards, the names must be recorded already, so that no more is read for that.
+/// Where a pattern refuses a live node by its kind and name alone, and so all nodes of its class: the names of how many nodes are read for that, from
+/// each of these upwards.
 ///
 /// Costs the number of the pattern's steps.
 pub fn refused_levels(tree: &Tree, pattern: &TypedPattern, n: NodeId) -> Option<usize>

@@ -14,8 +14,8 @@ use Rattle.xp_meaning.specs.Evaluation.{Lets}
 use Rattle.xp_meaning.specs.Reads.{is_by_name}
 use Rattle.xslt_match.specs.declared.refusing.NodeClass.{NodeClass}
 use Rattle.xslt_match.specs.Matching.{path_matches, some_path}
-use Rattle.xslt_match.specs.Names.{HoldsNames, pattern_names, step_names}
-use Rattle.xslt_match.specs.Refusing.{IsOfClass}
+use Rattle.xslt_match.specs.Names.{pattern_names, step_names}
+use Rattle.xslt_match.specs.Refusing.{IsOfClass, names_up}
 
 abbrev pub names_target : NodeTest → Bool
 names_target (PiNamed target) = true
@@ -25,10 +25,10 @@ names_target _ = false
 abbrev pub looks_at_kind : Axis → NodeTest → Option Kind → Bool
 looks_at_kind axis t kind = if is_by_name t then not (is_principal axis kind) else not (names_target t)
 
--- no chain is found to a node, and what is read for that is held already where the names of so many nodes from it upwards are
+-- no chain is found to a node, and the names of so many nodes from it upwards are read for that
 pub record IsRefused (T : Table) (n : ℕ) (reads : List Read) (matched : Evaluation EvalFault Bool) (levels : ℕ) : Type 0 where
   pub none : matched ≡ done false
-  pub covered : (held : Recorded) → HoldsNames T n levels held → note_all held reads ≡ held
+  pub read : (held : Recorded) → note_all held reads ≡ note_all held (names_up T n levels)
 
 -- a path refuses all nodes of the class of n
 abbrev pub PathRefuses : Contents → TypedPathTree → ℕ → ℕ → Type 0

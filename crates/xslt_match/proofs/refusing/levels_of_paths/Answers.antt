@@ -22,8 +22,8 @@ loop-left-preserved c =
       within = omega (arith, c.loop-left.invariant.within);
       refuse = subst (λ ps. PathsRefuse C (paths_seen ps) c.args.n c.max-levels.result)
           (sym (item_before c.args.paths.now c.loop-left.left path c.loop-left.invariant.within c.loop-left-test.true c.index-paths-left.is))
-          (more_refuse C c.args.n (path_seen path) (paths_seen later) c.in_ok-here.here c.loop-left.levels c.max-levels.result
-          (omega (arith, c.max-levels.ensures)) (omega (arith, c.max-levels.ensures)) c.in_ok-here.ensures c.loop-left.invariant.refuse);
+          (more_refuse C c.args.n (path_seen path) (paths_seen later) c.in_ok-here.here c.loop-left.levels c.max-levels.result c.max-levels.ensures
+          c.in_ok-here.ensures c.loop-left.invariant.refuse);
     }
 
 pub returns : goal.returns
