@@ -1,16 +1,13 @@
 -- What is known of classes of nodes, slot by slot, and rule by rule.
-use Rattle.std.proofs.Common.{◌≡◌, ℕ, zero, suc, ◌<◌, ◌≤◌, List, [], ◌∷◌, ◌++◌, ◌⊎◌, inl, inr, get_or, length, replicate, set, refl, sym, ◌∙◌, ap, subst, Some, None, Option, arith}
+use Rattle.std.proofs.Common.{◌≡◌, ℕ, zero, suc, ◌<◌, List, [], ◌∷◌, ◌++◌, ◌⊎◌, inl, inr, get_or, replicate, set, refl, sym, ◌∙◌, ap, subst, Some, None, Option, arith}
 use Rattle.std.specs.Prelude.{slice_get, IfSome}
-use Rattle.std.proofs.lemmas.Option.{slice_get_within}
-use Rattle.doc_tree.specs.Table.{Contents, Table}
-use Rattle.xp_typed_tree.specs.TypedTree.{TypedPathTree}
+use Rattle.doc_tree.specs.Table.{Contents}
 use Rattle.xp_meaning.specs.Evaluation.{Lets}
 use Rattle.xslt_match.specs.declared.refusing.NodeClass.{NodeClass}
 use Rattle.xslt_match.specs.Refusing.{IsOfClass, Refuses}
 use Rattle.sch_compiled.specs.declared.parts.PlanRule.{PlanRule}
 use Rattle.rule_run.specs.declared.classes.ClassRules.{ClassRules}
-use Rattle.rule_run.specs.declared.classes.RefusedRest.{RefusedRest}
-use Rattle.rule_run.specs.Classes.{AreKnown, AreRefused, IsEachRefused, IsRestRefused}
+use Rattle.rule_run.specs.Classes.{AreKnown, AreRefused, IsEachRefused}
 
 -- what stands at a place of a list in which one item was replaced
 read_replaced : {X : Type 0} (xs : List X) (i : ℕ) (x : X) (j : ℕ) (d : X) → ((j ≡ i) × (get_or (set xs i x) j d ≡ x)) ⊎ (get_or (set xs i x) j d ≡ get_or xs j d)
@@ -32,10 +29,6 @@ read_same : {X : Type 0} (n : ℕ) (x : X) (i : ℕ) → get_or (replicate n x) 
 read_same zero x i = refl
 read_same (suc n) x zero = refl
 read_same (suc n) x (suc i) = read_same n x i
-
--- who refuses where the names of some nodes are held refuses where those of more nodes are
-pub refuses_higher : (T : Table) (L : Lets) (ps : List TypedPathTree) (few many n : ℕ) → few ≤ many → Refuses T L ps few n → Refuses T L ps many n
-refuses_higher T L ps few many n more h = λ held count names. h held count (λ k below. names k (omega (arith, more, below)))
 
 module _ (C : Contents) (rules : List PlanRule) where
   -- one more slot, and one that is filled anew
@@ -72,11 +65,3 @@ module _ (C : Contents) (rules : List PlanRule) where
               )
           | inr h ↦ subst (λ k. Refuses C.nodes L other.context k n) (sym h) (before L q n other there (omega (arith, below, h)) is)
         ]
-
-    -- the rest, of which each rule refuses the class
-    pub rest_refused : (levels : List ℕ) (rest : RefusedRest) →
-        ((r : ℕ) → rest.from ≤ r → r < length rules → get_or levels r 255 < 255 × get_or levels r 255 ≤ rest.needed) →
-        IsEachRefused C rules class levels → IsRestRefused C rules class rest
-    rest_refused levels rest all each L r n rule there from is =
-        let here = all r from (slice_get_within rules r rule there) in
-        refuses_higher C.nodes L rule.context (get_or levels r 255) rest.needed n here.1 (each L r n rule there here.0 is)

@@ -19,9 +19,9 @@ use Rattle.sch_compiled.specs.declared.parts.PlanRule.{PlanRule}
 use Rattle.sch_compiled.specs.declared.findings.Outcome.TheVariants.{NoRule, Fired}
 use Rattle.xslt_match.specs.Matching.{matching}
 use Rattle.xslt_match.specs.Names.{HoldsNames}
-use Rattle.xslt_match.specs.Refusing.{Refuses}
 use Rattle.sch_units.specs.Messages.{alone}
 use Rattle.sch_units.specs.Firing.{all_asserted, fired_by, first_rule}
+use Rattle.rule_run.specs.Classes.{IsPassedOver}
 use Rattle.rule_run.specs.inner.Setting.{SetsLets}
 
 -- `?` hands on an error: the setting of lets stopped
@@ -72,9 +72,9 @@ dropped_there (suc i) [] k x is = absurd (cc)
 dropped_there (suc i) (y ∷ xs) k x is =
     let next : suc (i + k) ≡ suc i + k = omega arith in subst (λ j. slice_get (y ∷ xs) j ≡ Some x) next (dropped_there i xs k x is)
 
--- where all rules that are left refuse the node, none fires: that is one visit for each
+-- where all rules that are left are passed over, none fires: that is one visit for each
 module _ (T : Table) (count : ℕ) (L : Lets) (n levels : ℕ) (held : Recorded) (names : HoldsNames T n levels held) where
-  all_refused : (rules : List PlanRule) (i taken : ℕ) → ((k : ℕ) (rule : PlanRule) → slice_get rules k ≡ Some rule → Refuses T L rule.context levels n) →
+  all_refused : (rules : List PlanRule) (i taken : ℕ) → ((k : ℕ) (rule : PlanRule) → slice_get rules k ≡ Some rule → IsPassedOver T L rule.context levels n) →
       Ran (first_rule T count L n i rules) (Ok NoRule) held held taken (taken + length rules)
   all_refused [] i taken each = ran_moved refl refl refl (add-zero taken) (ran_done NoRule held taken)
   all_refused (rule ∷ rules) i taken each =
@@ -84,7 +84,7 @@ module _ (T : Table) (count : ℕ) (L : Lets) (n levels : ℕ) (held : Recorded)
       if matches then bind (fired_by T L n count rule.subject rule.lets rule.assertions) (λ findings. done (Fired i findings))
       else first_rule T count L n (i + 1) rules) {v = false} (each zero rule refl held taken names) (all_refused rules (i + 1) (taken + 1) (λ k. each (suc k))))
 
-  pub rules-refused : (rules : List PlanRule) (i taken : ℕ) → ((k : ℕ) (rule : PlanRule) → i ≤ k → slice_get rules k ≡ Some rule → Refuses T L rule.context levels n) →
+  pub rules-refused : (rules : List PlanRule) (i taken : ℕ) → ((k : ℕ) (rule : PlanRule) → i ≤ k → slice_get rules k ≡ Some rule → IsPassedOver T L rule.context levels n) →
       Ran (first_rule T count L n i (drop i rules)) (Ok NoRule) held held taken (taken + (length rules - i))
   rules-refused rules i taken each =
       subst (λ k. Ran (first_rule T count L n i (drop i rules)) (Ok NoRule) held held taken (taken + k)) (length-drop i rules)

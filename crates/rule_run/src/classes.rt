@@ -1,11 +1,11 @@
 //! Which rules of a pattern refuse all nodes of a class (ISO/IEC 19757-3, clause 6).
 
-ghost use Rattle.std.specs.Prelude.{◌≡◌, ◌<◌, ◌≤◌, ℕ, List, Some, true, slice_get, slice_index_or};
+ghost use Rattle.std.specs.Prelude.{◌≡◌, ◌<◌, ◌≤◌, ℕ, List, Some, true, slice_get, IfSome};
 ghost use Rattle.doc_tree.specs.Table.{Contents, is_live};
 ghost use Rattle.xp_meaning.specs.Evaluation.{Lets};
 ghost use Rattle.xslt_match.specs.Refusing.{IsOfClass, Refuses};
 ghost use Rattle.sch_compiled.specs.declared.parts.PlanRule.{PlanRule as AnyRule};
-ghost use Rattle.rule_run.specs.Classes.{AreRefused};
+ghost use Rattle.rule_run.specs.Classes.{AreRefused, IsPassedOver, IsRestRefused};
 
 use doc_tree::{Kind, NodeId, Tree};
 use sch_compiled::PlanRule;
@@ -28,7 +28,7 @@ pub(crate) const SLOTS: usize = KINDS + NAMES;
 #[derive(Clone, Copy)]
 pub(crate) struct ClassRules {
     pub(crate) class: NodeClass,
-    /// Of each rule, of how many nodes upwards the names must be recorded for it to be passed over: `TRIED` where it may match.
+    /// Of each rule, of how many nodes upwards the names are read where it is passed over: `TRIED` where it may match.
     pub(crate) levels: [u8; RULES],
     pub(crate) rest: RefusedRest,
 }
@@ -38,7 +38,7 @@ pub(crate) struct ClassRules {
 pub(crate) struct RefusedRest {
     /// The first of them, counted from 0: the number of the pattern's rules where there are none, or more rules than something is kept of.
     pub(crate) from: usize,
-    /// Of how many nodes upwards the names must be recorded for all of them to be passed over.
+    /// Of how many nodes upwards the names are read where all of them are passed over.
     pub(crate) needed: u8,
 }
 
@@ -63,22 +63,26 @@ impl ClassRules {
         }
     }
 
-    /// Whether a rule, counted from 0, refuses the nodes of the class, where the names of so many nodes upwards are recorded.
-    pub(crate) fn refuses(&self, r: usize, levels: usize) -> bool
-        ensures { result ≡ true → (C : Contents) (L : Lets) (rules : List AnyRule) (rule : AnyRule) (n : ℕ) → AreRefused C rules self.now →
-            slice_get rules r ≡ Some rule → IsOfClass C self.now.class n → Refuses C.nodes L rule.context levels n }
+    /// Of how many nodes upwards the names are read where a rule, counted from 0, refuses the nodes of the class: none where it is to be tried.
+    pub(crate) fn refused_levels(&self, r: usize) -> Option<usize>
+        ensures { IfSome result (λ levels. (C : Contents) (L : Lets) (rules : List AnyRule) (rule : AnyRule) (n : ℕ) → AreRefused C rules self.now →
+            slice_get rules r ≡ Some rule → IsOfClass C self.now.class n → Refuses C.nodes L rule.context levels n) }
     {
         if r >= RULES {
-            return false;
+            return None;
         }
-        let needed = self.levels[r];
-        needed < TRIED && needed as usize <= levels
+        let levels = self.levels[r];
+        if levels < TRIED {
+            Some(levels as usize)
+        } else {
+            None
+        }
     }
 
-    /// Whether all rules from one on, counted from 0, refuse the nodes of the class, where the names of so many nodes upwards are recorded.
+    /// Whether all rules from one on, counted from 0, refuse the nodes of the class and read no name but those of so many nodes upwards.
     pub(crate) fn refuses_rest(&self, r: usize, levels: usize) -> bool
         ensures { result ≡ true → (C : Contents) (L : Lets) (rules : List AnyRule) (q : ℕ) (rule : AnyRule) (n : ℕ) → AreRefused C rules self.now →
-            r ≤ q → slice_get rules q ≡ Some rule → IsOfClass C self.now.class n → Refuses C.nodes L rule.context levels n }
+            r ≤ q → slice_get rules q ≡ Some rule → IsOfClass C self.now.class n → IsPassedOver C.nodes L rule.context levels n }
     {
         self.rest.from <= r && self.rest.needed as usize <= levels
     }
@@ -86,7 +90,7 @@ impl ClassRules {
 
 /// Of so many rules those behind the last that is to be tried: none where there are more rules than something is kept of.
 fn rest_of(levels: &[u8; RULES], count: usize) -> RefusedRest
-    ensures { (r : ℕ) → result.from ≤ r → r < count → slice_index_or levels.now r 255 < 255 × slice_index_or levels.now r 255 ≤ result.needed }
+    ensures { IsRestRefused count levels.now result }
 {
     let mut from = count;
     let mut needed = 0;
@@ -99,7 +103,7 @@ fn rest_of(levels: &[u8; RULES], count: usize) -> RefusedRest
     RefusedRest { from, needed }
 }
 
-/// From how many recorded names upwards a rule refuses all nodes of a live node's class, or `TRIED`.
+/// Of how many nodes upwards the names are read where a rule refuses all nodes of a live node's class, or `TRIED`.
 fn levels_of(tree: &Tree, rule: &PlanRule, n: NodeId) -> u8
     requires { is_live tree.now.nodes n ≡ true }
     ensures { result < 255 → (L : Lets) (class : NodeClass) (m : ℕ) → IsOfClass tree.now class n → IsOfClass tree.now class m →

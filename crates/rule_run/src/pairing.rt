@@ -110,7 +110,7 @@ impl PlanRun<'_> {
 ///
 /// A rule whose context has steps with positional predicates costs what `matches_with` does. From the 33rd node on it is kept for classes of nodes which of the
 /// first 64 rules refuse them by kind and name alone: at a node of such a class these cost a few instructions, and where no other rule is left, all
-/// together do.
+/// together do; the names at which they look are recorded once.
 pub fn run_pair_with<L: Ledger>(
     run: &PlanRun<'_>,
     p: u32,

@@ -13,7 +13,7 @@ ghost use Rattle.xp_meaning.specs.Evaluation.{Lets as AnyLets};
 ghost use Rattle.xslt_match.specs.Names.{HoldsNames};
 ghost use Rattle.xslt_match.specs.Refusing.{IsOfClass, Refuses};
 ghost use Rattle.sch_units.specs.Firing.{fired_by, first_rule};
-ghost use Rattle.rule_run.specs.Classes.{AreRefused};
+ghost use Rattle.rule_run.specs.Classes.{AreRefused, IsPassedOver};
 ghost use Rattle.rule_run.specs.KeptMatches.{AreKept};
 ghost use Rattle.rule_run.specs.inner.Counted.{IsRuleCounted, AreRulesCounted};
 ghost use Rattle.rule_run.specs.inner.Setting.{SetsLets};
@@ -39,21 +39,21 @@ pub(crate) struct PlacedRule<'r> {
 }
 
 impl PlacedRule<'_> {
-    /// Whether it is known that the rule refuses the node, of so many nodes from which upwards the names are recorded.
-    fn is_refused(&self, levels: usize) -> bool
-        ensures { result ≡ true → (C : Contents) (L : AnyLets) (n : ℕ) → IfSome self.now.class.now (λ known. IsOfClass C known.class n × AreRefused C self.now.rules.now known) →
-            IfSome (slice_get self.now.rules.now self.now.number) (λ rule. Refuses C.nodes L rule.context levels n) }
+    /// Where it is known that the rule refuses the node: of how many nodes from it upwards the names are then read.
+    fn refused_levels(&self) -> Option<usize>
+        ensures { IfSome result (λ levels. (C : Contents) (L : AnyLets) (n : ℕ) → IfSome self.now.class.now (λ known. IsOfClass C known.class n × AreRefused C self.now.rules.now known) →
+            IfSome (slice_get self.now.rules.now self.now.number) (λ rule. Refuses C.nodes L rule.context levels n)) }
     {
         match self.class {
-            Some(known) => known.refuses(self.number, levels),
-            None => false,
+            Some(known) => known.refused_levels(self.number),
+            None => None,
         }
     }
 
-    /// Whether it is known that the rule and all rules after it refuse the node, of so many nodes from which upwards the names are recorded.
+    /// Whether it is known that the rule and all rules after it refuse the node, and read no name but those of so many nodes from it upwards.
     fn ends_here(&self, levels: usize) -> bool
         ensures { result ≡ true → (C : Contents) (L : AnyLets) (q : ℕ) (rule : AnyRule) (n : ℕ) → IfSome self.now.class.now (λ known. IsOfClass C known.class n × AreRefused C self.now.rules.now known) →
-            self.now.number ≤ q → slice_get self.now.rules.now q ≡ Some rule → Refuses C.nodes L rule.context levels n }
+            self.now.number ≤ q → slice_get self.now.rules.now q ≡ Some rule → IsPassedOver C.nodes L rule.context levels n }
     {
         match self.class {
             Some(known) => known.refuses_rest(self.number, levels),
@@ -105,7 +105,8 @@ impl Validator<'_> {
         Ok(Outcome::NoRule)
     }
 
-    /// Whether a rule matches the node, of which some names may be recorded already.
+    /// Whether a rule matches the node, of which some names may be recorded already. One that is known to refuse it is not tried where at most one name more is
+    /// to be recorded for that.
     fn rule_matches<L: Ledger>(
         &self,
         at: &PlacedRule<'_>,
@@ -128,9 +129,12 @@ impl Validator<'_> {
         ensures node { names.new.node ≡ self.now.node }
         ensures named { OnOk result (HoldsNames self.now.caller.tree.now.nodes names.new.node names.new.levels reads.new) }
     {
-        if at.is_refused(names.levels()) {
-            steps.tick();
-            return Ok(false);
+        if let Some(levels) = at.refused_levels() {
+            if levels.saturating_sub(1) <= names.levels() {
+                names.read_to(self.caller.tree, levels, reads)?;
+                steps.tick();
+                return Ok(false);
+            }
         }
         let r = at.number;
         kept.reach(self.caller.alloc, r)?;

@@ -1,6 +1,6 @@
 use Rattle.std.proofs.Common.{◌∙◌, Some, ap, sym}
 use Rattle.std.proofs.lemmas.Option.{slice_get-get_or}
-use Rattle.rule_run.proofs.ClassesKept.{nothing_refused, refused_put, rest_refused}
+use Rattle.rule_run.proofs.ClassesKept.{nothing_refused, refused_put}
 use Rattle.rule_run.proofs.classes.ClassRules.learn.Goals as goal
 
 pub loop-r-init : goal.loop-r-init
@@ -13,7 +13,4 @@ loop-r-preserved c =
     (λ below L m is. c.levels_of.ensures below L c.args.class m c.requires.class is) c.loop-r.invariant
 
 pub returns-clause-refused : goal.returns-clause-refused
-returns-clause-refused c = record {
-  each = c.loop-r.invariant;
-  rest = rest_refused c.args.tree.now c.args.rules.now c.args.class c.loop-r.levels c.rest_of.result c.rest_of.ensures c.loop-r.invariant;
-}
+returns-clause-refused c = record { each = c.loop-r.invariant; rest = c.rest_of.ensures }

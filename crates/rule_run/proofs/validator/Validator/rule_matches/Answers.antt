@@ -1,28 +1,33 @@
-use Rattle.std.proofs.Common.{◌≡◌, ◌∙◌, true, false, Ok, ap, refl, subst, sym, get_or, Some}
+use Rattle.std.proofs.Common.{◌≡◌, ◌∙◌, true, ap, refl, subst, sym, get_or, Some}
 use Rattle.doc_tree.specs.Table.{is_live}
-use Rattle.std.specs.Prelude.{slice_get}
+use Rattle.std.specs.Prelude.{IfSome, slice_get}
 use Rattle.std.proofs.lemmas.Option.{IfSome_then, slice_get-get_or}
+use Rattle.xp_outcome.specs.Recorded.{note_all}
 use Rattle.xp_outcome.specs.Running.{Ran}
-use Rattle.xp_outcome.proofs.Runs.{ran_late}
+use Rattle.xp_outcome.proofs.Runs.{ran_late, ran_moved}
 use Rattle.xp_meaning.specs.Results.{shown}
 use Rattle.xp_meaning.proofs.Exits.{exit_memory}
 use Rattle.xslt_match.specs.Matching.{matching}
-use Rattle.xslt_match.specs.Names.{HoldsNames}
+use Rattle.xslt_match.specs.Refusing.{Refuses, names_up}
 use Rattle.rule_run.proofs.MatchesKept.{each_if, kept_replaced, rule_if}
 use Rattle.rule_run.proofs.validator.Validator.rule_matches.Goals as goal
 
--- a rule that is passed over: one step
-pub returns-then-is_refused-clause-ran : goal.returns-then-is_refused-clause-ran
-returns-then-is_refused-clause-ran g c =
+-- a rule that is passed over: the names that are looked at, and one step
+pub returns-then-saturating_sub-levels-clause-ran : goal.returns-then-saturating_sub-levels-clause-ran
+returns-then-saturating_sub-levels-clause-ran g c =
     let T = c.args.self.now.caller.tree.now.nodes in
-    let named : HoldsNames T c.args.self.now.node c.levels.result c.args.reads.now =
-    subst (λ k. HoldsNames T c.args.self.now.node k c.args.reads.now) (sym c.levels.ensures)
-    (subst (λ n. HoldsNames T n c.args.names.now.levels c.args.reads.now) c.requires.node c.requires.named) in
     IfSome_then (slice_get c.args.at.now.rules.now c.args.at.now.number)
-    (c.is_refused.ensures c.if-is_refused.true c.args.self.now.caller.tree.now c.args.lets.now c.args.self.now.node c.requires.class)
-    (λ rule refuses.
-    subst (λ after. Ran (matching T c.args.lets.now rule.context c.args.self.now.node) (Ok false) c.args.reads.now c.args.reads.now c.args.steps.now after) (sym c.tick.ensures)
-    (refuses c.args.reads.now c.args.steps.now named))
+    (subst (λ o. IfSome o (λ levels. IfSome (slice_get c.args.at.now.rules.now c.args.at.now.number) (λ rule. Refuses T c.args.lets.now rule.context levels c.args.self.now.node))) c.in-Some.is
+    (IfSome_then c.refused_levels.result c.refused_levels.ensures (λ levels refuses. refuses c.args.self.now.caller.tree.now c.args.lets.now c.args.self.now.node c.requires.class)))
+    (λ rule refuses. ran_moved refl (c.in_ok-read_to.ensures.read ∙ ap (λ m. note_all c.args.reads.now (names_up T m c.in-Some.levels)) c.requires.node) refl c.tick.ensures
+    (refuses c.args.reads.now c.args.steps.now))
+
+pub returns-in_err-read_to-clause-ran : goal.returns-in_err-read_to-clause-ran
+returns-in_err-read_to-clause-ran g c =
+    each_if (λ rule. Ran (matching c.args.self.now.caller.tree.now.nodes c.args.lets.now rule.context c.args.self.now.node) (shown c.from_residual.result)
+    c.args.reads.now c.read_to.new.reads c.args.steps.now c.args.steps.now)
+    (slice_get c.args.at.now.rules.now c.args.at.now.number)
+    (λ rule there. exit_memory _ c.from_residual.ensures.1 (ran_moved refl c.in_err-read_to.ensures.unchanged refl refl (ran_late _ _ _)))
 
 pub matches_with-requires-clause-kept : goal.matches_with-requires-clause-kept
 matches_with-requires-clause-kept g c =
@@ -55,9 +60,9 @@ returns-clause-kept g c =
 
 pub returns-in_err-reach-clause-ran : goal.returns-in_err-reach-clause-ran
 returns-in_err-reach-clause-ran g c =
-    each_if (λ rule. Ran (matching c.args.self.now.caller.tree.now.nodes c.args.lets.now rule.context c.args.self.now.node) (shown c.from_residual.result)
+    each_if (λ rule. Ran (matching c.args.self.now.caller.tree.now.nodes c.args.lets.now rule.context c.args.self.now.node) (shown c.from_residual-in_err-reach.result)
     c.args.reads.now c.args.reads.now c.args.steps.now c.args.steps.now)
-    (slice_get c.args.at.now.rules.now c.args.at.now.number) (λ rule there. exit_memory _ c.from_residual.ensures.1 (ran_late _ _ _))
+    (slice_get c.args.at.now.rules.now c.args.at.now.number) (λ rule there. exit_memory _ c.from_residual-in_err-reach.ensures.1 (ran_late _ _ _))
 
 pub returns-in_err-reach-clause-kept : goal.returns-in_err-reach-clause-kept
 returns-in_err-reach-clause-kept g c = c.in_err-reach.ensures.kept c.args.self.now.caller.tree.now c.args.lets.now c.args.at.now.rules.now c.requires.kept
