@@ -1,6 +1,6 @@
 -- The lets of a rule, and its rules, one after another.
 use Rattle.std.proofs.Common.{◌≡◌, ℕ, zero, suc, ◌+◌, ◌-◌, ◌<◌, ◌≤◌, false, List, [], ◌∷◌, Result, Ok, Err, refl, sym, ap, subst, drop, length, get_or, if◌then◌else◌, add-zero, zero-add, arith}
-use Rattle.std.specs.Prelude.{◌==◌, true, Option, Some, slice_get}
+use Rattle.std.specs.Prelude.{Option, Some, slice_get}
 use Rattle.std.specs.Result.{IsErrAnd}
 use Rattle.std.proofs.lemmas.List.{length-drop}
 use Rattle.doc_tree.specs.Table.{Table}
@@ -59,11 +59,6 @@ module _ (T : Table) (count : ℕ) (L : Lets) (n : ℕ) (rules : List PlanRule) 
 
   pub rules-end : length rules ≤ i → first_rule T count L n i (drop i rules) ≡ done NoRule
   rules-end past = ap (first_rule T count L n i) (no_item rules i past)
-
--- no item is there where their number is 0
-pub none_there : {X : Type 0} (xs : List X) → (length xs == 0) ≡ true → length xs ≤ 0
-none_there [] h = omega arith
-none_there (x ∷ xs) h = absurd (grind arith)
 
 -- an item behind the first of a list
 dropped_there : {X : Type 0} (i : ℕ) (xs : List X) (k : ℕ) (x : X) → slice_get (drop i xs) k ≡ Some x → slice_get xs (i + k) ≡ Some x

@@ -39,8 +39,7 @@ impl Evaluator<'_> {
         in_document_order(self.caller.alloc, self.caller.tree, selected)
     }
 
-    /// The nodes on the axis from a node that pass the test, in the axis's own order. Nothing is looked for where
-    /// the node has no attributes or no kids.
+    /// The nodes on the axis from a node that pass the test, in the axis's own order.
     pub(crate) fn candidates<L: Ledger>(
         &self,
         step: &TypedStep,
@@ -50,10 +49,6 @@ impl Evaluator<'_> {
     ) -> Result<NodeList, EvalError>
         ensures { Ran (candidates_of self.now.caller.tree.now.nodes step.now n) (shown result) reads.old reads.new steps.old steps.new }
     {
-        if is_bare(self.caller.tree, step.axis, n) {
-            self.look_over(step, n, 0, reads, steps)?;
-            return Ok(NodeList::new(self.caller.alloc));
-        }
         let mut list = NodeList::new(self.caller.alloc);
         self.push_candidates(step, n, &mut list, reads, steps)?;
         Ok(list)

@@ -272,7 +272,7 @@ fn read_above(tree: &Tree, n: NodeId, levels: usize, reads: &mut Recorder) -> Re
 }
 
 /// The node that stands so many levels above one.
-fn ancestor_at(tree: &Tree, n: NodeId, levels: usize) -> Option<NodeId>
+pub(crate) fn ancestor_at(tree: &Tree, n: NodeId, levels: usize) -> Option<NodeId>
     ensures { result ≡ ancestor_at tree.now.nodes levels n }
 {
     let mut m = n;

@@ -19,6 +19,7 @@ use crate::chains::PlacedPath;
 use crate::kept::KeptSteps;
 use crate::leading::{holder, is_led_to};
 use crate::matching::Matcher;
+use crate::names::ancestor_at;
 use crate::testing::PlacedStep;
 use doc_tree::{NodeId, Tree};
 use std::slice;
@@ -143,13 +144,7 @@ pub(crate) fn ancestor_over(
 ) -> Option<NodeId>
     ensures { result ≡ ancestor_over tree.now.nodes (map pattern_step_seen path_steps.now) n }
 {
-    match path_steps.split_first() {
-        Some((_, rest)) => {
-            let k = ancestor_over(tree, rest, n)?;
-            tree.parent(k)
-        }
-        None => Some(n),
-    }
+    ancestor_at(tree, n, path_steps.len())
 }
 
 /// Whether a live node is one where the chains of a path to it begin.

@@ -1,20 +1,22 @@
-use Rattle.std.proofs.Common.{◌∙◌, refl, subst, sym, Ok, Err}
+use Rattle.std.proofs.Common.{◌∙◌, ap, refl, subst, sym, Ok, Err}
 use Rattle.std.specs.Prelude.{slice_get}
 use Rattle.xp_outcome.specs.Running.{Ran}
 use Rattle.xp_meaning.specs.Results.{stop_of}
 use Rattle.xslt_match.specs.Matching.{matching}
 use Rattle.xslt_match.specs.Names.{HoldsNames}
+use Rattle.xslt_match.proofs.OnePath.{none_behind}
+use Rattle.sch_units.specs.Firing.{first_rule}
 use Rattle.rule_run.specs.KeptMatches.{AreKept}
 use Rattle.rule_run.proofs.MatchesKept.{if_rule}
 use Rattle.xp_outcome.proofs.Runs.{onto_start, onto_alike, onto_done, onto_end, ran_alike, ran_done, ran_late, ran_moved}
 use Rattle.xp_meaning.proofs.Exits.{exit_memory, exit_same}
 use Rattle.xp_eval.proofs.Runs.{chosen_yes, chosen_no, onto_goes, onto_stops}
-use Rattle.rule_run.proofs.RuleLets.{item_there, none_there, rules-next, rules-end, rules-refused}
+use Rattle.rule_run.proofs.RuleLets.{item_there, rules-next, rules-end, rules-refused}
 use Rattle.rule_run.proofs.validator.Validator.first_rule.Goals as goal
 
 pub returns-then-is_empty-clause-ran : goal.returns-then-is_empty-clause-ran
 returns-then-is_empty-clause-ran g c =
-    ran_alike (rules-end c.args.self.now.caller.tree.now.nodes c.args.self.now.count c.args.lets.now c.args.self.now.node c.args.rules.now 0 (none_there c.args.rules.now (sym c.is_empty.ensures ∙ c.if-is_empty.true))) (ran_done _ _ _)
+    ran_alike (ap (first_rule c.args.self.now.caller.tree.now.nodes c.args.self.now.count c.args.lets.now c.args.self.now.node 0) (none_behind c.args.rules.now (sym c.is_empty.ensures ∙ c.if-is_empty.true))) (ran_done _ _ _)
 
 pub loop-r-init : goal.loop-r-init
 loop-r-init g c = record { rest = onto_start _ _ _; same = refl; node = c.none-names.ensures.node; named = c.none-names.ensures.none c.args.self.now.caller.tree.now.nodes c.args.reads.now; kept = c.in_ok-known.ensures.kept c.args.lets.now c.requires.kept }

@@ -4,7 +4,7 @@ use Rattle.xp_eval.specs.inner.Candidates.{found}
 use Rattle.xp_eval.proofs.evaluator.Evaluator.candidates.Goals as goal
 
 pub returns-in_err-push_candidates : goal.returns-in_err-push_candidates
-returns-in_err-push_candidates g c = exit_memory c.from_residual-in_err-push_candidates.result c.from_residual-in_err-push_candidates.ensures.1 c.in_err-push_candidates.ensures.ran
+returns-in_err-push_candidates g c = exit_memory c.from_residual.result c.from_residual.ensures.1 c.in_err-push_candidates.ensures.ran
 
 pub returns : goal.returns
 returns g c =

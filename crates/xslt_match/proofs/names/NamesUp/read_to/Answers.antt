@@ -1,7 +1,5 @@
-use Rattle.std.proofs.Common.{◌≡◌, ◌∙◌, ◌+◌, arith, ap, add-one, subst, sym}
-use Rattle.xp_outcome.specs.Recorded.{note_all}
-use Rattle.xslt_match.specs.Names.{HoldsNames, ancestor_at}
-use Rattle.xslt_match.specs.Refusing.{names_up, own_name}
+use Rattle.std.proofs.Common.{◌∙◌, arith, subst, sym}
+use Rattle.xslt_match.specs.Names.{HoldsNames}
 use Rattle.xslt_match.proofs.Recording.{holds_fewer, up_covered, up_held, up_more}
 use Rattle.xslt_match.proofs.names.NamesUp.read_to.Goals as goal
 
