@@ -25,7 +25,7 @@ pub fn read_schema(alloc: Global, tree: &Tree) -> Result<RawSchema, SchemaError>
     ensures read { IfOk result (λ raw. raw ≡ raw_schema tree.now.nodes) }
 {
     tree.laws();
-    first_agrees(tree);
+    first_agrees();
     let source = Source { alloc, tree };
     let checker = Checker { source };
     checker.check()?;

@@ -39,7 +39,7 @@ fn write_watch<O: Sink>(
 {
     watch.laws();
     let tree = watch.tree();
-    values_have_types(tree);
+    values_have_types();
     match watch.value(k) {
         Some(given) => write_value(watch.alloc(), tree, number, given, sink),
         None => Ok(()),

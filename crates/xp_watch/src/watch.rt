@@ -158,10 +158,10 @@ impl Watch {
         dirty_are_stale();
         names_are_touched_alike();
         self.tree.laws();
-        cells_read_are_live(&self.tree);
+        cells_read_are_live();
         match apply_to(self.alloc, &mut self.tree, command) {
             Ok(touched) => {
-                cells_read_are_live(&self.tree);
+                self.tree.laws();
                 self.kept.mark(&self.tree, &touched);
                 Ok(())
             }

@@ -4,4 +4,4 @@ use Rattle.sch_abstract.proofs.ToldLemmas.{agrees, single-references}
 use Rattle.sch_abstract.proofs.laws.first_fault_agrees.Goals as goal
 
 pub returns : goal.returns
-returns c = agrees (raw_schema c.args.tree.now.nodes) (single-references c.args.tree.now.nodes)
+returns c = λ T. agrees (raw_schema T) (single-references T)

@@ -7,4 +7,4 @@ use Rattle.sch_read.proofs.schema.read_schema.Goals as goal
 pub schema-requires : goal.schema-requires
 schema-requires c =
     subst (Counts c.args.tree.now.nodes) (sym c.document_element.ensures)
-    (document_counts c.args.tree.now.nodes c.laws.ensures.well_formed c.laws.ensures.ordered c.laws.ensures.ways_up (c.first_agrees.ensures.none_broken c.in_ok-check.ensures))
+    (document_counts c.args.tree.now.nodes c.laws.ensures.well_formed c.laws.ensures.ordered c.laws.ensures.ways_up ((c.first_agrees.ensures c.args.tree.now.nodes c.laws.ensures.well_formed).none_broken c.in_ok-check.ensures))

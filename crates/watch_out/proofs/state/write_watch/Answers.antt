@@ -10,7 +10,7 @@ pub write_value-requires : goal.write_value-requires
 write_value-requires g c =
     let at = expr_at c.args.watch.now.expressions c.args.k c.requires.within in
     subst (λ (tree : Contents). IfOk c.in-Some.given.now (IsProper tree.nodes)) (sym c.tree-tree.ensures)
-    (proper_given c.args.watch.now.tree.nodes (rw c.tree-tree.ensures at c.values_have_types.ensures.proper) c.laws.ensures.well_formed at.0 c.in-Some.given.now (c.in-Some.ensures.watched at.0 at.1))
+    (proper_given c.args.watch.now.tree.nodes (c.values_have_types.ensures.proper c.args.watch.now.tree.nodes c.laws.ensures.well_formed) c.laws.ensures.well_formed at.0 c.in-Some.given.now (c.in-Some.ensures.watched at.0 at.1))
 
 pub returns-in-Some : goal.returns-in-Some
 returns-in-Some g c =

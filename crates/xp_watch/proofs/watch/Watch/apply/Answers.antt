@@ -21,7 +21,8 @@ invariant_of-self c =
       document = c.in-Ok.ensures.document;
       cap = c.in-Ok.ensures.cap ∙ c.self.invariant.cap;
       keeps = edit_holds c.edits_keep.ensures before.tree.nodes c.apply_to.new.tree.nodes touched before.list (held_by before.kept)
-          (held_by c.mark.new.self) c.laws.ensures.well_formed c.in-Ok.ensures.edit c.cells_read_are_live.ensures c.cells_read_are_live-in-Ok.ensures
+          (held_by c.mark.new.self) c.laws.ensures.well_formed c.in-Ok.ensures.edit
+          (c.cells_read_are_live.ensures before.tree.nodes c.laws.ensures.well_formed) (c.cells_read_are_live.ensures c.apply_to.new.tree.nodes c.laws-in-Ok.ensures.well_formed)
           c.mark.ensures.reads marks c.self.invariant.keeps;
     }
 
