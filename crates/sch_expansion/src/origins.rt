@@ -13,10 +13,19 @@ use std::marker::Model;
 /// The patterns of a schema, seen by contracts as their list.
 ///
 /// An abstract one is found by its id in constant time; of two with one id the first counts.
-#[derive(Drop)]
 pub struct Origins<'s> {
     patterns: &'s [RawPattern],
     places: Places,
+}
+
+impl Drop for Origins<'_> {
+    fn drop(self) {
+        let Origins {
+            patterns: _,
+            places,
+        } = self;
+        drop(places);
+    }
 }
 
 impl<'s> Model for Origins<'s> {

@@ -19,9 +19,15 @@ use sch_model::{Assertion, LetDecl, Param, Part, RawPattern, RawRule, Text};
 use std::alloc::{AllocError, Global};
 
 /// The scale that measures: texts as they are, or with the parameters of an instance replaced.
-#[derive(Drop)]
 pub(crate) struct Sizing<'a> {
     filled: Option<FilledLen<'a>>,
+}
+
+impl Drop for Sizing<'_> {
+    fn drop(self) {
+        let Sizing { filled } = self;
+        drop(filled);
+    }
 }
 
 impl<'a> Sizing<'a> {
