@@ -22,7 +22,7 @@ use std::alloc::Global;
 /// nearest declaration of its prefix gives (Namespaces in XML 1.0, section 6), or its first fault. Its pair cap is that of a
 /// new tree.
 ///
-/// Costs time linear in the bytes. Beside the tree it keeps the events of some thousand lines at most.
+/// Costs time linear in the bytes. Beside the tree it keeps the events of some hundred lines at most.
 pub fn load_tree(alloc: Global, bytes: &[u8]) -> Result<Tree, LoadError>
     requires { length bytes.now ≤ MAX_LIVE_TEXT_BYTES }
     ensures good { OnOk result (doc_fault bytes.now ≡ None) }
@@ -88,10 +88,11 @@ fn take_document(loader: &mut Loader, reader: &mut Reader, bytes: &[u8]) -> Resu
     }
 }
 
-/// The least length of a piece that does not end a document, in bytes.
-const PIECE: usize = 65_536;
+/// The least length of a piece that does not end a document, in bytes: so few that its events stay in the processor's cache
+/// until they are taken.
+const PIECE: usize = 4_096;
 
-/// The next piece of a document and what follows it: some thousand lines, which no piece cuts. The events that a piece
+/// The next piece of a document and what follows it: some hundred lines, which no piece cuts. The events that a piece
 /// completes enter the tree before the next one is read.
 fn split_piece(bytes: &[u8]) -> (&[u8], &[u8])
     requires { bytes.now ≢ [] }
